@@ -1,0 +1,6 @@
+-- Texts without NUL.
+use Rattle.std.specs.Prelude.{ℕ, Bool, true, false, ◌==◌, ◌||◌, List, [], ◌∷◌}
+
+abbrev pub has_nul : List ℕ → Bool
+has_nul [] = false
+has_nul (b ∷ bs) = b == 0 || has_nul bs

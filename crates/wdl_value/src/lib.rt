@@ -1,0 +1,43 @@
+//! Types, values, places and jobs of WDL: plain data, which contracts see as texts, numbers and lists.
+#![tactic(auto)]
+
+mod answer;
+mod body;
+mod entry;
+mod env;
+mod error;
+mod fault;
+mod name;
+mod operator;
+mod place;
+mod request;
+mod reserved;
+mod same;
+mod span;
+mod step;
+mod steps;
+mod template;
+mod text;
+mod ty;
+mod value;
+
+pub use answer::Answer;
+pub use body::{Body, Laid, Seen};
+pub use entry::{Entry, Source};
+pub use env::{Bind, Env};
+pub use error::{AnswerFault, NameFault, NoMemory, TextFault};
+pub use fault::{EvalCode, Fault, Why};
+pub use name::{Key, Name, is_identifier};
+pub use operator::{Func, Op};
+pub use place::{Place, Segment, copy_place};
+pub use request::Request;
+pub use reserved::{RESERVED, is_reserved};
+pub use same::{same_place, same_request};
+pub use span::Span;
+pub use sqlite_items::{Boxed, Items};
+pub use step::{Counts, Step};
+pub use steps::Steps;
+pub use template::{Part, Template};
+pub use text::{Text, holds_nul};
+pub use ty::{Member, StructDef, Structs, Ty};
+pub use value::{Field, MapRow, Value};

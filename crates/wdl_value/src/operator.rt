@@ -1,0 +1,58 @@
+/// A binary operator (OpenWDL 1.1, "Expressions"). `AddMaybe` is `+` in a placeholder, where an operand may be
+/// undefined.
+#[derive(Clone, Copy, Debug, PartialEq, Eq)]
+pub enum Op {
+    Mul,
+    Div,
+    Rem,
+    Add,
+    Sub,
+    AddMaybe,
+    Lt,
+    Le,
+    Gt,
+    Ge,
+    Eq,
+    Ne,
+    And,
+    Or,
+}
+
+/// A function of the standard library (OpenWDL 1.1, "Standard Library").
+#[derive(Clone, Copy, Debug, PartialEq, Eq)]
+pub enum Func {
+    Min,
+    Max,
+    Length,
+    Range,
+    Transpose,
+    Cross,
+    Zip,
+    Unzip,
+    Flatten,
+    Prefix,
+    Suffix,
+    Quote,
+    Squote,
+    Sep,
+    AsPairs,
+    AsMap,
+    Keys,
+    CollectByKey,
+    Defined,
+    SelectFirst,
+    SelectAll,
+    Basename,
+    Stdout,
+    Stderr,
+    Glob,
+    ReadString,
+    ReadLines,
+    ReadInt,
+    ReadBoolean,
+    ReadTsv,
+    ReadMap,
+    WriteLines,
+    WriteTsv,
+    WriteMap,
+}

@@ -1,0 +1,17 @@
+use crate::place::Place;
+
+/// An event of a run: a job was taken, or its answer was settled.
+#[derive(Debug, Drop)]
+pub enum Step {
+    Took(Place),
+    Settled(Place),
+}
+
+/// How many jobs were put on the desk, picked by a worker, finished and collected.
+#[derive(Clone, Copy, Debug, PartialEq, Eq)]
+pub struct Counts {
+    pub put: u64,
+    pub picked: u64,
+    pub finished: u64,
+    pub collected: u64,
+}

@@ -1,0 +1,86 @@
+ghost use Rattle.std.specs.Prelude.{◌≡◌, IfOk};
+
+use crate::error::NoMemory;
+use crate::name::Name;
+use crate::text::Text;
+use sqlite_items::{Boxed, Items};
+use std::alloc::Global;
+
+/// A row of a map.
+#[derive(Debug, Drop)]
+pub struct MapRow<V> {
+    pub key: V,
+    pub value: V,
+}
+
+/// A member of a struct's value.
+#[derive(Debug, Drop)]
+pub struct Field<V> {
+    pub name: Name,
+    pub value: V,
+}
+
+/// A value of WDL 1.1. The keys of a `Map` are distinct in every value that fits a type.
+#[derive(Debug, Drop)]
+pub enum Value {
+    Bool(bool),
+    Int(i64),
+    Str(Text),
+    File(Text),
+    List(Items<Value>),
+    Pair(Boxed<Value>, Boxed<Value>),
+    Map(Items<MapRow<Value>>),
+    Struct {
+        name: Name,
+        fields: Items<Field<Value>>,
+    },
+    Absent,
+}
+
+impl Value {
+    pub fn copy(&self, alloc: Global) -> Result<Value, NoMemory>
+        ensures { IfOk result (λ c. c ≡ self.now) }
+    {
+        match self {
+            Value::Bool(b) => Ok(Value::Bool(*b)),
+            Value::Int(n) => Ok(Value::Int(*n)),
+            Value::Str(s) => Ok(Value::Str(s.copy(alloc)?)),
+            Value::File(s) => Ok(Value::File(s.copy(alloc)?)),
+            Value::List(items) => {
+                let mut copies = Items::new(alloc);
+                for item in items.as_slice() {
+                    copies.push(item.copy(alloc)?)?;
+                }
+                Ok(Value::List(copies))
+            }
+            Value::Pair(left, right) => {
+                let left = left.get().copy(alloc)?;
+                let right = right.get().copy(alloc)?;
+                Ok(Value::Pair(Boxed::new(alloc, left)?, Boxed::new(alloc, right)?))
+            }
+            Value::Map(rows) => {
+                let mut copies = Items::new(alloc);
+                for row in rows.as_slice() {
+                    let key = row.key.copy(alloc)?;
+                    let value = row.value.copy(alloc)?;
+                    copies.push(MapRow { key, value })?;
+                }
+                Ok(Value::Map(copies))
+            }
+            Value::Struct { name, fields } => {
+                let name = name.copy(alloc)?;
+                let mut copies = Items::new(alloc);
+                for field in fields.as_slice() {
+                    let name = field.name.copy(alloc)?;
+                    let value = field.value.copy(alloc)?;
+                    copies.push(Field { name, value })?;
+                }
+                Ok(Value::Struct {
+                    name,
+                    fields: copies,
+                })
+            }
+            Value::Absent => Ok(Value::Absent),
+        }
+    }
+}
