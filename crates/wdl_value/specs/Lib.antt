@@ -5,3 +5,13 @@ pub mod Answers
 pub mod Places
 pub mod Same
 pub mod SameType
+pub mod Bare
+pub mod Recur
+pub mod SameValue
+pub mod Size
+pub mod ValueText
+pub mod Keyed
+pub mod Fits
+pub mod Coerces
+pub mod Cast
+pub mod CastOut

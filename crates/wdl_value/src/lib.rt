@@ -2,11 +2,17 @@
 #![tactic(auto)]
 
 mod answer;
+mod bare;
 mod body;
+mod casting;
 mod entry;
 mod env;
+mod equality;
 mod error;
 mod fault;
+mod fitting;
+mod keyed;
+mod measure;
 mod name;
 mod operator;
 mod place;
@@ -20,13 +26,20 @@ mod template;
 mod text;
 mod ty;
 mod value;
+mod value_text;
 
 pub use answer::Answer;
+pub use bare::{bare_type, is_optional};
 pub use body::{Body, Laid, Seen};
+pub use casting::{CastFault, cast};
 pub use entry::{Entry, Source};
 pub use env::{Bind, Env};
+pub use equality::same_value;
 pub use error::{AnswerFault, NameFault, NoMemory, TextFault};
 pub use fault::{EvalCode, Fault, Why};
+pub use fitting::fits;
+pub use keyed::{distinct_keys, has_key};
+pub use measure::size;
 pub use name::{Key, Name, is_identifier};
 pub use operator::{Func, Op};
 pub use place::{Place, Segment, copy_place};
@@ -41,3 +54,4 @@ pub use template::{Part, Template};
 pub use text::{Text, holds_nul};
 pub use ty::{Member, StructDef, Structs, Ty};
 pub use value::{Field, MapRow, Value};
+pub use value_text::text_of;
