@@ -25,6 +25,10 @@ unfoldable pub is_int : ℤ → Bool
 is_int (pos n) = nat_lt n (2 ^ 63)
 is_int (negsuc n) = nat_lt n (2 ^ 63)
 
+abbrev pub int_fits : ℤ → Ty-F Ty → Bool
+int_fits n type.Int = is_int n
+int_fits n t = false
+
 -- which types take a value
 abbrev pub Test : Type 0
 Test = Ty → Bool
@@ -56,7 +60,7 @@ fields_fit_some fs (Some ms) = fields_fit fs ms
 -- by the value's kind, and the type without its question marks
 abbrev pub takes_at : Structs → Value-F Test → Ty-F Ty → Bool
 takes_at structs (layer.Bool b) type.Bool = true
-takes_at structs (layer.Int n) type.Int = is_int n
+takes_at structs (layer.Int n) t = int_fits n t
 takes_at structs (layer.Str s) type.Str = true
 takes_at structs (layer.File s) type.File = true
 takes_at structs (layer.List fs) (type.Array t some) = list_fits fs t some

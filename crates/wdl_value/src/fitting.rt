@@ -3,6 +3,7 @@
 ghost use Rattle.std.specs.Prelude.{◌≡◌};
 ghost use Rattle.std.specs.Option.{option_copied};
 ghost use Rattle.wdl_value.specs.Fits as spec;
+ghost use Rattle.wdl_value.specs.declared.ty.Ty.{out-Ty};
 
 use crate::bare::{bare_type, is_optional};
 use crate::keyed::keyed;
@@ -31,6 +32,13 @@ fn members_of<'a>(structs: &'a [StructDef], name: &Name) -> Option<&'a Items<Mem
     None
 }
 
+/// Every integer of 64 bits is one of the type Int.
+fn takes_int(n: i64, kind: &Ty) -> bool
+    ensures { result ≡ spec.int_fits n (out-Ty kind.now) }
+{
+    matches!(kind, Ty::Int)
+}
+
 /// Whether the value fits the type but for the keys of its maps, which may be repeated.
 #[cycle(takes)]
 fn takes(value: &Value, t: &Ty, structs: &[StructDef]) -> bool
@@ -39,7 +47,7 @@ fn takes(value: &Value, t: &Ty, structs: &[StructDef]) -> bool
     let kind = bare_type(t);
     match value {
         Value::Bool(_) => matches!(kind, Ty::Bool),
-        Value::Int(_) => matches!(kind, Ty::Int),
+        Value::Int(n) => takes_int(*n, kind),
         Value::Str(_) => matches!(kind, Ty::Str),
         Value::File(_) => matches!(kind, Ty::File),
         Value::List(items) => match kind {
