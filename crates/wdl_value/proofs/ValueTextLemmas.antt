@@ -1,10 +1,9 @@
 -- Integers of 64 bits and their texts.
-use Rattle.std.proofs.Common.{◌≡◌, ℕ, ◌<◌, ◌^◌, ◌∷◌, List, Bool, true, false, refl, arith, sym, ap, ◌∙◌, subst, suc, ℤ, pos, negsuc}
-use Rattle.std.specs.Fmt.{decimal, signed_decimal}
+use Rattle.std.proofs.Common.{◌≡◌, true, false, arith, suc, ℤ, pos, negsuc}
+use Rattle.std.specs.Fmt.{signed_decimal}
 use mir.Val.{SFits}
 use mir.Syntax.{w64}
 use Rattle.std.proofs.lemmas.Bool.Decides.{nat_tests}
-use Rattle.std.proofs.lemmas.Fmt.{decimal_injective}
 use Rattle.wdl_value.specs.Plain.{has_nul}
 use Rattle.wdl_value.specs.Fits.{is_int}
 use Rattle.wdl_value.proofs.PlainLemmas.{decimal_is_plain}

@@ -15,3 +15,4 @@ pub mod Fits
 pub mod Coerces
 pub mod Cast
 pub mod CastOut
+pub mod PlaceReading

@@ -1,5 +1,5 @@
 -- The text of a Bool, an Int, a Str or a File.
-use Rattle.std.specs.Prelude.{ℕ, ℤ, Bool, true, false, List, [], if◌then◌else◌, codes}
+use Rattle.std.specs.Prelude.{ℕ, Bool, true, false, List, [], if◌then◌else◌, codes}
 use Rattle.std.specs.Fmt.{signed_decimal}
 use Rattle.wdl_value.specs.declared.value.Value.{Value, Value-F, out-Value}
 use Rattle.wdl_value.specs.declared.value.Value.TheOpen as layer

@@ -33,10 +33,7 @@ pub fn text_of(alloc: Global, v: &Value) -> Result<Text, NoMemory>
         Value::Bool(b) => bool_text(alloc, *b),
         Value::Int(n) => int_text(alloc, *n),
         Value::Str(s) | Value::File(s) => s.copy(alloc),
-        Value::List(_)
-        | Value::Pair(_, _)
-        | Value::Map(_)
-        | Value::Struct { .. }
-        | Value::Absent => unreachable!(),
+        Value::List(_) | Value::Pair(_, _) | Value::Map(_) | Value::Struct { .. } | Value::Absent =>
+            unreachable!(),
     }
 }
