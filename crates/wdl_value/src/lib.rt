@@ -24,6 +24,8 @@ mod span;
 mod step;
 mod steps;
 mod template;
+#[cfg(test)]
+mod tests;
 mod text;
 mod ty;
 mod value;
