@@ -16,3 +16,8 @@ pub mod Coerces
 pub mod Cast
 pub mod CastOut
 pub mod PlaceReading
+pub mod RecurType
+pub mod Join
+pub mod OperatorTypes
+pub mod FunctionTypes
+pub mod Tables

@@ -28,6 +28,7 @@ mod template;
 mod tests;
 mod text;
 mod ty;
+mod typing;
 mod value;
 mod value_text;
 
@@ -57,5 +58,6 @@ pub use steps::Steps;
 pub use template::{Part, Template};
 pub use text::{Text, holds_nul};
 pub use ty::{Member, StructDef, Structs, Ty};
+pub use typing::{FuncTyping, OpTyping};
 pub use value::{Field, MapRow, Value};
 pub use value_text::text_of;
