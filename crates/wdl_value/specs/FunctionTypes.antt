@@ -7,36 +7,16 @@ use Rattle.wdl_value.specs.declared.ty.Ty.TheVariants as ty
 use Rattle.wdl_value.specs.declared.ty.Ty.TheOpen as type
 use Rattle.wdl_value.specs.declared.typing.FuncTyping.{FuncTyping}
 use Rattle.wdl_value.specs.Coerces.{coerces}
-use Rattle.wdl_value.specs.OperatorTypes.{is_scalar, is_empty}
+use Rattle.wdl_value.specs.Kinds.{is_scalar, is_empty}
 
 abbrev pub array : Ty → Ty
 array t = ty.Array t false
 
--- the type of the items, the keys, the values and the parts; Empty where an argument has no type at that place
+-- the type of the items; Empty where an argument has no type at that place
 abbrev pub item_of : Ty → Ty-F Ty → Option Ty
 item_of t (type.Array u some) = Some u
 item_of t type.Empty = Some t
 item_of t x = None
-
-abbrev pub key_of : Ty → Ty-F Ty → Option Ty
-key_of t (type.Map u w) = Some u
-key_of t type.Empty = Some t
-key_of t x = None
-
-abbrev pub value_of : Ty → Ty-F Ty → Option Ty
-value_of t (type.Map u w) = Some w
-value_of t type.Empty = Some t
-value_of t x = None
-
-abbrev pub left_of : Ty → Ty-F Ty → Option Ty
-left_of t (type.Pair u w) = Some u
-left_of t type.Empty = Some t
-left_of t x = None
-
-abbrev pub right_of : Ty → Ty-F Ty → Option Ty
-right_of t (type.Pair u w) = Some w
-right_of t type.Empty = Some t
-right_of t x = None
 
 abbrev pub item_type : Ty → Option Ty
 item_type t = item_of t (out-Ty t)
@@ -73,23 +53,50 @@ with_items t f = option_and_then f (item_type t)
 
 -- Array[Array[X]]
 abbrev pub with_rows : Ty → (Ty → Option FuncTyping) → Option FuncTyping
-with_rows t f = option_and_then (λ u. option_and_then f (item_type u)) (item_type t)
+with_rows t f = option_and_then f (option_and_then item_type (item_type t))
+
+abbrev pub plain_only : Ty → Option Ty
+plain_only t = if is_plain t then Some t else None
 
 -- Array[P]
 abbrev pub with_plain_items : Ty → (Ty → Option FuncTyping) → Option FuncTyping
-with_plain_items t f = option_and_then (λ u. if is_plain u then f u else None) (item_type t)
+with_plain_items t f = option_and_then f (option_and_then plain_only (item_type t))
+
+-- the left and the right part
+abbrev pub parts_at : Ty → Ty-F Ty → Option (Ty × Ty)
+parts_at t (type.Pair u w) = Some (u, w)
+parts_at t type.Empty = Some (t, t)
+parts_at t x = None
+
+abbrev pub part_types : Ty → Option (Ty × Ty)
+part_types t = parts_at t (out-Ty t)
+
+-- the type of the keys and of the values
+abbrev pub entries_at : Ty → Ty-F Ty → Option (Ty × Ty)
+entries_at t (type.Map u w) = Some (u, w)
+entries_at t type.Empty = Some (t, t)
+entries_at t x = None
+
+abbrev pub entry_types : Ty → Option (Ty × Ty)
+entry_types t = entries_at t (out-Ty t)
+
+abbrev pub plain_first : Ty × Ty → Option (Ty × Ty)
+plain_first p = if is_plain p.0 then Some p else None
+
+abbrev pub with_two : (Ty → Ty → Option FuncTyping) → Option (Ty × Ty) → Option FuncTyping
+with_two f = option_and_then (λ (p : Ty × Ty). f p.0 p.1)
 
 -- Array[Pair[X, Y]]
 abbrev pub with_pairs : Ty → (Ty → Ty → Option FuncTyping) → Option FuncTyping
-with_pairs t f = option_and_then (λ p. option_and_then (λ u. option_and_then (f u) (right_of p (out-Ty p))) (left_of p (out-Ty p))) (item_type t)
+with_pairs t f = with_two f (option_and_then part_types (item_type t))
 
 -- Array[Pair[P, Y]]
 abbrev pub with_plain_pairs : Ty → (Ty → Ty → Option FuncTyping) → Option FuncTyping
-with_plain_pairs t f = with_pairs t (λ u w. if is_plain u then f u w else None)
+with_plain_pairs t f = with_two f (option_and_then plain_first (option_and_then part_types (item_type t)))
 
 -- Map[P, Y]
 abbrev pub with_entries : Ty → (Ty → Ty → Option FuncTyping) → Option FuncTyping
-with_entries t f = option_and_then (λ u. if is_plain u then option_and_then (f u) (value_of t (out-Ty t)) else None) (key_of t (out-Ty t))
+with_entries t f = with_two f (option_and_then plain_first (entry_types t))
 
 abbrev pub length_type : Ty → Option FuncTyping
 length_type t = with_items t (λ x. unary (array x) ty.Int)
@@ -124,10 +131,28 @@ select_first_type t = with_items t (λ x. unary (array (ty.Opt (known_type x))) 
 abbrev pub select_all_type : Ty → Option FuncTyping
 select_all_type t = with_items t (λ x. unary (array (ty.Opt (known_type x))) (array (known_type x)))
 
+abbrev pub defined_type : Ty → Option FuncTyping
+defined_type t = unary t ty.Bool
+
+-- the functions of one parameter whose type is given
+abbrev pub simple_type : Func → Ty → Option FuncTyping
+simple_type func.Range t = taking t ty.Int (array ty.Int)
+simple_type func.Basename t = taking t ty.Str ty.Str
+simple_type func.Glob t = taking t ty.Str (array ty.File)
+simple_type func.ReadString t = taking t ty.File ty.Str
+simple_type func.ReadLines t = taking t ty.File (array ty.Str)
+simple_type func.ReadInt t = taking t ty.File ty.Int
+simple_type func.ReadBoolean t = taking t ty.File ty.Bool
+simple_type func.ReadTsv t = taking t ty.File (array (array ty.Str))
+simple_type func.ReadMap t = taking t ty.File (ty.Map ty.Str ty.Str)
+simple_type func.WriteLines t = taking t (array ty.Str) ty.File
+simple_type func.WriteTsv t = taking t (array (array ty.Str)) ty.File
+simple_type func.WriteMap t = taking t (ty.Map ty.Str ty.Str) ty.File
+simple_type f t = None
+
 -- the functions of one parameter
 abbrev pub unary_type : Func → Ty → Option FuncTyping
 unary_type func.Length t = length_type t
-unary_type func.Range t = taking t ty.Int (array ty.Int)
 unary_type func.Transpose t = transpose_type t
 unary_type func.Unzip t = unzip_type t
 unary_type func.Flatten t = flatten_type t
@@ -137,23 +162,12 @@ unary_type func.AsPairs t = as_pairs_type t
 unary_type func.AsMap t = as_map_type t
 unary_type func.Keys t = keys_type t
 unary_type func.CollectByKey t = collect_by_key_type t
-unary_type func.Defined t = unary t ty.Bool
+unary_type func.Defined t = defined_type t
 unary_type func.SelectFirst t = select_first_type t
 unary_type func.SelectAll t = select_all_type t
-unary_type func.Basename t = taking t ty.Str ty.Str
-unary_type func.Glob t = taking t ty.Str (array ty.File)
-unary_type func.ReadString t = taking t ty.File ty.Str
-unary_type func.ReadLines t = taking t ty.File (array ty.Str)
-unary_type func.ReadInt t = taking t ty.File ty.Int
-unary_type func.ReadBoolean t = taking t ty.File ty.Bool
-unary_type func.ReadTsv t = taking t ty.File (array (array ty.Str))
-unary_type func.ReadMap t = taking t ty.File (ty.Map ty.Str ty.Str)
-unary_type func.WriteLines t = taking t (array ty.Str) ty.File
-unary_type func.WriteTsv t = taking t (array (array ty.Str)) ty.File
-unary_type func.WriteMap t = taking t (ty.Map ty.Str ty.Str) ty.File
-unary_type f t = None
+unary_type f t = simple_type f t
 
--- two parameters of given types
+-- two parameters of one given type
 abbrev pub taking_both : Ty → Ty → Ty → Ty → Option FuncTyping
 taking_both t u param result = if coerces t param && coerces u param then binary param param result else None
 

@@ -17,6 +17,7 @@ pub mod Cast
 pub mod CastOut
 pub mod PlaceReading
 pub mod RecurType
+pub mod Kinds
 pub mod Join
 pub mod OperatorTypes
 pub mod FunctionTypes
