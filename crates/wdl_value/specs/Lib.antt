@@ -22,3 +22,4 @@ pub mod Join
 pub mod OperatorTypes
 pub mod FunctionTypes
 pub mod Tables
+pub mod Laws

@@ -1,5 +1,5 @@
 -- The operands and the result of each operator (OpenWDL 1.1, "Expressions").
-use Rattle.std.specs.Prelude.{Bool, true, false, ◌&&◌, ◌||◌, Option, Some, None, option_and_then, if◌then◌else◌}
+use Rattle.std.specs.Prelude.{Bool, ◌&&◌, ◌||◌, Option, Some, None, option_and_then, if◌then◌else◌}
 use Rattle.wdl_value.specs.declared.operator.Op.{Op}
 use Rattle.wdl_value.specs.declared.operator.Op.TheVariants as op
 use Rattle.wdl_value.specs.declared.ty.Ty.{Ty, out-Ty}
