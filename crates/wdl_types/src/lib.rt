@@ -6,6 +6,8 @@ mod function;
 mod joining;
 mod kind;
 mod operator;
+#[cfg(test)]
+mod tests;
 
 pub use coercion::coerces;
 pub use function::function_type;

@@ -61,5 +61,5 @@ pub use template::{Part, Template};
 pub use text::{Text, holds_nul};
 pub use ty::{Member, StructDef, Structs, Ty};
 pub use typing::{FuncTyping, OpTyping};
-pub use value::{Field, MapRow, Value};
+pub use value::{Field, MapRow, Value, copy_values};
 pub use value_text::text_of;
