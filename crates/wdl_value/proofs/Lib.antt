@@ -1,1 +1,9 @@
 mod PlainLemmas
+mod ValueTextLemmas
+pub mod PlaceLemmas
+pub mod ValueLayers
+pub mod SameTypeLemmas
+pub mod SameValueLemmas
+pub mod FitsLemmas
+pub mod CastTakes
+pub mod CastParts

@@ -38,6 +38,7 @@ pub enum Value {
 }
 
 impl Value {
+    #[cycle(copy)]
     pub fn copy(&self, alloc: Global) -> Result<Value, NoMemory>
         ensures { IfOk result (λ c. c ≡ self.now) }
     {
@@ -46,41 +47,57 @@ impl Value {
             Value::Int(n) => Ok(Value::Int(*n)),
             Value::Str(s) => Ok(Value::Str(s.copy(alloc)?)),
             Value::File(s) => Ok(Value::File(s.copy(alloc)?)),
-            Value::List(items) => {
-                let mut copies = Items::new(alloc);
-                for item in items.as_slice() {
-                    copies.push(item.copy(alloc)?)?;
-                }
-                Ok(Value::List(copies))
-            }
+            Value::List(items) => Ok(Value::List(copy_values(alloc, items.as_slice())?)),
             Value::Pair(left, right) => {
                 let left = left.get().copy(alloc)?;
                 let right = right.get().copy(alloc)?;
                 Ok(Value::Pair(Boxed::new(alloc, left)?, Boxed::new(alloc, right)?))
             }
-            Value::Map(rows) => {
-                let mut copies = Items::new(alloc);
-                for row in rows.as_slice() {
-                    let key = row.key.copy(alloc)?;
-                    let value = row.value.copy(alloc)?;
-                    copies.push(MapRow { key, value })?;
-                }
-                Ok(Value::Map(copies))
-            }
+            Value::Map(rows) => Ok(Value::Map(copy_rows(alloc, rows.as_slice())?)),
             Value::Struct { name, fields } => {
                 let name = name.copy(alloc)?;
-                let mut copies = Items::new(alloc);
-                for field in fields.as_slice() {
-                    let name = field.name.copy(alloc)?;
-                    let value = field.value.copy(alloc)?;
-                    copies.push(Field { name, value })?;
-                }
-                Ok(Value::Struct {
-                    name,
-                    fields: copies,
-                })
+                let fields = copy_fields(alloc, fields.as_slice())?;
+                Ok(Value::Struct { name, fields })
             }
             Value::Absent => Ok(Value::Absent),
         }
     }
+}
+
+/// The values in a list of their own.
+#[cycle(copy)]
+pub fn copy_values(alloc: Global, values: &[Value]) -> Result<Items<Value>, NoMemory>
+    ensures { IfOk result (λ c. c ≡ values.now) }
+{
+    let mut copies = Items::new(alloc);
+    for value in values {
+        copies.push(value.copy(alloc)?)?;
+    }
+    Ok(copies)
+}
+
+#[cycle(copy)]
+fn copy_rows(alloc: Global, rows: &[MapRow<Value>]) -> Result<Items<MapRow<Value>>, NoMemory>
+    ensures { IfOk result (λ c. c ≡ rows.now) }
+{
+    let mut copies = Items::new(alloc);
+    for row in rows {
+        let key = row.key.copy(alloc)?;
+        let value = row.value.copy(alloc)?;
+        copies.push(MapRow { key, value })?;
+    }
+    Ok(copies)
+}
+
+#[cycle(copy)]
+fn copy_fields(alloc: Global, fields: &[Field<Value>]) -> Result<Items<Field<Value>>, NoMemory>
+    ensures { IfOk result (λ c. c ≡ fields.now) }
+{
+    let mut copies = Items::new(alloc);
+    for field in fields {
+        let name = field.name.copy(alloc)?;
+        let value = field.value.copy(alloc)?;
+        copies.push(Field { name, value })?;
+    }
+    Ok(copies)
 }
