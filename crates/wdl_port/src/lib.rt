@@ -3,6 +3,7 @@
 #![tactic(auto)]
 
 mod fault;
+mod first;
 mod keeper;
 mod launcher;
 mod map_keeper;
@@ -13,6 +14,7 @@ mod row;
 mod shelf;
 mod sink;
 mod table_launcher;
+mod table_row;
 
 pub use fault::{KeepFault, LaunchFault, ReadFault, WriteFault};
 pub use keeper::Keeper;
@@ -23,4 +25,5 @@ pub use memory_sink::MemorySink;
 pub use no_keeper::NoKeeper;
 pub use shelf::Shelf;
 pub use sink::Sink;
-pub use table_launcher::{TableLauncher, TableRow};
+pub use table_launcher::TableLauncher;
+pub use table_row::TableRow;
