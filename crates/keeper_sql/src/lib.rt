@@ -1,0 +1,11 @@
+//! A keeper of journals in a SQLite file.
+#![tactic(auto)]
+
+mod keeper;
+mod opening;
+mod rows;
+mod trouble;
+#[cfg(test)]
+mod tests;
+
+pub use keeper::SqlKeeper;

@@ -1,0 +1,47 @@
+use run_keeper::RowFault;
+use sqlite::{Error, ErrorCode};
+use std::alloc::{AllocError, AllocFailed};
+use wdl_value::NoMemory;
+
+/// Why a step of the keeper failed: what it counts as a fault, or want of memory.
+#[derive(Clone, Copy, Debug, PartialEq, Eq)]
+pub(crate) enum Trouble {
+    Failed,
+    NoMemory,
+}
+
+impl From<Error> for Trouble {
+    fn from(e: Error) -> Trouble {
+        match e {
+            Error::SqliteFailure(ErrorCode::OutOfMemory) => Trouble::NoMemory,
+            _ => Trouble::Failed,
+        }
+    }
+}
+
+impl From<RowFault> for Trouble {
+    fn from(e: RowFault) -> Trouble {
+        match e {
+            RowFault::NotARow => Trouble::Failed,
+            RowFault::NoMemory => Trouble::NoMemory,
+        }
+    }
+}
+
+impl From<NoMemory> for Trouble {
+    fn from(_e: NoMemory) -> Trouble {
+        Trouble::NoMemory
+    }
+}
+
+impl From<AllocError> for Trouble {
+    fn from(_e: AllocError) -> Trouble {
+        Trouble::NoMemory
+    }
+}
+
+impl<T: Drop> From<AllocFailed<T>> for Trouble {
+    fn from(_e: AllocFailed<T>) -> Trouble {
+        Trouble::NoMemory
+    }
+}

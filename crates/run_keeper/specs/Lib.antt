@@ -1,0 +1,4 @@
+pub mod RowText
+pub mod Entries
+pub mod Members
+pub mod Reads

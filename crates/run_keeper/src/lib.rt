@@ -1,0 +1,17 @@
+//! The rows of a journal: an entry as a line of JSON, and back.
+#![tactic(auto)]
+
+mod error;
+mod list;
+mod member;
+mod migrate;
+mod part;
+mod read;
+mod write;
+#[cfg(test)]
+mod tests;
+
+pub use error::{MigrateFault, RowFault};
+pub use migrate::migrate;
+pub use read::entry_of;
+pub use write::row_text;
