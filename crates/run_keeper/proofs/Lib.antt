@@ -1,3 +1,0 @@
-pub mod NulLemmas
-pub mod TextLemmas
-pub mod RowLemmas

@@ -1,4 +1,0 @@
-pub mod RowText
-pub mod Entries
-pub mod Members
-pub mod Reads
