@@ -5,6 +5,7 @@ use Rattle.wdl_value.specs.declared.answer.Answer.{Answer}
 use Rattle.wdl_value.specs.declared.entry.Entry.{Entry}
 use Rattle.wdl_value.specs.declared.entry.Source.TheVariants as source
 use Rattle.wdl_value.specs.declared.fault.EvalCode.{EvalCode}
+use Rattle.wdl_value.specs.declared.fault.EvalCode.TheVariants as code
 use Rattle.wdl_value.specs.declared.fault.Fault.{Fault}
 use Rattle.wdl_value.specs.declared.step.Step.{Step}
 use Rattle.wdl_value.specs.declared.step.Step.TheVariants as step
@@ -81,7 +82,16 @@ GivesFault r (Ok v) = r ≡ Ok v
 GivesFault r (Err (call_fault.Bad f)) = r ≡ Err f
 GivesFault r (Err call_fault.NoMemory) = ⊤
 
+-- the code of an error, where it is no want of memory, means this
+abbrev pub IfCode : {A : Type 0} → Result A EvalFault → Type 0 → Type 0
+IfCode (Ok v) P = ⊤
+IfCode (Err (eval_fault.Code e)) P = (e ≡ code.TooLarge) × P
+IfCode (Err eval_fault.NoMemory) P = ⊤
+
 -- ---- the one call of a flow: it has a fault, or ran and was answered, or was refused, or memory ended
+
+abbrev pub launched : Request → Answer → Entry
+launched request answer = record { request = request; answer = answer; source = source.Launched }
 
 abbrev pub Concludes : List Wire → Result (List Bind) Fault → End → Type 0
 Concludes ws told (end.Done outputs) = (bs : List Bind) × (told ≡ Ok bs) × (outputs ≡ wired bs ws)
@@ -89,33 +99,34 @@ Concludes ws told (end.Failed f) = told ≡ Err f
 Concludes ws told (end.Launch p) = ⊥
 Concludes ws told end.NoMemory = ⊤
 
-pub record Unasked (site : List ℕ) (t : Task) (c : Call) (ran : Ran) : Type 0 where
-  pub fault : Fault
-  pub asked : asks site t c ≡ Err fault
+pub record IsSettled (gives : Request → Answer → Type 0) (request : Request) (t : Task) (c : Call) (ws : List Wire) (ran : Ran) : Type 0 where
+  pub answer : Answer
+  pub given : gives request answer
+  pub journal : ran.journal ≡ launched request answer ∷ []
+  pub steps : ran.steps ≡ step.Took (place_of c) ∷ step.Settled (place_of c) ∷ []
+  pub concluded : Concludes ws (tells t c answer) ran.end
+
+pub record IsUnlaunched (refuses : Request → Type 0) (request : Request) (c : Call) (ran : Ran) : Type 0 where
+  pub refused : refuses request
+  pub journal : ran.journal ≡ []
+  pub steps : ran.steps ≡ step.Took (place_of c) ∷ []
+  pub end : ran.end ≡ end.Launch request.place
+
+pub record IsOutOfMemory (ran : Ran) : Type 0 where
+  pub journal : ran.journal ≡ []
+  pub end : ran.end ≡ end.NoMemory
+
+pub record IsUnasked (fault : Fault) (ran : Ran) : Type 0 where
   pub journal : ran.journal ≡ []
   pub steps : ran.steps ≡ []
   pub end : ran.end ≡ end.Failed fault
 
-pub record Settled (gives : Request → Answer → Type 0) (site : List ℕ) (t : Task) (c : Call) (ws : List Wire) (ran : Ran) : Type 0 where
-  pub request : Request
-  pub asked : asks site t c ≡ Ok request
-  pub answer : Answer
-  pub given : gives request answer
-  pub journal : ran.journal ≡ record { request = request; answer = answer; source = source.Launched } ∷ []
-  pub steps : ran.steps ≡ step.Took (place_of c) ∷ step.Settled (place_of c) ∷ []
-  pub concluded : Concludes ws (tells t c answer) ran.end
+abbrev pub RunsRequest : (Request → Answer → Type 0) → (Request → Type 0) → Request → Task → Call → List Wire → Ran → Type 0
+RunsRequest gives refuses r t c ws ran = IsSettled gives r t c ws ran ⊎ IsUnlaunched refuses r c ran ⊎ IsOutOfMemory ran
 
-pub record Unlaunched (refuses : Request → Type 0) (site : List ℕ) (t : Task) (c : Call) (ran : Ran) : Type 0 where
-  pub request : Request
-  pub asked : asks site t c ≡ Ok request
-  pub refused : refuses request
-  pub journal : ran.journal ≡ []
-  pub steps : ran.steps ≡ step.Took (place_of c) ∷ []
-  pub end : ran.end ≡ end.Launch (place_of c)
-
-pub record OutOfMemory (ran : Ran) : Type 0 where
-  pub journal : ran.journal ≡ []
-  pub end : ran.end ≡ end.NoMemory
+abbrev pub RunsAsked : (Request → Answer → Type 0) → (Request → Type 0) → Task → Call → List Wire → Ran → Result Request Fault → Type 0
+RunsAsked gives refuses t c ws ran (Ok r) = RunsRequest gives refuses r t c ws ran
+RunsAsked gives refuses t c ws ran (Err f) = IsUnasked f ran
 
 abbrev pub RunsCall : (Request → Answer → Type 0) → (Request → Type 0) → List ℕ → Task → Call → List Wire → Ran → Type 0
-RunsCall gives refuses site t c ws ran = Unasked site t c ran ⊎ Settled gives site t c ws ran ⊎ Unlaunched refuses site t c ran ⊎ OutOfMemory ran
+RunsCall gives refuses site t c ws ran = RunsAsked gives refuses t c ws ran (asks site t c) ⊎ IsOutOfMemory ran

@@ -1,6 +1,7 @@
 //! A small grammar of documents: one task, and a workflow with at most one call of it; and what such a document runs.
 #![tactic(auto)]
 
+mod ask;
 mod document;
 mod fill;
 mod flow;
@@ -9,13 +10,10 @@ mod item;
 mod line;
 mod outputs;
 mod read;
-mod request;
 mod run;
 mod sound;
 mod stop;
 mod tell;
-#[cfg(test)]
-mod tests;
 mod tokens;
 mod words;
 
