@@ -9,13 +9,12 @@ segment_text (Scatter k) = codes "scatter-" ++ decimal k
 segment_text (If k) = codes "if-" ++ decimal k
 segment_text (Index i) = decimal i
 
--- the segments, joined by slashes
-abbrev pub joined : List Segment → List ℕ
-joined [] = []
-joined (s ∷ []) = segment_text s
-joined (s ∷ (t ∷ more)) = segment_text s ++ 47 ∷ joined (t ∷ more)
+-- a slash before each segment
+abbrev pub rest_text : List Segment → List ℕ
+rest_text [] = []
+rest_text (s ∷ more) = 47 ∷ (segment_text s ++ rest_text more)
 
--- the empty place is a point
+-- the segments joined by slashes; the empty place is a point
 abbrev pub place_text : List Segment → List ℕ
 place_text [] = codes "."
-place_text (s ∷ more) = joined (s ∷ more)
+place_text (s ∷ more) = segment_text s ++ rest_text more

@@ -1,5 +1,5 @@
 -- Texts without NUL.
-use Rattle.std.specs.Prelude.{ℕ, Bool, true, false, ◌==◌, ◌||◌, List, [], ◌∷◌}
+use Rattle.std.specs.Prelude.{ℕ, Bool, false, ◌==◌, ◌||◌, List, [], ◌∷◌}
 
 abbrev pub has_nul : List ℕ → Bool
 has_nul [] = false

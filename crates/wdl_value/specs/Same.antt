@@ -1,5 +1,5 @@
 -- Equality of places and requests, as a test.
-use Rattle.std.specs.Prelude.{ℕ, Bool, true, false, ◌&&◌, ◌==◌, List, [], ◌∷◌}
+use Rattle.std.specs.Prelude.{Bool, true, false, ◌&&◌, ◌==◌, List, [], ◌∷◌}
 use Rattle.std.specs.Str.{bytes_eq}
 use Rattle.wdl_value.specs.declared.body.Laid.{Laid}
 use Rattle.wdl_value.specs.declared.place.Segment.{Segment}

@@ -29,7 +29,7 @@ pub use error::{AnswerFault, NameFault, NoMemory, TextFault};
 pub use fault::{EvalCode, Fault, Why};
 pub use name::{Key, Name, is_identifier};
 pub use operator::{Func, Op};
-pub use place::{Place, Segment, copy_place};
+pub use place::{Place, Segment, copy_place, place_text};
 pub use request::Request;
 pub use reserved::{RESERVED, is_reserved};
 pub use same::{same_place, same_request};

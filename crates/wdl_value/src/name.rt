@@ -1,6 +1,7 @@
 ghost use Rattle.std.specs.Prelude.{◌≡◌, true, false, IfOk, OnOk, IsErrOf};
 ghost use Rattle.std.specs.Str.{bytes_eq};
 ghost use Rattle.wdl_value.specs.Names.{is_name, is_word_from, is_word};
+ghost use Rattle.wdl_value.specs.Plain.{has_nul};
 ghost use Rattle.wdl_value.specs.declared.error.NameFault.TheVariants.{NotAName};
 
 use crate::error::{NameFault, NoMemory};
@@ -67,6 +68,7 @@ impl Name {
     pub fn as_str(&self) -> &str
         ensures value { result.now ≡ self.now }
         ensures named { is_name result.now ≡ true }
+        ensures plain { has_nul result.now ≡ false }
     {
         self.text.as_str()
     }

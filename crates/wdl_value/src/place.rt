@@ -1,4 +1,6 @@
-ghost use Rattle.std.specs.Prelude.{◌≡◌, IfOk};
+ghost use Rattle.std.specs.Prelude.{◌≡◌, ◌++◌, ◌∷◌, [], false, decimal, OnOk, IfOk};
+ghost use Rattle.wdl_value.specs.Places as spec;
+ghost use Rattle.wdl_value.specs.Plain.{has_nul};
 
 use crate::error::NoMemory;
 use crate::name::Name;
@@ -40,4 +42,52 @@ pub fn copy_place(alloc: Global, place: &Place) -> Result<Place, NoMemory>
         segments.push(segment.copy(alloc)?)?;
     }
     Ok(segments)
+}
+
+/// Appends a word without NUL, and a number in decimal.
+fn push_number(alloc: Global, text: &mut Text, word: &str, number: u32) -> Result<(), NoMemory>
+    requires { has_nul word.now ≡ false }
+    ensures { OnOk result (text.new ≡ text.old ++ (word.now ++ decimal number)) }
+{
+    text.push_str(word)?;
+    let digits = number.to_string(alloc)?;
+    text.push_str(digits.as_str())?;
+    Ok(())
+}
+
+fn push_segment(alloc: Global, text: &mut Text, segment: &Segment) -> Result<(), NoMemory>
+    ensures { OnOk result (text.new ≡ text.old ++ spec.segment_text segment.now) }
+{
+    match segment {
+        Segment::Call(name) => text.push_str(name.as_str()),
+        Segment::Scatter(k) => push_number(alloc, text, "scatter-", *k),
+        Segment::If(k) => push_number(alloc, text, "if-", *k),
+        Segment::Index(i) => push_number(alloc, text, "", *i),
+    }
+}
+
+/// The text of a place: its segments joined by `/`, as `scatter-0/2/say`; the empty place is `.`.
+pub fn place_text(alloc: Global, place: &Place) -> Result<Text, NoMemory>
+    ensures { IfOk result (λ t. t ≡ spec.place_text place.now) }
+{
+    let mut text = Text::empty(alloc);
+    match place.as_slice() {
+        [] => text.push_ascii(b'.')?,
+        [first, rest @ ..] => {
+            push_segment(alloc, &mut text, first)?;
+            push_rest(alloc, &mut text, rest)?;
+        }
+    }
+    Ok(text)
+}
+
+/// Appends each segment behind a slash.
+fn push_rest(alloc: Global, text: &mut Text, rest: &[Segment]) -> Result<(), NoMemory>
+    ensures { OnOk result (text.new ≡ text.old ++ spec.rest_text rest.now) }
+{
+    for segment in rest {
+        text.push_ascii(b'/')?;
+        push_segment(alloc, text, segment)?;
+    }
+    Ok(())
 }
