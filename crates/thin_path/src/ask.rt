@@ -1,5 +1,5 @@
 //! What a call asks for.
-ghost use Rattle.std.specs.Prelude.{◌≡◌, ◌≤◌, ◌+◌, ◌++◌, length, map, IfOk};
+ghost use Rattle.std.specs.Prelude.{◌≡◌, ◌≤◌, ◌+◌, ◌++◌, ◌∷◌, length, IfOk};
 ghost use Rattle.thin_path.specs.Flow as spec;
 ghost use Rattle.thin_path.specs.Runs.{GivesFault};
 

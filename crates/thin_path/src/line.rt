@@ -1,6 +1,6 @@
 #![tactic(auto, using(std::proofs::lemmas::Grind::common_steps), unfolding(crate::specs::Reading::then_, crate::specs::Reading::on, crate::specs::Reading::chosen, crate::specs::Reading::hole, crate::specs::Reading::line, crate::specs::Reading::opening, crate::specs::Reading::closing, crate::specs::Reading::command))]
 
-ghost use Rattle.std.specs.Prelude.{◌≡◌, IfOk};
+ghost use Rattle.std.specs.Prelude.{◌≡◌, length, IfOk};
 ghost use Rattle.thin_path.specs.Reading as spec;
 ghost use Rattle.thin_path.specs.Line.{added, IsPlain};
 ghost use Rattle.thin_path.specs.Results.{Reads, Eats};
@@ -63,7 +63,7 @@ fn hole(alloc: Global, tokens: &mut Tokens<'_>) -> Result<Piece, Stop>
     Ok(Piece::Hole(name))
 }
 
-fn piece(alloc: Global, tokens: &mut Tokens<'_>) -> Result<Piece, Stop>
+fn next_piece(alloc: Global, tokens: &mut Tokens<'_>) -> Result<Piece, Stop>
     ensures value { Reads (spec.piece tokens.old) result tokens.new }
     ensures plain { IfOk result IsPlain }
 {
@@ -111,7 +111,7 @@ fn pieces(alloc: Global, tokens: &mut Tokens<'_>) -> Result<Command, Stop>
         if tokens.tries_byte(b'\n') {
             return Ok(command);
         }
-        let piece = piece(alloc, tokens)?;
+        let piece = next_piece(alloc, tokens)?;
         command = added(alloc, command, piece)?;
     }
     Err(Stop::NotBuilt)

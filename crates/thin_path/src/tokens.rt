@@ -1,4 +1,4 @@
-ghost use Rattle.std.specs.Prelude.{◌≡◌, ◌≤◌, true, false, IfOk, OnOk, IsErrOf};
+ghost use Rattle.std.specs.Prelude.{◌≡◌, ◌≤◌, length, true, false, IfOk, OnOk, IsErrOf};
 ghost use Rattle.std.specs.List.{prefix_len};
 ghost use Rattle.wdl_value.specs.Names.{is_name};
 ghost use Rattle.thin_path.specs.Scan as spec;
