@@ -30,6 +30,14 @@ impl From<AllocError> for ReadFault {
     }
 }
 
+impl<T: Drop> From<AllocFailed<T>> for ReadFault {
+    ghost from_gives = { λ _ e. e ≡ ReadNoMemory };
+
+    fn from(_e: AllocFailed<T>) -> ReadFault {
+        ReadFault::NoMemory
+    }
+}
+
 /// A write failed: the sink counted a fault, and nothing was appended.
 #[derive(Clone, Copy, Debug, PartialEq, Eq)]
 pub struct WriteFault;
@@ -54,6 +62,14 @@ impl From<AllocError> for LaunchFault {
     ghost from_gives = { λ _ e. e ≡ LaunchNoMemory };
 
     fn from(_e: AllocError) -> LaunchFault {
+        LaunchFault::NoMemory
+    }
+}
+
+impl<T: Drop> From<AllocFailed<T>> for LaunchFault {
+    ghost from_gives = { λ _ e. e ≡ LaunchNoMemory };
+
+    fn from(_e: AllocFailed<T>) -> LaunchFault {
         LaunchFault::NoMemory
     }
 }

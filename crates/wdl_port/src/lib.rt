@@ -3,6 +3,7 @@
 #![tactic(auto)]
 
 mod fault;
+mod first;
 mod keeper;
 mod launcher;
 mod map_keeper;
@@ -13,6 +14,9 @@ mod row;
 mod shelf;
 mod sink;
 mod table_launcher;
+mod table_row;
+#[cfg(test)]
+mod tests;
 
 pub use fault::{KeepFault, LaunchFault, ReadFault, WriteFault};
 pub use keeper::Keeper;
@@ -21,6 +25,8 @@ pub use map_keeper::MapKeeper;
 pub use memory_shelf::{MemoryShelf, PathFile, front, read_limit};
 pub use memory_sink::MemorySink;
 pub use no_keeper::NoKeeper;
+pub use row::rises;
 pub use shelf::Shelf;
 pub use sink::Sink;
-pub use table_launcher::{TableLauncher, TableRow};
+pub use table_launcher::TableLauncher;
+pub use table_row::TableRow;

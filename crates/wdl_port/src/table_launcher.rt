@@ -1,39 +1,43 @@
-ghost use Rattle.std.specs.Prelude.{◌≡◌, Some, IfOk};
-ghost use Rattle.std.specs.Option.{option_copied};
+ghost use Rattle.std.specs.Prelude.{◌≡◌, ℕ, List, Some, IfOk};
+ghost use Rattle.std.specs.BTreeMap.{get_by_text};
+ghost use Rattle.std.proofs.Props.{props};
 ghost use Rattle.wdl_port.specs.Table as spec;
 
 use crate::fault::LaunchFault;
+use crate::first::{answer_of, index_of};
 use crate::launcher::Launcher;
+use crate::table_row::TableRow;
 use sqlite_items::Items;
 use std::alloc::Global;
+use std::collections::BTreeMap;
 use wdl_value::{Answer, NoMemory, Place, Request, Segment, same_place};
 
-/// The answer for a place and attempt.
-#[derive(Debug, Drop)]
-pub struct TableRow {
-    pub place: Place,
-    pub attempt: u32,
-    pub answer: Answer,
-}
-
 /// Answers in a table: the first row of a place and attempt counts. It refuses exactly the listed places and those
-/// without a row.
+/// without a row. A launch goes over the listed places, and looks its row up.
 #[derive(Debug, Drop)]
 pub struct TableLauncher {
     pub rows: Items<TableRow>,
     pub refused: Items<Place>,
+    first: BTreeMap<String, usize>,
+    ghost index: { (text : List ℕ) → get_by_text first text ≡ spec.first_at 0 rows text } by { Prim.hlevel props },
 }
 
 impl TableLauncher {
+    /// The launcher of these rows, which refuses these places.
     pub fn new(
-        _alloc: Global,
+        alloc: Global,
         rows: Items<TableRow>,
         refused: Items<Place>,
     ) -> Result<TableLauncher, NoMemory>
         ensures rows { IfOk result (λ t. t.rows ≡ rows) }
         ensures refused { IfOk result (λ t. t.refused ≡ refused) }
     {
-        Ok(TableLauncher { rows, refused })
+        let first = index_of(alloc, rows.as_slice())?;
+        Ok(TableLauncher {
+            rows,
+            refused,
+            first,
+        })
     }
 }
 
@@ -48,17 +52,6 @@ fn is_refused(place: &[Segment], places: &[Place]) -> bool
     false
 }
 
-fn row_of<'a>(place: &[Segment], attempt: u32, rows: &'a [TableRow]) -> Option<&'a Answer>
-    ensures { option_copied result ≡ spec.answer_of rows.now place.now attempt }
-{
-    for row in rows {
-        if same_place(row.place.as_slice(), place) && row.attempt == attempt {
-            return Some(&row.answer);
-        }
-    }
-    None
-}
-
 impl Launcher for TableLauncher {
     ghost gives = { λ s r a. spec.answer_of s.rows r.place r.attempt ≡ Some a };
 
@@ -68,11 +61,8 @@ impl Launcher for TableLauncher {
         if is_refused(request.place.as_slice(), self.refused.as_slice()) {
             return Err(LaunchFault::Refused);
         }
-        match row_of(
-            request.place.as_slice(),
-            request.attempt,
-            self.rows.as_slice(),
-        ) {
+        let rows = self.rows.as_slice();
+        match answer_of(alloc, &request.place, request.attempt, rows, &self.first)? {
             Some(answer) => Ok(answer.copy(alloc)?),
             None => Err(LaunchFault::Refused),
         }

@@ -1,1 +1,3 @@
 mod PlainLemmas
+mod ValueTextLemmas
+pub mod PlaceLemmas
