@@ -14,6 +14,8 @@ mod run;
 mod sound;
 mod stop;
 mod tell;
+#[cfg(test)]
+mod tests;
 mod tokens;
 mod words;
 
