@@ -1,1 +1,1 @@
-mod PlainLemmas
+pub mod PlainLemmas
