@@ -17,6 +17,8 @@ mod span;
 mod step;
 mod steps;
 mod template;
+#[cfg(test)]
+mod tests;
 mod text;
 mod ty;
 mod value;

@@ -1,0 +1,13 @@
+//! The launcher of real commands: each job runs as a child program in a directory of its own.
+#![tactic(auto)]
+
+mod child;
+mod collect;
+mod directory;
+mod listing;
+mod shell;
+#[cfg(test)]
+mod tests;
+mod trouble;
+
+pub use shell::ShellLauncher;

@@ -1,0 +1,56 @@
+use std::alloc::{AllocError, AllocFailed};
+use std::io::{Error, ErrorKind};
+use wdl_port::LaunchFault;
+use wdl_value::{NoMemory, TextFault};
+
+/// Why a step of a launch failed.
+pub(crate) enum Trouble {
+    Refused,
+    NoMemory,
+}
+
+impl From<Error> for Trouble {
+    fn from(e: Error) -> Trouble {
+        if e.kind() == ErrorKind::OutOfMemory {
+            Trouble::NoMemory
+        } else {
+            Trouble::Refused
+        }
+    }
+}
+
+impl From<TextFault> for Trouble {
+    fn from(e: TextFault) -> Trouble {
+        match e {
+            TextFault::Nul => Trouble::Refused,
+            TextFault::NoMemory => Trouble::NoMemory,
+        }
+    }
+}
+
+impl From<NoMemory> for Trouble {
+    fn from(_e: NoMemory) -> Trouble {
+        Trouble::NoMemory
+    }
+}
+
+impl From<AllocError> for Trouble {
+    fn from(_e: AllocError) -> Trouble {
+        Trouble::NoMemory
+    }
+}
+
+impl<T: Drop> From<AllocFailed<T>> for Trouble {
+    fn from(_e: AllocFailed<T>) -> Trouble {
+        Trouble::NoMemory
+    }
+}
+
+impl From<Trouble> for LaunchFault {
+    fn from(e: Trouble) -> LaunchFault {
+        match e {
+            Trouble::Refused => LaunchFault::Refused,
+            Trouble::NoMemory => LaunchFault::NoMemory,
+        }
+    }
+}

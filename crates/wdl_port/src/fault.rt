@@ -1,0 +1,107 @@
+ghost use Rattle.std.specs.Prelude.{◌≡◌};
+ghost use Rattle.wdl_port.specs.declared.fault.ReadFault.TheVariants.{NoMemory as ReadNoMemory};
+ghost use Rattle.wdl_port.specs.declared.fault.LaunchFault.TheVariants.{NoMemory as LaunchNoMemory};
+ghost use Rattle.wdl_port.specs.declared.fault.KeepFault.TheVariants.{NoMemory as KeepNoMemory};
+
+use std::alloc::{AllocError, AllocFailed};
+use wdl_value::NoMemory;
+
+/// Why a shelf gave no file.
+#[derive(Clone, Copy, Debug, PartialEq, Eq)]
+pub enum ReadFault {
+    /// The file is not there or could not be read, and the shelf counted a fault.
+    Failed,
+    NoMemory,
+}
+
+impl From<NoMemory> for ReadFault {
+    ghost from_gives = { λ _ e. e ≡ ReadNoMemory };
+
+    fn from(_e: NoMemory) -> ReadFault {
+        ReadFault::NoMemory
+    }
+}
+
+impl From<AllocError> for ReadFault {
+    ghost from_gives = { λ _ e. e ≡ ReadNoMemory };
+
+    fn from(_e: AllocError) -> ReadFault {
+        ReadFault::NoMemory
+    }
+}
+
+impl<T: Drop> From<AllocFailed<T>> for ReadFault {
+    ghost from_gives = { λ _ e. e ≡ ReadNoMemory };
+
+    fn from(_e: AllocFailed<T>) -> ReadFault {
+        ReadFault::NoMemory
+    }
+}
+
+/// A write failed: the sink counted a fault, and nothing was appended.
+#[derive(Clone, Copy, Debug, PartialEq, Eq)]
+pub struct WriteFault;
+
+/// Why a launcher gave no answer.
+#[derive(Clone, Copy, Debug, PartialEq, Eq)]
+pub enum LaunchFault {
+    /// The launcher refuses the request.
+    Refused,
+    NoMemory,
+}
+
+impl From<NoMemory> for LaunchFault {
+    ghost from_gives = { λ _ e. e ≡ LaunchNoMemory };
+
+    fn from(_e: NoMemory) -> LaunchFault {
+        LaunchFault::NoMemory
+    }
+}
+
+impl From<AllocError> for LaunchFault {
+    ghost from_gives = { λ _ e. e ≡ LaunchNoMemory };
+
+    fn from(_e: AllocError) -> LaunchFault {
+        LaunchFault::NoMemory
+    }
+}
+
+impl<T: Drop> From<AllocFailed<T>> for LaunchFault {
+    ghost from_gives = { λ _ e. e ≡ LaunchNoMemory };
+
+    fn from(_e: AllocFailed<T>) -> LaunchFault {
+        LaunchFault::NoMemory
+    }
+}
+
+/// Why a call of a keeper failed.
+#[derive(Clone, Copy, Debug, PartialEq, Eq)]
+pub enum KeepFault {
+    /// The keeper counted a fault.
+    Failed,
+    NoMemory,
+}
+
+impl From<NoMemory> for KeepFault {
+    ghost from_gives = { λ _ e. e ≡ KeepNoMemory };
+
+    fn from(_e: NoMemory) -> KeepFault {
+        KeepFault::NoMemory
+    }
+}
+
+impl From<AllocError> for KeepFault {
+    ghost from_gives = { λ _ e. e ≡ KeepNoMemory };
+
+    fn from(_e: AllocError) -> KeepFault {
+        KeepFault::NoMemory
+    }
+}
+
+impl<T: Drop> From<AllocFailed<T>> for KeepFault {
+    ghost from_gives = { λ _ e. e ≡ KeepNoMemory };
+
+    fn from(_e: AllocFailed<T>) -> KeepFault {
+        KeepFault::NoMemory
+    }
+}

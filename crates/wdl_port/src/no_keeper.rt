@@ -1,0 +1,51 @@
+ghost use Rattle.std.specs.Prelude.{◌≡◌, [], Some, None};
+
+use crate::fault::KeepFault;
+use crate::keeper::Keeper;
+use sqlite_items::Items;
+use std::alloc::Global;
+use wdl_value::{Entry, Text};
+
+/// A keeper without rows. It counts a fault at each call.
+#[derive(Debug, Drop)]
+pub struct NoKeeper {
+    pub path: Option<Text>,
+    pub faults: u64,
+}
+
+impl NoKeeper {
+    /// A keeper that was not started. It takes no memory.
+    pub fn new() -> NoKeeper
+        ensures path { result.path ≡ None }
+        ensures faults { result.faults ≡ 0 }
+    {
+        NoKeeper {
+            path: None,
+            faults: 0,
+        }
+    }
+}
+
+impl Keeper for NoKeeper {
+    ghost kept = { λ s. Some [] };
+
+    ghost path = { λ s. s.path };
+
+    ghost faults = { λ s. s.faults };
+
+    fn start(&mut self, alloc: Global, at: &str) -> Result<(), KeepFault> {
+        self.path = Some(Text::from_plain(alloc, at)?);
+        self.faults = self.faults.saturating_add(1);
+        Err(KeepFault::Failed)
+    }
+
+    fn rows(&mut self, _alloc: Global) -> Result<Items<Entry>, KeepFault> {
+        self.faults = self.faults.saturating_add(1);
+        Err(KeepFault::Failed)
+    }
+
+    fn put(&mut self, _alloc: Global, _entry: &Entry) -> Result<(), KeepFault> {
+        self.faults = self.faults.saturating_add(1);
+        Err(KeepFault::Failed)
+    }
+}

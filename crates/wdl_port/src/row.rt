@@ -1,0 +1,82 @@
+ghost use Rattle.std.specs.Prelude.{◌≡◌, IfOk, OnOk, OnErr};
+ghost use Rattle.std.specs.Cmp.Lexicographic.{slice_cmp};
+ghost use Rattle.std.specs.Ordering.{nat_cmp, ordering_then};
+ghost use Rattle.wdl_value.specs.Places.{place_text as spec_text};
+ghost use Rattle.wdl_port.specs.Rows.{kept_row, put_row as spec_put};
+ghost use Rattle.wdl_port.specs.Spots.{IsSpot};
+
+use sqlite_items::Items;
+use std::alloc::Global;
+use std::cmp::Ordering;
+use wdl_value::{Entry, NoMemory, Request, Source, Text, place_text};
+
+/// Where a row belongs in rows that rise: in the place of the row of its place and attempt, or before a row.
+enum Spot {
+    At(usize),
+    Before(usize),
+}
+
+/// The row of an entry.
+pub(crate) fn row_of(alloc: Global, entry: &Entry) -> Result<Entry, NoMemory>
+    ensures { IfOk result (λ row. row ≡ kept_row entry.now) }
+{
+    Ok(Entry {
+        request: entry.request.copy(alloc)?,
+        answer: entry.answer.copy(alloc)?,
+        source: Source::Kept,
+    })
+}
+
+pub(crate) fn copy_rows(alloc: Global, rows: &[Entry]) -> Result<Items<Entry>, NoMemory>
+    ensures { IfOk result (λ all. all ≡ rows.now) }
+{
+    let mut all = Items::new(alloc);
+    for row in rows {
+        all.push(row.copy(alloc)?)?;
+    }
+    Ok(all)
+}
+
+fn order_of(
+    alloc: Global,
+    place: &Text,
+    attempt: u32,
+    other: &Request,
+) -> Result<Ordering, NoMemory>
+    ensures { IfOk result (λ order. order ≡ ordering_then (slice_cmp nat_cmp place.now (spec_text other.now.place)) (nat_cmp attempt other.now.attempt)) }
+{
+    let text = place_text(alloc, &other.place)?;
+    Ok(
+        place
+            .as_str()
+            .cmp(text.as_str())
+            .then(attempt.cmp(&other.attempt)),
+    )
+}
+
+/// Where the row belongs. It goes over the rows once.
+fn spot_of(alloc: Global, row: &Entry, rows: &[Entry]) -> Result<Spot, NoMemory>
+    ensures { IfOk result (IsSpot row.now rows.now) }
+{
+    let place = place_text(alloc, &row.request.place)?;
+    for i in 0..rows.len() {
+        match order_of(alloc, &place, row.request.attempt, &rows[i].request)? {
+            Ordering::Less => return Ok(Spot::Before(i)),
+            Ordering::Equal => return Ok(Spot::At(i)),
+            Ordering::Greater => {}
+        }
+    }
+    Ok(Spot::Before(rows.len()))
+}
+
+/// Puts a row among rows that rise. It goes over them once.
+pub(crate) fn put_row(alloc: Global, row: Entry, rows: &mut Vec<Entry>) -> Result<(), NoMemory>
+    ensures ok { OnOk result (rows.new.items ≡ spec_put row rows.old.items) }
+    ensures err { OnErr result (rows.new.items ≡ rows.old.items) }
+{
+    match spot_of(alloc, &row, rows.as_slice())? {
+        Spot::At(at) => rows[at] = row,
+        Spot::Before(at) => rows.insert(at, row)?,
+    }
+    Ok(())
+}
