@@ -1,0 +1,210 @@
+//! A run of a document.
+ghost use Rattle.std.specs.Prelude.{◌≡◌, ◌≤◌, ◌<◌, ◌+◌, length, ◌++◌, ◌∷◌, [], IfOk, vec_len, vec_capacity};
+ghost use Rattle.thin_path.specs.Flow as spec;
+ghost use Rattle.thin_path.specs.Runs as runs;
+ghost use Rattle.wdl_value.specs.declared.step.Step.TheVariants.{Took, Settled};
+
+use crate::ask::asks;
+use crate::document::{Call, Document, Task, Wire};
+use crate::fill::value_of;
+use crate::run::{Bind, CallFault, End, Ran};
+use crate::tell::{place_of, tells};
+use sqlite_items::Items;
+use std::alloc::{Global};
+use std::sync::ledger::Ledger;
+use wdl_port::{LaunchFault, Launcher};
+use wdl_value::{Answer, Entry, NoMemory, Request, Source, Step, Steps, Text};
+
+fn wired<S: Ledger>(
+    alloc: Global,
+    binds: &[Bind],
+    wires: &[Wire],
+    steps: &mut Steps<S>,
+) -> Result<Items<Bind>, NoMemory>
+    ensures value { IfOk result (λ bs. bs ≡ spec.wired binds.now wires.now) }
+    ensures cost { steps.new ≤ steps.old + length wires.now }
+{
+    let mut all = Items::new(alloc);
+    for wire in wires {
+        steps.tick();
+        all.push(Bind {
+            name: wire.name.copy(alloc)?,
+            value: Text::from_plain(alloc, value_of(&wire.output, binds))?,
+        })?;
+    }
+    Ok(all)
+}
+
+fn conclude<S: Ledger>(
+    alloc: Global,
+    task: &Task,
+    call: &Call,
+    wires: &[Wire],
+    answer: &Answer,
+    steps: &mut Steps<S>,
+) -> End
+    ensures value { runs.Concludes wires.now (spec.tells task.now call.now answer.now) result }
+    ensures cost { steps.new ≤ steps.old + length task.now.outputs + length wires.now }
+{
+    match tells(alloc, task, call, answer, steps) {
+        Ok(binds) => match wired(alloc, binds.as_slice(), wires, steps) {
+            Ok(outputs) => End::Done(outputs),
+            Err(_) => End::NoMemory,
+        },
+        Err(CallFault::Bad(fault)) => End::Failed(fault),
+        Err(CallFault::NoMemory) => End::NoMemory,
+    }
+}
+
+/// A run that took no job.
+fn idle(alloc: Global, end: End) -> Ran
+    ensures journal { result.journal ≡ [] }
+    ensures steps { result.steps ≡ [] }
+    ensures end { result.end ≡ end }
+{
+    Ran {
+        journal: Items::new(alloc),
+        steps: Items::new(alloc),
+        end,
+    }
+}
+
+/// What a job needs once it was launched, so that its answer is never lost: the room for its entry, and the steps of
+/// both ends.
+#[derive(Drop)]
+struct Room {
+    journal: Vec<Entry>,
+    taken: Items<Step>,
+    settled: Items<Step>,
+}
+
+fn took(alloc: Global, call: &Call) -> Result<Items<Step>, NoMemory>
+    ensures { IfOk result (λ s. s ≡ Took (spec.place_of call.now) ∷ []) }
+{
+    let mut steps = Items::new(alloc);
+    steps.push(Step::Took(place_of(alloc, call)?))?;
+    Ok(steps)
+}
+
+fn room_of(alloc: Global, call: &Call) -> Result<Room, NoMemory>
+    ensures journal { IfOk result (λ r. r.journal.items ≡ []) }
+    ensures room { IfOk result (λ r. vec_len r.journal < vec_capacity r.journal) }
+    ensures taken { IfOk result (λ r. r.taken ≡ Took (spec.place_of call.now) ∷ []) }
+    ensures settled { IfOk result (λ r. r.settled ≡ Took (spec.place_of call.now) ∷ Settled (spec.place_of call.now) ∷ []) }
+{
+    let mut settled = took(alloc, call)?;
+    settled.push(Step::Settled(place_of(alloc, call)?))?;
+    Ok(Room {
+        journal: Vec::with_capacity(alloc, 1)?,
+        taken: took(alloc, call)?,
+        settled,
+    })
+}
+
+/// The journal of one entry, for which there is room.
+fn journal_of(mut journal: Vec<Entry>, entry: Entry) -> Items<Entry>
+    requires empty { journal.items ≡ [] }
+    requires room { vec_len journal < vec_capacity journal }
+    ensures { result ≡ entry ∷ [] }
+{
+    match journal.push(entry) {
+        Ok(()) => Items::from_vec(journal),
+        Err(_) => unreachable!(),
+    }
+}
+
+fn launched(request: Request, answer: Answer) -> Entry
+    ensures { result ≡ runs.launched request answer }
+{
+    Entry {
+        request,
+        answer,
+        source: Source::Launched,
+    }
+}
+
+/// Launches the job of a call and settles its answer.
+fn run_request<L: Launcher, S: Ledger>(
+    alloc: Global,
+    task: &Task,
+    call: &Call,
+    wires: &[Wire],
+    request: Request,
+    launcher: &L,
+    steps: &mut Steps<S>,
+) -> Ran
+    ensures value { runs.RunsRequest (L.gives launcher.now) (L.refuses launcher.now) request task.now call.now wires.now result }
+    ensures cost { steps.new ≤ steps.old + length task.now.outputs + length wires.now }
+{
+    let Ok(room) = room_of(alloc, call) else {
+        return idle(alloc, End::NoMemory);
+    };
+    let Room {
+        journal,
+        taken,
+        settled,
+    } = room;
+    match launcher.launch(alloc, &request) {
+        Ok(answer) => {
+            let end = conclude(alloc, task, call, wires, &answer, steps);
+            Ran {
+                journal: journal_of(journal, launched(request, answer)),
+                steps: settled,
+                end,
+            }
+        }
+        Err(LaunchFault::Refused) => Ran {
+            journal: Items::new(alloc),
+            steps: taken,
+            end: End::Launch(request.place),
+        },
+        Err(LaunchFault::NoMemory) => Ran {
+            journal: Items::new(alloc),
+            steps: taken,
+            end: End::NoMemory,
+        },
+    }
+}
+
+fn run_call<L: Launcher, S: Ledger>(
+    alloc: Global,
+    site: &Text,
+    task: &Task,
+    call: &Call,
+    wires: &[Wire],
+    launcher: &L,
+    steps: &mut Steps<S>,
+) -> Ran
+    ensures value { runs.RunsCall (L.gives launcher.now) (L.refuses launcher.now) site.now task.now call.now wires.now result }
+    ensures cost { steps.new ≤ steps.old + spec.call_cost task.now call.now wires.now }
+{
+    match asks(alloc, site, task, call, steps) {
+        Ok(request) => run_request(alloc, task, call, wires, request, launcher, steps),
+        Err(CallFault::Bad(fault)) => idle(alloc, End::Failed(fault)),
+        Err(CallFault::NoMemory) => idle(alloc, End::NoMemory),
+    }
+}
+
+/// Runs the flow of a document below the directory `site`: launches its job and settles the answer.
+///
+/// The end is that of the flow over the journal, whose entries are answers that the launcher gives for jobs of the
+/// flow over the entries before. Each expression is evaluated at most once, which `steps` counts.
+pub fn run_flow<L: Launcher, S: Ledger>(
+    alloc: Global,
+    document: &Document,
+    site: &Text,
+    launcher: &L,
+    steps: &mut Steps<S>,
+) -> Ran
+    ensures value { runs.Runs (L.gives launcher.now) (L.refuses launcher.now) site.now document.now result }
+    ensures cost { steps.new ≤ steps.old + spec.cost document.now }
+{
+    let wires = document.flow.wires.as_slice();
+    match (&document.task, &document.flow.call) {
+        (Some(task), Some(call)) => run_call(alloc, site, task, call, wires, launcher, steps),
+        _ => match wired(alloc, &[], wires, steps) {
+            Ok(outputs) => idle(alloc, End::Done(outputs)),
+            Err(_) => idle(alloc, End::NoMemory),
+        },
+    }
+}
