@@ -7,3 +7,6 @@ mod status;
 
 pub use line::{line_of, no_memory_line, write_line};
 pub use status::{Status, number_of};
+
+#[cfg(test)]
+mod tests;

@@ -67,7 +67,12 @@ fn failed_line(alloc: Global, fault: &Fault) -> Result<Text, NoMemory>
 }
 
 #[tactic(auto, using(crate::proofs::Plain::plain))]
-fn document_line(alloc: Global, code: u16, span: Span, paths: &Items<Text>) -> Result<Text, NoMemory>
+fn document_line(
+    alloc: Global,
+    code: u16,
+    span: Span,
+    paths: &Items<Text>,
+) -> Result<Text, NoMemory>
     requires { span.doc < length paths.now }
     ensures { IfOk result (λ t. t ≡ spec.line_of (status.Document code span) paths.now) }
 {

@@ -13,130 +13,126 @@ const SPAN: Span = Span {
     end: 52,
 };
 
-const DOCUMENT_LINES: [(u16, &str); 45] = [
-    (101, "w.wdl:33..52: 101 NotUtf8\n"),
-    (102, "w.wdl:33..52: 102 StrayCharacter\n"),
-    (103, "w.wdl:33..52: 103 OpenString\n"),
-    (104, "w.wdl:33..52: 104 OpenCommand\n"),
-    (105, "w.wdl:33..52: 105 BadEscape\n"),
-    (106, "w.wdl:33..52: 106 NumberTooLarge\n"),
-    (107, "w.wdl:33..52: 107 TooLong\n"),
-    (110, "w.wdl:33..52: 110 Unexpected\n"),
-    (111, "w.wdl:33..52: 111 TooDeep\n"),
-    (112, "w.wdl:33..52: 112 WrongVersion\n"),
-    (120, "w.wdl:33..52: 120 FloatUsed\n"),
-    (121, "w.wdl:33..52: 121 ObjectUsed\n"),
-    (122, "w.wdl:33..52: 122 SubUsed\n"),
-    (123, "w.wdl:33..52: 123 LeftOut\n"),
-    (201, "w.wdl:33..52: 201 SchemeRefused\n"),
-    (202, "w.wdl:33..52: 202 ImportCircle\n"),
-    (203, "w.wdl:33..52: 203 SameNamespace\n"),
-    (204, "w.wdl:33..52: 204 StructsDiffer\n"),
-    (205, "w.wdl:33..52: 205 TooManyDocuments\n"),
-    (206, "w.wdl:33..52: 206 AliasUnknown\n"),
-    (207, "w.wdl:33..52: 207 NamespaceNotAName\n"),
-    (301, "w.wdl:33..52: 301 UnknownName\n"),
-    (302, "w.wdl:33..52: 302 UnknownFunction\n"),
-    (303, "w.wdl:33..52: 303 NoCoercion\n"),
-    (304, "w.wdl:33..52: 304 BadOperands\n"),
-    (305, "w.wdl:33..52: 305 BadArguments\n"),
-    (306, "w.wdl:33..52: 306 NoMember\n"),
-    (307, "w.wdl:33..52: 307 NotCallable\n"),
-    (308, "w.wdl:33..52: 308 ArrayInPlaceholder\n"),
-    (309, "w.wdl:33..52: 309 ReadOutsideOutputs\n"),
-    (310, "w.wdl:33..52: 310 MembersDiffer\n"),
-    (311, "w.wdl:33..52: 311 BadRuntime\n"),
-    (312, "w.wdl:33..52: 312 WriteMisplaced\n"),
-    (320, "w.wdl:33..52: 320 Circular\n"),
-    (321, "w.wdl:33..52: 321 Duplicate\n"),
-    (322, "w.wdl:33..52: 322 UnknownTask\n"),
-    (323, "w.wdl:33..52: 323 InputMissing\n"),
-    (324, "w.wdl:33..52: 324 InputUnknown\n"),
-    (325, "w.wdl:33..52: 325 ConditionNotBoolean\n"),
-    (326, "w.wdl:33..52: 326 NotAnArray\n"),
-    (327, "w.wdl:33..52: 327 NoWorkflow\n"),
-    (328, "w.wdl:33..52: 328 TooNested\n"),
-    (329, "w.wdl:33..52: 329 UnknownType\n"),
-    (330, "w.wdl:33..52: 330 StructCircle\n"),
-    (999, "w.wdl:33..52: 999\n"),
-];
+/// The lines of the codes 100 to 124, 200 to 208 and 300 to 331, some of which are no codes.
+const DOCUMENT_LINES: &str = "\
+w.wdl:33..52: 100\n\
+w.wdl:33..52: 101 NotUtf8\n\
+w.wdl:33..52: 102 StrayCharacter\n\
+w.wdl:33..52: 103 OpenString\n\
+w.wdl:33..52: 104 OpenCommand\n\
+w.wdl:33..52: 105 BadEscape\n\
+w.wdl:33..52: 106 NumberTooLarge\n\
+w.wdl:33..52: 107 TooLong\n\
+w.wdl:33..52: 108\n\
+w.wdl:33..52: 109\n\
+w.wdl:33..52: 110 Unexpected\n\
+w.wdl:33..52: 111 TooDeep\n\
+w.wdl:33..52: 112 WrongVersion\n\
+w.wdl:33..52: 113\n\
+w.wdl:33..52: 114\n\
+w.wdl:33..52: 115\n\
+w.wdl:33..52: 116\n\
+w.wdl:33..52: 117\n\
+w.wdl:33..52: 118\n\
+w.wdl:33..52: 119\n\
+w.wdl:33..52: 120 FloatUsed\n\
+w.wdl:33..52: 121 ObjectUsed\n\
+w.wdl:33..52: 122 SubUsed\n\
+w.wdl:33..52: 123 LeftOut\n\
+w.wdl:33..52: 124\n\
+w.wdl:33..52: 200\n\
+w.wdl:33..52: 201 SchemeRefused\n\
+w.wdl:33..52: 202 ImportCircle\n\
+w.wdl:33..52: 203 SameNamespace\n\
+w.wdl:33..52: 204 StructsDiffer\n\
+w.wdl:33..52: 205 TooManyDocuments\n\
+w.wdl:33..52: 206 AliasUnknown\n\
+w.wdl:33..52: 207 NamespaceNotAName\n\
+w.wdl:33..52: 208\n\
+w.wdl:33..52: 300\n\
+w.wdl:33..52: 301 UnknownName\n\
+w.wdl:33..52: 302 UnknownFunction\n\
+w.wdl:33..52: 303 NoCoercion\n\
+w.wdl:33..52: 304 BadOperands\n\
+w.wdl:33..52: 305 BadArguments\n\
+w.wdl:33..52: 306 NoMember\n\
+w.wdl:33..52: 307 NotCallable\n\
+w.wdl:33..52: 308 ArrayInPlaceholder\n\
+w.wdl:33..52: 309 ReadOutsideOutputs\n\
+w.wdl:33..52: 310 MembersDiffer\n\
+w.wdl:33..52: 311 BadRuntime\n\
+w.wdl:33..52: 312 WriteMisplaced\n\
+w.wdl:33..52: 313\n\
+w.wdl:33..52: 314\n\
+w.wdl:33..52: 315\n\
+w.wdl:33..52: 316\n\
+w.wdl:33..52: 317\n\
+w.wdl:33..52: 318\n\
+w.wdl:33..52: 319\n\
+w.wdl:33..52: 320 Circular\n\
+w.wdl:33..52: 321 Duplicate\n\
+w.wdl:33..52: 322 UnknownTask\n\
+w.wdl:33..52: 323 InputMissing\n\
+w.wdl:33..52: 324 InputUnknown\n\
+w.wdl:33..52: 325 ConditionNotBoolean\n\
+w.wdl:33..52: 326 NotAnArray\n\
+w.wdl:33..52: 327 NoWorkflow\n\
+w.wdl:33..52: 328 TooNested\n\
+w.wdl:33..52: 329 UnknownType\n\
+w.wdl:33..52: 330 StructCircle\n\
+w.wdl:33..52: 331\n\
+";
 
-const INPUT_LINES: [(u16, &str); 8] = [
-    (401, "inputs: 401 NotJson w.xs\n"),
-    (402, "inputs: 402 NotAnObject w.xs\n"),
-    (403, "inputs: 403 UnknownInput w.xs\n"),
-    (404, "inputs: 404 InputMissing w.xs\n"),
-    (405, "inputs: 405 DoesNotFit w.xs\n"),
-    (406, "inputs: 406 FloatNumber w.xs\n"),
-    (407, "inputs: 407 TooLong w.xs\n"),
-    (400, "inputs: 400 w.xs\n"),
-];
+/// The lines of the codes 400 to 408.
+const INPUT_LINES: &str = "\
+inputs: 400 w.xs\n\
+inputs: 401 NotJson w.xs\n\
+inputs: 402 NotAnObject w.xs\n\
+inputs: 403 UnknownInput w.xs\n\
+inputs: 404 InputMissing w.xs\n\
+inputs: 405 DoesNotFit w.xs\n\
+inputs: 406 FloatNumber w.xs\n\
+inputs: 407 TooLong w.xs\n\
+inputs: 408 w.xs\n\
+";
 
-const FAILURES: [(EvalCode, &str); 16] = [
-    (
-        EvalCode::Overflow,
-        "failed scatter-0/2/if-1/say r: 501 Overflow\n",
-    ),
-    (
-        EvalCode::ZeroDivisor,
-        "failed scatter-0/2/if-1/say r: 502 ZeroDivisor\n",
-    ),
-    (
-        EvalCode::IndexOut,
-        "failed scatter-0/2/if-1/say r: 503 IndexOut\n",
-    ),
-    (
-        EvalCode::KeyMissing,
-        "failed scatter-0/2/if-1/say r: 504 KeyMissing\n",
-    ),
-    (
-        EvalCode::EmptyArray,
-        "failed scatter-0/2/if-1/say r: 505 EmptyArray\n",
-    ),
-    (
-        EvalCode::NothingDefined,
-        "failed scatter-0/2/if-1/say r: 506 NothingDefined\n",
-    ),
-    (
-        EvalCode::RepeatedKey,
-        "failed scatter-0/2/if-1/say r: 507 RepeatedKey\n",
-    ),
-    (
-        EvalCode::LengthsDiffer,
-        "failed scatter-0/2/if-1/say r: 508 LengthsDiffer\n",
-    ),
-    (
-        EvalCode::NegativeRange,
-        "failed scatter-0/2/if-1/say r: 509 NegativeRange\n",
-    ),
-    (
-        EvalCode::TooLarge,
-        "failed scatter-0/2/if-1/say r: 510 TooLarge\n",
-    ),
-    (
-        EvalCode::FileMissing,
-        "failed scatter-0/2/if-1/say r: 511 FileMissing\n",
-    ),
-    (
-        EvalCode::NotText,
-        "failed scatter-0/2/if-1/say r: 512 NotText\n",
-    ),
-    (
-        EvalCode::NotAnInteger,
-        "failed scatter-0/2/if-1/say r: 513 NotAnInteger\n",
-    ),
-    (
-        EvalCode::NotABoolean,
-        "failed scatter-0/2/if-1/say r: 514 NotABoolean\n",
-    ),
-    (
-        EvalCode::NotTwoColumns,
-        "failed scatter-0/2/if-1/say r: 515 NotTwoColumns\n",
-    ),
-    (
-        EvalCode::BodyLong,
-        "failed scatter-0/2/if-1/say r: 516 BodyLong\n",
-    ),
+/// The lines of the codes of expressions, in the order of their numbers.
+const FAILED_LINES: &str = "\
+failed scatter-0/2/if-1/say r: 501 Overflow\n\
+failed scatter-0/2/if-1/say r: 502 ZeroDivisor\n\
+failed scatter-0/2/if-1/say r: 503 IndexOut\n\
+failed scatter-0/2/if-1/say r: 504 KeyMissing\n\
+failed scatter-0/2/if-1/say r: 505 EmptyArray\n\
+failed scatter-0/2/if-1/say r: 506 NothingDefined\n\
+failed scatter-0/2/if-1/say r: 507 RepeatedKey\n\
+failed scatter-0/2/if-1/say r: 508 LengthsDiffer\n\
+failed scatter-0/2/if-1/say r: 509 NegativeRange\n\
+failed scatter-0/2/if-1/say r: 510 TooLarge\n\
+failed scatter-0/2/if-1/say r: 511 FileMissing\n\
+failed scatter-0/2/if-1/say r: 512 NotText\n\
+failed scatter-0/2/if-1/say r: 513 NotAnInteger\n\
+failed scatter-0/2/if-1/say r: 514 NotABoolean\n\
+failed scatter-0/2/if-1/say r: 515 NotTwoColumns\n\
+failed scatter-0/2/if-1/say r: 516 BodyLong\n\
+";
+
+const EVAL_CODES: [EvalCode; 16] = [
+    EvalCode::Overflow,
+    EvalCode::ZeroDivisor,
+    EvalCode::IndexOut,
+    EvalCode::KeyMissing,
+    EvalCode::EmptyArray,
+    EvalCode::NothingDefined,
+    EvalCode::RepeatedKey,
+    EvalCode::LengthsDiffer,
+    EvalCode::NegativeRange,
+    EvalCode::TooLarge,
+    EvalCode::FileMissing,
+    EvalCode::NotText,
+    EvalCode::NotAnInteger,
+    EvalCode::NotABoolean,
+    EvalCode::NotTwoColumns,
+    EvalCode::BodyLong,
 ];
 
 fn fault(alloc: Global, why: Why) -> Result<Fault, Fail> {
@@ -149,77 +145,95 @@ fn fault(alloc: Global, why: Why) -> Result<Fault, Fail> {
     Ok(Fault { place, name, why })
 }
 
+fn document_line(alloc: Global, code: u16) -> Result<Text, Fail> {
+    let mut paths = Items::new(alloc);
+    paths.push(Text::new(alloc, "w.wdl")?)?;
+    Ok(line_of(alloc, &Status::Document(code, SPAN), &paths)?)
+}
+
+fn input_line(alloc: Global, code: u16) -> Result<Text, Fail> {
+    let name = Text::new(alloc, "w.xs")?;
+    Ok(line_of(alloc, &Status::Inputs(code, Some(name)), &Items::new(alloc))?)
+}
+
+fn failed_line(alloc: Global, code: EvalCode) -> Result<Text, Fail> {
+    let fault = fault(alloc, Why::Code(code))?;
+    Ok(line_of(alloc, &Status::Failed(fault), &Items::new(alloc))?)
+}
+
 #[test]
 fn each_code_has_its_word(rt: HostRuntime) -> Result<(), Fail> {
     let alloc = rt.alloc();
-    let mut paths = Items::new(alloc);
-    paths.push(Text::new(alloc, "w.wdl")?)?;
-    for (code, line) in DOCUMENT_LINES {
-        let status = Status::Document(code, SPAN);
-        assert_eq!(rt; line_of(alloc, &status, &paths)?.as_str(), line);
+    let mut lines = String::new(alloc);
+    for code in 100..332 {
+        if code < 125 || (200 <= code && code < 209) || 300 <= code {
+            lines.push_str(document_line(alloc, code)?.as_str())?;
+        }
     }
-    let subset = Status::NotInSubset(601, SPAN);
-    assert_eq!(rt;
-        line_of(alloc, &subset, &paths)?.as_str(),
-        "not in the subset: 601 at w.wdl:33..52\n"
-    );
-    for (code, line) in INPUT_LINES {
-        let status = Status::Inputs(code, Some(Text::new(alloc, "w.xs")?));
-        assert_eq!(rt; line_of(alloc, &status, &paths)?.as_str(), line);
+    assert_eq!(rt; lines.as_str(), DOCUMENT_LINES);
+    lines.clear();
+    for code in 400..409 {
+        lines.push_str(input_line(alloc, code)?.as_str())?;
     }
-    for (code, line) in FAILURES {
-        let status = Status::Failed(fault(alloc, Why::Code(code))?);
-        assert_eq!(rt; line_of(alloc, &status, &paths)?.as_str(), line);
+    assert_eq!(rt; lines.as_str(), INPUT_LINES);
+    lines.clear();
+    for code in EVAL_CODES {
+        lines.push_str(failed_line(alloc, code)?.as_str())?;
     }
+    assert_eq!(rt; lines.as_str(), FAILED_LINES);
     Ok(())
 }
 
-fn told(alloc: Global, status: Status) -> Result<(u8, Text), Fail>
+/// The lines of these statuses, each behind its number.
+const STATUS_LINES: &str = "\
+1 failed scatter-0/2/if-1/say: status 255\n\
+2 usage: wdl run FILE\n\
+4 inputs: 401 NotJson\n\
+5 cannot read b.wdl\n\
+6 cannot write\n\
+7 no memory\n\
+9 cannot launch .\n\
+10 journal fault\n\
+11 too many jobs\n\
+12 not built yet\n\
+0 ";
+
+fn tell(alloc: Global, lines: &mut String, status: Status) -> Result<(), Fail>
     requires { HasPath status [] }
 {
+    let number = number_of(&status);
     let line = line_of(alloc, &status, &Items::new(alloc))?;
-    Ok((number_of(&status), line))
+    lines.push_str(format!(in alloc; "{number} ")?.as_str())?;
+    lines.push_str(line.as_str())?;
+    Ok(())
 }
 
 #[test]
 fn each_status_has_its_number_and_line(rt: HostRuntime) -> Result<(), Fail> {
     let alloc = rt.alloc();
-    let failed = Status::Failed(fault(alloc, Why::Status(255))?);
-    let rows = [
-        (told(alloc, Status::Ok)?, 0, ""),
-        (
-            told(alloc, failed)?,
-            1,
-            "failed scatter-0/2/if-1/say: status 255\n",
-        ),
-        (told(alloc, Status::Usage)?, 2, "usage: wdl run FILE\n"),
-        (
-            told(alloc, Status::Inputs(401, None))?,
-            4,
-            "inputs: 401 NotJson\n",
-        ),
-        (
-            told(alloc, Status::Read(Text::new(alloc, "b.wdl")?))?,
-            5,
-            "cannot read b.wdl\n",
-        ),
-        (told(alloc, Status::Write)?, 6, write_line()),
-        (told(alloc, Status::NoMemory)?, 7, no_memory_line()),
-        (
-            told(alloc, Status::Launch(Items::new(alloc)))?,
-            9,
-            "cannot launch .\n",
-        ),
-        (told(alloc, Status::Keep)?, 10, "journal fault\n"),
-        (told(alloc, Status::TooMany)?, 11, "too many jobs\n"),
-        (told(alloc, Status::NotBuilt)?, 12, "not built yet\n"),
-    ];
-    for ((shown, text), number, line) in rows {
-        assert_eq!(rt; shown, number);
-        assert_eq!(rt; text.as_str(), line);
-    }
+    let mut lines = String::new(alloc);
+    tell(
+        alloc,
+        &mut lines,
+        Status::Failed(fault(alloc, Why::Status(255))?),
+    )?;
+    tell(alloc, &mut lines, Status::Usage)?;
+    tell(alloc, &mut lines, Status::Inputs(401, None))?;
+    tell(alloc, &mut lines, Status::Read(Text::new(alloc, "b.wdl")?))?;
+    tell(alloc, &mut lines, Status::Write)?;
+    tell(alloc, &mut lines, Status::NoMemory)?;
+    tell(alloc, &mut lines, Status::Launch(Items::new(alloc)))?;
+    tell(alloc, &mut lines, Status::Keep)?;
+    tell(alloc, &mut lines, Status::TooMany)?;
+    tell(alloc, &mut lines, Status::NotBuilt)?;
+    tell(alloc, &mut lines, Status::Ok)?;
+    assert_eq!(rt; lines.as_str(), STATUS_LINES);
     assert_eq!(rt; number_of(&Status::Document(106, SPAN)), 3);
     assert_eq!(rt; number_of(&Status::NotInSubset(601, SPAN)), 8);
+    let mut paths = Items::new(alloc);
+    paths.push(Text::new(alloc, "w.wdl")?)?;
+    let line = line_of(alloc, &Status::NotInSubset(601, SPAN), &paths)?;
+    assert_eq!(rt; line.as_str(), "not in the subset: 601 at w.wdl:33..52\n");
     assert_eq!(rt; write_line(), "cannot write\n");
     assert_eq!(rt; no_memory_line(), "no memory\n");
     Ok(())
