@@ -156,68 +156,72 @@ const ENDS: &str = "\
 0 0 0 0 [{}\n] []
 ";
 
+fn answered(alloc: Global, lines: &mut String) -> Result<(), Fail> {
+    for (status, out) in [
+        (0, b"hi\n".as_slice()),
+        (3, b"hi\n".as_slice()),
+        (0, b"\xff".as_slice()),
+    ] {
+        let launcher = answers(alloc, status, body(alloc, out)?)?;
+        tell(
+            alloc,
+            lines,
+            case_of(alloc, "w.wdl", DOCUMENT, launcher, 100, 100)?,
+        )?;
+    }
+    let launcher = answers(alloc, 0, Body::Long)?;
+    tell(
+        alloc,
+        lines,
+        case_of(alloc, "w.wdl", DOCUMENT, launcher, 100, 100)?,
+    )
+}
+
+fn refused(alloc: Global, lines: &mut String) -> Result<(), Fail> {
+    let mut refused = Items::new(alloc);
+    refused.push(say(alloc)?)?;
+    let launcher = TableLauncher::new(alloc, Items::new(alloc), refused)?;
+    tell(
+        alloc,
+        lines,
+        case_of(alloc, "w.wdl", DOCUMENT, launcher, 100, 100)?,
+    )
+}
+
+/// Calls that `say` answers with `hi`.
+fn greeted(
+    alloc: Global,
+    lines: &mut String,
+    file: &str,
+    document: &str,
+    out: usize,
+    err: usize,
+) -> Result<(), Fail> {
+    let launcher = answers(alloc, 0, body(alloc, b"hi\n")?)?;
+    tell(
+        alloc,
+        lines,
+        case_of(alloc, file, document, launcher, out, err)?,
+    )
+}
+
 #[test]
 fn each_status_has_its_cause(rt: HostRuntime) -> Result<(), Fail> {
     let alloc = rt.alloc();
     let mut lines = String::new(alloc);
-    let hi = answers(alloc, 0, body(alloc, b"hi\n")?)?;
-    tell(
-        alloc,
-        &mut lines,
-        case_of(alloc, "w.wdl", DOCUMENT, hi, 100, 100)?,
-    )?;
-    let three = answers(alloc, 3, body(alloc, b"hi\n")?)?;
-    tell(
-        alloc,
-        &mut lines,
-        case_of(alloc, "w.wdl", DOCUMENT, three, 100, 100)?,
-    )?;
-    let byte = answers(alloc, 0, body(alloc, b"\xff")?)?;
-    tell(
-        alloc,
-        &mut lines,
-        case_of(alloc, "w.wdl", DOCUMENT, byte, 100, 100)?,
-    )?;
-    let long = answers(alloc, 0, Body::Long)?;
-    tell(
-        alloc,
-        &mut lines,
-        case_of(alloc, "w.wdl", DOCUMENT, long, 100, 100)?,
-    )?;
-    let mut refused = Items::new(alloc);
-    refused.push(say(alloc)?)?;
-    let refused = TableLauncher::new(alloc, Items::new(alloc), refused)?;
-    tell(
-        alloc,
-        &mut lines,
-        case_of(alloc, "w.wdl", DOCUMENT, refused, 100, 100)?,
-    )?;
+    answered(alloc, &mut lines)?;
+    refused(alloc, &mut lines)?;
     for (out, err) in [(5, 100), (0, 9)] {
-        let hi = answers(alloc, 0, body(alloc, b"hi\n")?)?;
-        tell(
-            alloc,
-            &mut lines,
-            case_of(alloc, "w.wdl", DOCUMENT, hi, out, err)?,
-        )?;
+        greeted(alloc, &mut lines, "w.wdl", DOCUMENT, out, err)?;
     }
     for (file, err) in [("v.wdl", 100), ("-w.wdl", 100), ("", 5)] {
-        let hi = answers(alloc, 0, body(alloc, b"hi\n")?)?;
-        tell(
-            alloc,
-            &mut lines,
-            case_of(alloc, file, DOCUMENT, hi, 100, err)?,
-        )?;
+        greeted(alloc, &mut lines, file, DOCUMENT, 100, err)?;
     }
     for document in [
         "version 1.0\nworkflow w {}\n",
         "version 1.1\nworkflow w {}\n",
     ] {
-        let hi = answers(alloc, 0, body(alloc, b"hi\n")?)?;
-        tell(
-            alloc,
-            &mut lines,
-            case_of(alloc, "w.wdl", document, hi, 100, 100)?,
-        )?;
+        greeted(alloc, &mut lines, "w.wdl", document, 100, 100)?;
     }
     assert_eq!(rt; lines.as_str(), ENDS);
     Ok(())
