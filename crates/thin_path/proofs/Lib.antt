@@ -1,0 +1,5 @@
+pub mod Fronts
+pub mod Texts
+pub mod Turns
+pub mod Members
+pub mod RunLaws

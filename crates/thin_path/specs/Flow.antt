@@ -1,5 +1,5 @@
 -- What a document asks for and gives, computed from scratch over the answers of a journal.
-use Rattle.std.specs.Prelude.{◌≡◌, ℕ, Bool, true, false, ◌==◌, ◌&&◌, ◌||◌, not, nat_le, ◌+◌, length, List, [], ◌∷◌, ◌++◌, map, Option, Some, None, Result, Ok, Err, if◌then◌else◌, codes}
+use Rattle.std.specs.Prelude.{◌≡◌, ℕ, Bool, ◌==◌, ◌&&◌, ◌||◌, not, nat_le, ◌+◌, length, List, [], ◌∷◌, ◌++◌, Option, Some, None, Result, Ok, Err, if◌then◌else◌, codes}
 use Rattle.std.specs.Str.{bytes_eq, is_utf8}
 use Rattle.wdl_value.specs.Plain.{has_nul}
 use Rattle.wdl_value.specs.Places.{place_text}
@@ -55,9 +55,16 @@ bad c n w = record { place = place_of c; name = n; why = w }
 abbrev pub bind_of : Argument → Bind
 bind_of x = record { name = x.name; value = x.value }
 
+abbrev pub given : List Argument → List Bind
+given [] = []
+given (x ∷ xs) = bind_of x ∷ given xs
+
+abbrev pub hole_filled : List Bind → Hole → List ℕ
+hole_filled bs h = h.before ++ value_of h.name bs
+
 abbrev pub holes_filled : List Bind → List Hole → List ℕ
 holes_filled bs [] = []
-holes_filled bs (h ∷ hs) = h.before ++ value_of h.name bs ++ holes_filled bs hs
+holes_filled bs (h ∷ hs) = hole_filled bs h ++ holes_filled bs hs
 
 -- each placeholder replaced by the value of its name
 abbrev pub filled : List Bind → Command → List ℕ
@@ -76,7 +83,7 @@ asked site c (Err e) = Err (bad c (codes "command") (why.Code e))
 
 -- the request of a call, or its fault
 abbrev pub asks : List ℕ → Task → Call → Result Request Fault
-asks site t c = asked site c (command_of (map bind_of c.arguments) t.command)
+asks site t c = asked site c (command_of (given c.arguments) t.command)
 
 -- ---- what an answer tells
 
@@ -136,9 +143,13 @@ of_request t c ws J (Ok r) = answered r t c ws (answer_in J (place_of c) 0)
 of_request t c ws J (Err f) = record { jobs = []; faults = f ∷ []; waits = []; outputs = [] }
 
 -- without a call of a task there is no job
+
+abbrev pub idle : List Wire → Flow
+idle ws = record { jobs = []; faults = []; waits = []; outputs = wired [] ws }
+
 abbrev pub of_call : List ℕ → Option Task → Option Call → List Wire → List Entry → Flow
 of_call site (Some t) (Some c) ws J = of_request t c ws J (asks site t c)
-of_call site t c ws J = record { jobs = []; faults = []; waits = []; outputs = wired [] ws }
+of_call site t c ws J = idle ws
 
 -- the flow of a document over the answers of a journal
 unfoldable pub flow : List ℕ → Document → List Entry → Flow

@@ -1,5 +1,5 @@
 -- The grammar: which document the bytes are.
-use Rattle.std.specs.Prelude.{◌≡◌, ℕ, zero, suc, length, Bool, true, false, ◌==◌, ◌&&◌, List, [], ◌∷◌, ◌++◌, Option, Some, None, Result, Ok, Err, if◌then◌else◌, ⊤, codes}
+use Rattle.std.specs.Prelude.{ℕ, zero, suc, length, Bool, false, ◌==◌, ◌&&◌, List, [], ◌∷◌, ◌++◌, Option, Some, None, if◌then◌else◌, codes}
 use Rattle.thin_path.specs.Scan.{Bytes, is_blank, is_space, is_printable, is_char, front, past, byte, word, name_here, mark, keyword, name}
 use Rattle.thin_path.specs.declared.document.Input.{Input}
 use Rattle.thin_path.specs.declared.document.Output.{Output}
@@ -51,7 +51,7 @@ char (b ∷ bs) = if is_printable b then Some (piece_of.Char b, bs) else None
 unfoldable pub hole : Bytes → Option (Piece × Bytes)
 hole ts = on (byte 126 ts) (λ ts. on (byte 123 ts) (λ ts. then_ (name_here ts) (λ n ts. on (byte 125 ts) (λ ts. Some (piece_of.Hole n, ts)))))
 
-abbrev pub piece : Bytes → Option (Piece × Bytes)
+unfoldable pub piece : Bytes → Option (Piece × Bytes)
 piece ts = if closes_command ts then None else (if opens_hole ts then hole ts else char ts)
 
 -- a command with a text before it
@@ -124,11 +124,6 @@ items_from item (suc n) ts = chosen (mark 125 ts) (λ rest. Some ([], rest))
 abbrev pub items : {A : Type 0} → (Bytes → Option (A × Bytes)) → Bytes → Option (List A × Bytes)
 items item ts = items_from item (length ts) ts
 
--- these items, and those that are found
-unfoldable pub after : {A : Type 0} → List A → Option (List A × Bytes) → Option (List A × Bytes)
-after done None = None
-after done (Some x) = Some (done ++ x.0, x.1)
-
 -- a section under this word, which may be missing
 unfoldable pub section : {A : Type 0} → Bytes → (Bytes → Option (A × Bytes)) → Bytes → Option (List A × Bytes)
 section w item ts = chosen (keyword w ts) (λ ts. on (mark 123 ts) (λ ts. items item ts)) (Some ([], ts))
@@ -146,7 +141,7 @@ tasks ts = chosen (keyword (codes "task") ts) (λ ts. then_ (task ts) (λ t ts. 
 
 -- the arguments of a call, behind the opening brace
 unfoldable pub arguments : Bytes → Option (List Argument × Bytes)
-arguments ts = on (keyword (codes "input") ts) (λ ts. on (mark 58 ts) (λ ts. then_ (argument ts) (λ x ts. after (x ∷ []) (items next_argument ts))))
+arguments ts = on (keyword (codes "input") ts) (λ ts. on (mark 58 ts) (λ ts. then_ (argument ts) (λ x ts. then_ (items next_argument ts) (λ xs ts. Some (x ∷ xs, ts)))))
 
 -- the name of a call: its alias, or that of its task
 unfoldable pub alias : Bytes → Bytes → Option (Bytes × Bytes)

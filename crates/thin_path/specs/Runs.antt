@@ -1,11 +1,11 @@
 -- How a run of a document ends, and what its journal holds.
-use Rattle.std.specs.Prelude.{◌≡◌, ◌⊎◌, ℕ, List, [], ◌∷◌, ◌++◌, map, Option, Some, None, Result, Ok, Err, ⊤, Contains}
+use Rattle.std.specs.Prelude.{◌≡◌, ◌⊎◌, ◌<◌, ℕ, Bool, true, false, length, List, [], ◌∷◌, ◌++◌, None, Result, Ok, Err, ⊤, Contains}
 use Rattle.wdl_value.specs.declared.request.Request.{Request}
 use Rattle.wdl_value.specs.declared.answer.Answer.{Answer}
 use Rattle.wdl_value.specs.declared.entry.Entry.{Entry}
 use Rattle.wdl_value.specs.declared.entry.Source.TheVariants as source
 use Rattle.wdl_value.specs.declared.fault.EvalCode.{EvalCode}
-use Rattle.wdl_value.specs.declared.fault.EvalCode.TheVariants as code
+use Rattle.wdl_value.specs.declared.error.NoMemory.{NoMemory}
 use Rattle.wdl_value.specs.declared.fault.Fault.{Fault}
 use Rattle.wdl_value.specs.declared.step.Step.{Step}
 use Rattle.wdl_value.specs.declared.step.Step.TheVariants as step
@@ -21,7 +21,7 @@ use Rattle.thin_path.specs.declared.run.EvalFault.{EvalFault}
 use Rattle.thin_path.specs.declared.run.EvalFault.TheVariants as eval_fault
 use Rattle.thin_path.specs.declared.run.CallFault.{CallFault}
 use Rattle.thin_path.specs.declared.run.CallFault.TheVariants as call_fault
-use Rattle.thin_path.specs.Flow.{Place, Flow, flow, IsClean, place_of, asks, tells, wired, answer_in}
+use Rattle.thin_path.specs.Flow.{Place, Flow, flow, IsClean, asks, tells, wired, answer_in}
 
 -- ---- journals
 
@@ -82,11 +82,11 @@ GivesFault r (Ok v) = r ≡ Ok v
 GivesFault r (Err (call_fault.Bad f)) = r ≡ Err f
 GivesFault r (Err call_fault.NoMemory) = ⊤
 
--- the code of an error, where it is no want of memory, means this
-abbrev pub IfCode : {A : Type 0} → Result A EvalFault → Type 0 → Type 0
-IfCode (Ok v) P = ⊤
-IfCode (Err (eval_fault.Code e)) P = (e ≡ code.TooLarge) × P
-IfCode (Err eval_fault.NoMemory) P = ⊤
+-- a text was appended, or is past the limit of a command, or memory ended
+abbrev pub Fits : List ℕ → List ℕ → Result Bool NoMemory → List ℕ → Type 0
+Fits old more (Ok true) new = new ≡ old ++ more
+Fits old more (Ok false) new = 65536 < length (old ++ more)
+Fits old more (Err e) new = ⊤
 
 -- ---- the one call of a flow: it has a fault, or ran and was answered, or was refused, or memory ended
 
@@ -103,13 +103,13 @@ pub record IsSettled (gives : Request → Answer → Type 0) (request : Request)
   pub answer : Answer
   pub given : gives request answer
   pub journal : ran.journal ≡ launched request answer ∷ []
-  pub steps : ran.steps ≡ step.Took (place_of c) ∷ step.Settled (place_of c) ∷ []
+  pub steps : ran.steps ≡ step.Took request.place ∷ step.Settled request.place ∷ []
   pub concluded : Concludes ws (tells t c answer) ran.end
 
-pub record IsUnlaunched (refuses : Request → Type 0) (request : Request) (c : Call) (ran : Ran) : Type 0 where
+pub record IsUnlaunched (refuses : Request → Type 0) (request : Request) (ran : Ran) : Type 0 where
   pub refused : refuses request
   pub journal : ran.journal ≡ []
-  pub steps : ran.steps ≡ step.Took (place_of c) ∷ []
+  pub steps : ran.steps ≡ step.Took request.place ∷ []
   pub end : ran.end ≡ end.Launch request.place
 
 pub record IsOutOfMemory (ran : Ran) : Type 0 where
@@ -122,7 +122,7 @@ pub record IsUnasked (fault : Fault) (ran : Ran) : Type 0 where
   pub end : ran.end ≡ end.Failed fault
 
 abbrev pub RunsRequest : (Request → Answer → Type 0) → (Request → Type 0) → Request → Task → Call → List Wire → Ran → Type 0
-RunsRequest gives refuses r t c ws ran = IsSettled gives r t c ws ran ⊎ IsUnlaunched refuses r c ran ⊎ IsOutOfMemory ran
+RunsRequest gives refuses r t c ws ran = IsSettled gives r t c ws ran ⊎ IsUnlaunched refuses r ran ⊎ IsOutOfMemory ran
 
 abbrev pub RunsAsked : (Request → Answer → Type 0) → (Request → Type 0) → Task → Call → List Wire → Ran → Result Request Fault → Type 0
 RunsAsked gives refuses t c ws ran (Ok r) = RunsRequest gives refuses r t c ws ran
@@ -130,3 +130,7 @@ RunsAsked gives refuses t c ws ran (Err f) = IsUnasked f ran
 
 abbrev pub RunsCall : (Request → Answer → Type 0) → (Request → Type 0) → List ℕ → Task → Call → List Wire → Ran → Type 0
 RunsCall gives refuses site t c ws ran = RunsAsked gives refuses t c ws ran (asks site t c) ⊎ IsOutOfMemory ran
+
+-- there is no call: the outputs stand, or memory ended
+abbrev pub Idles : List Wire → Ran → Type 0
+Idles ws ran = ((ran.journal ≡ []) × (ran.steps ≡ []) × (ran.end ≡ end.Done (wired [] ws))) ⊎ IsOutOfMemory ran

@@ -1,7 +1,6 @@
 -- The bytes, words and texts that a document goes on with.
-use Rattle.std.specs.Prelude.{ℕ, Bool, ◌==◌, ◌&&◌, ◌||◌, not, nat_le, List, [], ◌∷◌, take, drop, Option, Some, None, if◌then◌else◌}
+use Rattle.std.specs.Prelude.{ℕ, Bool, ◌==◌, ◌&&◌, ◌||◌, not, nat_le, List, [], ◌∷◌, Option, Some, None, if◌then◌else◌}
 use Rattle.std.specs.Char.{is_ascii_alphanumeric}
-use Rattle.std.specs.List.{prefix_len}
 use Rattle.std.specs.Str.{bytes_eq}
 use Rattle.wdl_value.specs.Names.{is_name}
 
@@ -27,11 +26,14 @@ abbrev pub is_char : ℕ → Bool
 is_char b = is_printable b && not ((b == 34) || (b == 92) || (b == 126) || (b == 36))
 
 -- the longest front of such bytes, and what is behind it
+
 abbrev pub front : (ℕ → Bool) → Bytes → Bytes
-front test ts = take (prefix_len test ts) ts
+front test [] = []
+front test (b ∷ bs) = if test b then b ∷ front test bs else []
 
 abbrev pub past : (ℕ → Bool) → Bytes → Bytes
-past test ts = drop (prefix_len test ts) ts
+past test [] = []
+past test (b ∷ bs) = if test b then past test bs else b ∷ bs
 
 -- what is behind this byte
 abbrev pub byte : ℕ → Bytes → Option Bytes

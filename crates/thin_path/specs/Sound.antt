@@ -1,5 +1,5 @@
 -- The names of a document: distinct, and each stands for something.
-use Rattle.std.specs.Prelude.{ℕ, Bool, true, false, ◌&&◌, ◌||◌, not, nat_le, length, List, [], ◌∷◌, Option, Some, None, if◌then◌else◌}
+use Rattle.std.specs.Prelude.{Bool, true, false, ◌&&◌, not, nat_le, length, List, [], ◌∷◌, Option, Some, None, if◌then◌else◌}
 use Rattle.std.specs.Str.{bytes_eq}
 use Rattle.thin_path.specs.Scan.{Bytes}
 use Rattle.thin_path.specs.Reading.{get, document}

@@ -1,8 +1,8 @@
 //! The command of a call.
-ghost use Rattle.std.specs.Prelude.{◌≡◌, ◌≤◌, ◌<◌, ◌+◌, ◌++◌, length, false, map, IfOk, OnOk};
+ghost use Rattle.std.specs.Prelude.{◌≡◌, ◌≤◌, ◌+◌, length, true, false, Ok, IfOk};
 ghost use Rattle.wdl_value.specs.Plain.{has_nul};
 ghost use Rattle.thin_path.specs.Flow as spec;
-ghost use Rattle.thin_path.specs.Runs.{GivesCode, IfCode};
+ghost use Rattle.thin_path.specs.Runs.{Fits, GivesCode};
 
 use crate::document::{Argument, Command, Hole};
 use crate::run::{Bind, EvalFault};
@@ -27,38 +27,53 @@ pub fn value_of<'a>(name: &Name, binds: &'a [Bind]) -> &'a str
     ""
 }
 
+fn bind_of(alloc: Global, argument: &Argument) -> Result<Bind, NoMemory>
+    ensures { IfOk result (λ b. b ≡ spec.bind_of argument.now) }
+{
+    Ok(Bind {
+        name: argument.name.copy(alloc)?,
+        value: argument.value.copy(alloc)?,
+    })
+}
+
 /// The values of the arguments of a call.
 pub fn given<S: Ledger>(
     alloc: Global,
     arguments: &[Argument],
     steps: &mut Steps<S>,
 ) -> Result<Items<Bind>, NoMemory>
-    ensures value { IfOk result (λ bs. bs ≡ map spec.bind_of arguments.now) }
+    ensures value { IfOk result (λ bs. bs ≡ spec.given arguments.now) }
     ensures cost { steps.new ≤ steps.old + length arguments.now }
 {
     let mut binds = Items::new(alloc);
     for argument in arguments {
         steps.tick();
-        binds.push(Bind {
-            name: argument.name.copy(alloc)?,
-            value: argument.value.copy(alloc)?,
-        })?;
+        let bind = bind_of(alloc, argument)?;
+        binds.push(bind)?;
     }
     Ok(binds)
 }
 
-/// Appends a text, unless the command is then past its limit.
-fn push(command: &mut Text, more: &str) -> Result<(), EvalFault>
+/// Appends a text. It is false where the command is then past its limit.
+fn push(command: &mut Text, more: &str) -> Result<bool, NoMemory>
     requires { has_nul more.now ≡ false }
-    ensures value { OnOk result (command.new ≡ command.old ++ more.now) }
-    ensures within { OnOk result (length command.new ≤ 65536) }
-    ensures refused { IfCode result (65536 < length command.old + length more.now) }
+    ensures value { Fits command.old more.now result command.new }
+    ensures within { result ≡ Ok true → length command.new ≤ 65536 }
 {
     if command.as_str().len() + more.len() > COMMAND_LIMIT {
-        return Err(EvalFault::Code(EvalCode::TooLarge));
+        return Ok(false);
     }
     command.push_str(more)?;
-    Ok(())
+    Ok(true)
+}
+
+fn push_hole(command: &mut Text, binds: &[Bind], hole: &Hole) -> Result<bool, NoMemory>
+    ensures { Fits command.old (spec.hole_filled binds.now hole.now) result command.new }
+{
+    if !push(command, hole.before.as_str())? {
+        return Ok(false);
+    }
+    push(command, value_of(&hole.name, binds))
 }
 
 fn push_holes<S: Ledger>(
@@ -66,17 +81,17 @@ fn push_holes<S: Ledger>(
     binds: &[Bind],
     holes: &[Hole],
     steps: &mut Steps<S>,
-) -> Result<(), EvalFault>
-    ensures value { OnOk result (command.new ≡ command.old ++ spec.holes_filled binds.now holes.now) }
-    ensures refused { IfCode result (65536 < length command.old + length (spec.holes_filled binds.now holes.now)) }
+) -> Result<bool, NoMemory>
+    ensures value { Fits command.old (spec.holes_filled binds.now holes.now) result command.new }
     ensures cost { steps.new ≤ steps.old + length holes.now }
 {
     for hole in holes {
         steps.tick();
-        push(command, hole.before.as_str())?;
-        push(command, value_of(&hole.name, binds))?;
+        if !push_hole(command, binds, hole)? {
+            return Ok(false);
+        }
     }
-    Ok(())
+    Ok(true)
 }
 
 /// The command with the values in place of its placeholders.
@@ -90,7 +105,11 @@ pub fn command_of<S: Ledger>(
     ensures cost { steps.new ≤ steps.old + length command.now.holes }
 {
     let mut text = Text::empty(alloc);
-    push_holes(&mut text, binds, command.holes.as_slice(), steps)?;
-    push(&mut text, command.tail.as_str())?;
+    if !push_holes(&mut text, binds, command.holes.as_slice(), steps)? {
+        return Err(EvalFault::Code(EvalCode::TooLarge));
+    }
+    if !push(&mut text, command.tail.as_str())? {
+        return Err(EvalFault::Code(EvalCode::TooLarge));
+    }
     Ok(text)
 }

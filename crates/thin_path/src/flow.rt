@@ -8,12 +8,12 @@ use crate::ask::asks;
 use crate::document::{Call, Document, Task, Wire};
 use crate::fill::value_of;
 use crate::run::{Bind, CallFault, End, Ran};
-use crate::tell::{place_of, tells};
+use crate::tell::tells;
 use sqlite_items::Items;
-use std::alloc::{Global};
+use std::alloc::Global;
 use std::sync::ledger::Ledger;
 use wdl_port::{LaunchFault, Launcher};
-use wdl_value::{Answer, Entry, NoMemory, Request, Source, Step, Steps, Text};
+use wdl_value::{Answer, Entry, NoMemory, Place, Request, Source, Step, Steps, Text, copy_place};
 
 fn wired<S: Ledger>(
     alloc: Global,
@@ -78,48 +78,43 @@ struct Room {
     settled: Items<Step>,
 }
 
-fn took(alloc: Global, call: &Call) -> Result<Items<Step>, NoMemory>
-    ensures { IfOk result (λ s. s ≡ Took (spec.place_of call.now) ∷ []) }
+fn took(alloc: Global, place: &Place) -> Result<Items<Step>, NoMemory>
+    ensures { IfOk result (λ s. s ≡ Took place.now ∷ []) }
 {
     let mut steps = Items::new(alloc);
-    steps.push(Step::Took(place_of(alloc, call)?))?;
+    steps.push(Step::Took(copy_place(alloc, place)?))?;
     Ok(steps)
 }
 
-fn room_of(alloc: Global, call: &Call) -> Result<Room, NoMemory>
+fn room_of(alloc: Global, place: &Place) -> Result<Room, NoMemory>
     ensures journal { IfOk result (λ r. r.journal.items ≡ []) }
     ensures room { IfOk result (λ r. vec_len r.journal < vec_capacity r.journal) }
-    ensures taken { IfOk result (λ r. r.taken ≡ Took (spec.place_of call.now) ∷ []) }
-    ensures settled { IfOk result (λ r. r.settled ≡ Took (spec.place_of call.now) ∷ Settled (spec.place_of call.now) ∷ []) }
+    ensures taken { IfOk result (λ r. r.taken ≡ Took place.now ∷ []) }
+    ensures settled { IfOk result (λ r. r.settled ≡ Took place.now ∷ Settled place.now ∷ []) }
 {
-    let mut settled = took(alloc, call)?;
-    settled.push(Step::Settled(place_of(alloc, call)?))?;
+    let mut settled = took(alloc, place)?;
+    settled.push(Step::Settled(copy_place(alloc, place)?))?;
     Ok(Room {
         journal: Vec::with_capacity(alloc, 1)?,
-        taken: took(alloc, call)?,
+        taken: took(alloc, place)?,
         settled,
     })
 }
 
 /// The journal of one entry, for which there is room.
-fn journal_of(mut journal: Vec<Entry>, entry: Entry) -> Items<Entry>
+fn journal_of(mut journal: Vec<Entry>, request: Request, answer: Answer) -> Items<Entry>
     requires empty { journal.items ≡ [] }
     requires room { vec_len journal < vec_capacity journal }
-    ensures { result ≡ entry ∷ [] }
+    ensures { result ≡ runs.launched request answer ∷ [] }
 {
-    match journal.push(entry) {
-        Ok(()) => Items::from_vec(journal),
-        Err(_) => unreachable!(),
-    }
-}
-
-fn launched(request: Request, answer: Answer) -> Entry
-    ensures { result ≡ runs.launched request answer }
-{
-    Entry {
+    let entry = Entry {
         request,
         answer,
         source: Source::Launched,
+    };
+    match journal.push(entry) {
+        Ok(()) => Items::from_vec(journal),
+        Err(_) => unreachable!(),
     }
 }
 
@@ -136,31 +131,26 @@ fn run_request<L: Launcher, S: Ledger>(
     ensures value { runs.RunsRequest (L.gives launcher.now) (L.refuses launcher.now) request task.now call.now wires.now result }
     ensures cost { steps.new ≤ steps.old + length task.now.outputs + length wires.now }
 {
-    let Ok(room) = room_of(alloc, call) else {
+    let Ok(room) = room_of(alloc, &request.place) else {
         return idle(alloc, End::NoMemory);
     };
-    let Room {
-        journal,
-        taken,
-        settled,
-    } = room;
     match launcher.launch(alloc, &request) {
         Ok(answer) => {
             let end = conclude(alloc, task, call, wires, &answer, steps);
             Ran {
-                journal: journal_of(journal, launched(request, answer)),
-                steps: settled,
+                journal: journal_of(room.journal, request, answer),
+                steps: room.settled,
                 end,
             }
         }
         Err(LaunchFault::Refused) => Ran {
             journal: Items::new(alloc),
-            steps: taken,
+            steps: room.taken,
             end: End::Launch(request.place),
         },
         Err(LaunchFault::NoMemory) => Ran {
             journal: Items::new(alloc),
-            steps: taken,
+            steps: room.taken,
             end: End::NoMemory,
         },
     }
@@ -185,6 +175,17 @@ fn run_call<L: Launcher, S: Ledger>(
     }
 }
 
+/// A run without a call.
+fn run_idle<S: Ledger>(alloc: Global, wires: &[Wire], steps: &mut Steps<S>) -> Ran
+    ensures value { runs.Idles wires.now result }
+    ensures cost { steps.new ≤ steps.old + length wires.now }
+{
+    match wired(alloc, &[], wires, steps) {
+        Ok(outputs) => idle(alloc, End::Done(outputs)),
+        Err(_) => idle(alloc, End::NoMemory),
+    }
+}
+
 /// Runs the flow of a document below the directory `site`: launches its job and settles the answer.
 ///
 /// The end is that of the flow over the journal, whose entries are answers that the launcher gives for jobs of the
@@ -200,11 +201,11 @@ pub fn run_flow<L: Launcher, S: Ledger>(
     ensures cost { steps.new ≤ steps.old + spec.cost document.now }
 {
     let wires = document.flow.wires.as_slice();
-    match (&document.task, &document.flow.call) {
-        (Some(task), Some(call)) => run_call(alloc, site, task, call, wires, launcher, steps),
-        _ => match wired(alloc, &[], wires, steps) {
-            Ok(outputs) => idle(alloc, End::Done(outputs)),
-            Err(_) => idle(alloc, End::NoMemory),
+    match &document.task {
+        Some(task) => match &document.flow.call {
+            Some(call) => run_call(alloc, site, task, call, wires, launcher, steps),
+            None => run_idle(alloc, wires, steps),
         },
+        None => run_idle(alloc, wires, steps),
     }
 }

@@ -23,7 +23,7 @@ fn task(alloc: Global, tokens: &mut Tokens<'_>) -> Result<Task, Stop>
     let command = command(alloc, tokens)?;
     tokens.keyword(b"output")?;
     tokens.mark(b'{')?;
-    let outputs = items(alloc, tokens, Items::new(alloc))?;
+    let outputs = items(alloc, tokens)?;
     tokens.mark(b'}')?;
     Ok(Task {
         name,
@@ -49,9 +49,12 @@ fn arguments(alloc: Global, tokens: &mut Tokens<'_>) -> Result<Items<Argument>, 
 {
     tokens.keyword(b"input")?;
     tokens.mark(b':')?;
-    let mut first = Items::new(alloc);
-    first.push(argument(alloc, tokens)?)?;
-    items(alloc, tokens, first)
+    let first = argument(alloc, tokens)?;
+    let more = items(alloc, tokens)?;
+    let mut arguments = Items::new(alloc);
+    arguments.push(first)?;
+    arguments.append(more)?;
+    Ok(arguments)
 }
 
 fn alias(alloc: Global, tokens: &mut Tokens<'_>, task: &Name) -> Result<Name, Stop>
@@ -117,6 +120,16 @@ fn version(tokens: &mut Tokens<'_>) -> Result<(), Stop>
     tokens.word(b"1")
 }
 
+/// The document, if nothing is left.
+fn whole(document: Document, rest: &[u8]) -> Result<Document, Stop>
+    ensures { Gives (spec.whole document rest.now) result }
+{
+    match rest {
+        [] => Ok(document),
+        [..] => Err(Stop::NotBuilt),
+    }
+}
+
 /// The document of these bytes, whose names may be anything.
 pub fn document(alloc: Global, bytes: &[u8]) -> Result<Document, Stop>
     ensures { Gives (spec.document bytes.now) result }
@@ -126,8 +139,5 @@ pub fn document(alloc: Global, bytes: &[u8]) -> Result<Document, Stop>
     let task = tasks(alloc, &mut tokens)?;
     let flow = flow(alloc, &mut tokens)?;
     tokens.skip();
-    match tokens.rest() {
-        [] => Ok(Document { task, flow }),
-        [..] => Err(Stop::NotBuilt),
-    }
+    whole(Document { task, flow }, tokens.rest())
 }

@@ -1,4 +1,4 @@
-#![tactic(auto, using(std::proofs::lemmas::Grind::common_steps), unfolding(crate::specs::Reading::then_, crate::specs::Reading::on, crate::specs::Reading::chosen, crate::specs::Reading::after, crate::specs::Reading::section, crate::specs::Reading::input, crate::specs::Reading::standard_output, crate::specs::Reading::output, crate::specs::Reading::text, crate::specs::Reading::argument, crate::specs::Reading::next_argument, crate::specs::Reading::wire))]
+#![tactic(auto, using(std::proofs::lemmas::Grind::common_steps), unfolding(crate::specs::Reading::then_, crate::specs::Reading::on, crate::specs::Reading::chosen, crate::specs::Reading::section, crate::specs::Reading::input, crate::specs::Reading::standard_output, crate::specs::Reading::output, crate::specs::Reading::text, crate::specs::Reading::argument, crate::specs::Reading::next_argument, crate::specs::Reading::wire))]
 
 ghost use Rattle.std.specs.Prelude.{◌≡◌, ℕ, List, Option};
 ghost use Rattle.thin_path.specs.Reading as spec;
@@ -94,15 +94,11 @@ impl Item for Wire {
     }
 }
 
-/// These items, and those up to the closing brace.
-pub fn items<T: Item>(
-    alloc: Global,
-    tokens: &mut Tokens<'_>,
-    first: Items<T>,
-) -> Result<Items<T>, Stop>
-    ensures { Reads (spec.after first (spec.items T.reads tokens.old)) result tokens.new }
+/// The items up to the closing brace.
+pub fn items<T: Item>(alloc: Global, tokens: &mut Tokens<'_>) -> Result<Items<T>, Stop>
+    ensures { Reads (spec.items T.reads tokens.old) result tokens.new }
 {
-    let mut done = first;
+    let mut done = Items::new(alloc);
     for _turn in 0..tokens.len() {
         if tokens.tries_mark(b'}') {
             return Ok(done);
@@ -123,7 +119,7 @@ pub fn section<T: Item>(
 {
     if tokens.tries_keyword(word) {
         tokens.mark(b'{')?;
-        return items(alloc, tokens, Items::new(alloc));
+        return items(alloc, tokens);
     }
     Ok(Items::new(alloc))
 }

@@ -14,12 +14,12 @@ mod run;
 mod sound;
 mod stop;
 mod tell;
+#[cfg(test)]
+mod tests;
 mod tokens;
 mod words;
 
-pub use document::{
-    Argument, Call, Command, Document, Flow, Hole, Input, Output, Task, Wire,
-};
+pub use document::{Argument, Call, Command, Document, Flow, Hole, Input, Output, Task, Wire};
 pub use flow::run_flow;
 pub use outputs::outputs_text;
 pub use read::read_document;

@@ -63,6 +63,7 @@ fn hole(alloc: Global, tokens: &mut Tokens<'_>) -> Result<Piece, Stop>
     Ok(Piece::Hole(name))
 }
 
+#[tactic(auto, unfolding(crate::specs::Reading::piece))]
 fn next_piece(alloc: Global, tokens: &mut Tokens<'_>) -> Result<Piece, Stop>
     ensures value { Reads (spec.piece tokens.old) result tokens.new }
     ensures plain { IfOk result IsPlain }

@@ -8,7 +8,9 @@ use crate::run::{Bind, CallFault, EvalFault};
 use sqlite_items::Items;
 use std::alloc::Global;
 use std::sync::ledger::Ledger;
-use wdl_value::{Answer, Body, EvalCode, Fault, Name, NoMemory, Place, Segment, Steps, Text, TextFault, Why};
+use wdl_value::{
+    Answer, Body, EvalCode, Fault, Name, NoMemory, Place, Segment, Steps, Text, TextFault, Why,
+};
 
 pub fn place_of(alloc: Global, call: &Call) -> Result<Place, NoMemory>
     ensures { IfOk result (λ p. p ≡ spec.place_of call.now) }
@@ -48,16 +50,17 @@ fn trimmed(bytes: &[u8]) -> &[u8]
     rest
 }
 
+#[tactic(auto, using(crate::proofs::Texts::text_is, crate::proofs::Texts::not_utf8, crate::proofs::Texts::not_plain))]
 fn text_of(alloc: Global, bytes: &[u8]) -> Result<Text, EvalFault>
     ensures { GivesCode (spec.text_of bytes.now) result }
 {
-    let Ok(text) = str::from_utf8(bytes) else {
-        return Err(EvalFault::Code(EvalCode::NotText));
-    };
-    match Text::new(alloc, text) {
-        Ok(text) => Ok(text),
-        Err(TextFault::Nul) => Err(EvalFault::Code(EvalCode::NotText)),
-        Err(TextFault::NoMemory) => Err(EvalFault::NoMemory),
+    match str::from_utf8(bytes) {
+        Err(_) => Err(EvalFault::Code(EvalCode::NotText)),
+        Ok(text) => match Text::new(alloc, text) {
+            Ok(text) => Ok(text),
+            Err(TextFault::Nul) => Err(EvalFault::Code(EvalCode::NotText)),
+            Err(TextFault::NoMemory) => Err(EvalFault::NoMemory),
+        },
     }
 }
 

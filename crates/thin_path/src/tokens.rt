@@ -48,47 +48,93 @@ fn is_char(b: u8) -> bool
     is_printable(b) && !(b == b'"' || b == b'\\' || b == b'~' || b == b'$')
 }
 
-fn blanks(bytes: &[u8]) -> usize
-    ensures value { result ≡ prefix_len spec.is_blank bytes.now }
-    ensures within { result ≤ length bytes.now }
+/// What is behind the blank space.
+fn past_blanks(bytes: &[u8]) -> &[u8]
+    ensures { result.now ≡ spec.past spec.is_blank bytes.now }
 {
-    bytes.iter().take_while(|b| is_blank(**b)).count()
+    let mut rest = bytes;
+    while let [first, more @ ..] = rest {
+        if !is_blank(*first) {
+            return rest;
+        }
+        rest = more;
+    }
+    rest
 }
 
-fn spaces(bytes: &[u8]) -> usize
-    ensures value { result ≡ prefix_len spec.is_space bytes.now }
-    ensures within { result ≤ length bytes.now }
+/// What is behind the blanks.
+fn past_spaces(bytes: &[u8]) -> &[u8]
+    ensures { result.now ≡ spec.past spec.is_space bytes.now }
 {
-    bytes.iter().take_while(|b| **b == b' ').count()
+    let mut rest = bytes;
+    while let [first, more @ ..] = rest {
+        if *first != b' ' {
+            return rest;
+        }
+        rest = more;
+    }
+    rest
 }
 
-fn word_bytes(bytes: &[u8]) -> usize
+/// What is behind the characters of a text.
+fn past_chars(bytes: &[u8]) -> &[u8]
+    ensures { result.now ≡ spec.past spec.is_char bytes.now }
+{
+    let mut rest = bytes;
+    while let [first, more @ ..] = rest {
+        if !is_char(*first) {
+            return rest;
+        }
+        rest = more;
+    }
+    rest
+}
+
+/// The characters of a text, as many as stand here.
+fn chars_of(alloc: Global, bytes: &[u8]) -> Result<Text, NoMemory>
+    ensures { IfOk result (λ t. t ≡ spec.front spec.is_char bytes.now) }
+{
+    let mut text = Text::empty(alloc);
+    for byte in bytes {
+        if !is_char(*byte) {
+            return Ok(text);
+        }
+        text.push_ascii(*byte)?;
+    }
+    Ok(text)
+}
+
+fn word_len(bytes: &[u8]) -> usize
     ensures value { result ≡ prefix_len spec.is_word_byte bytes.now }
     ensures within { result ≤ length bytes.now }
 {
     bytes.iter().take_while(|b| is_word_byte(**b)).count()
 }
 
-fn chars(bytes: &[u8]) -> usize
-    ensures value { result ≡ prefix_len spec.is_char bytes.now }
-    ensures within { result ≤ length bytes.now }
+#[tactic(auto, using(crate::proofs::Fronts::front_at, crate::proofs::Fronts::past_at))]
+/// The longest word, and what is behind it.
+fn word_of(bytes: &[u8]) -> (&[u8], &[u8])
+    ensures front { result.0.now ≡ spec.front spec.is_word_byte bytes.now }
+    ensures back { result.1.now ≡ spec.past spec.is_word_byte bytes.now }
 {
-    bytes.iter().take_while(|b| is_char(**b)).count()
+    let len = word_len(bytes);
+    bytes.split_at(len)
 }
 
+#[tactic(auto, using(crate::proofs::Fronts::not_a_name))]
 /// The name of these bytes. It is refused as `NotBuilt` exactly where they are none.
 fn name_of(alloc: Global, bytes: &[u8]) -> Result<Name, Stop>
     ensures value { IfOk result (λ n. n ≡ bytes.now) }
     ensures named { OnOk result (is_name bytes.now ≡ true) }
     ensures refused { IsErrOf result StopNotBuilt → is_name bytes.now ≡ false }
 {
-    let Ok(text) = str::from_utf8(bytes) else {
-        return Err(Stop::NotBuilt);
-    };
-    match Name::new(alloc, text) {
-        Ok(name) => Ok(name),
-        Err(NameFault::NotAName) => Err(Stop::NotBuilt),
-        Err(NameFault::NoMemory) => Err(Stop::NoMemory),
+    match str::from_utf8(bytes) {
+        Err(_) => Err(Stop::NotBuilt),
+        Ok(text) => match Name::new(alloc, text) {
+            Ok(name) => Ok(name),
+            Err(NameFault::NotAName) => Err(Stop::NotBuilt),
+            Err(NameFault::NoMemory) => Err(Stop::NoMemory),
+        },
     }
 }
 
@@ -115,16 +161,14 @@ impl<'a> Tokens<'a> {
     pub fn skip(&mut self)
         ensures { self.new ≡ spec.past spec.is_blank self.old }
     {
-        let (_, rest) = self.rest.split_at(blanks(self.rest));
-        self.rest = rest;
+        self.rest = past_blanks(self.rest);
     }
 
     /// Passes over blanks.
     pub fn skip_spaces(&mut self)
         ensures { self.new ≡ spec.past spec.is_space self.old }
     {
-        let (_, rest) = self.rest.split_at(spaces(self.rest));
-        self.rest = rest;
+        self.rest = past_spaces(self.rest);
     }
 
     /// Passes over this byte where it is next, and says whether it was.
@@ -154,7 +198,7 @@ impl<'a> Tokens<'a> {
     pub fn tries_word(&mut self, word: &[u8]) -> bool
         ensures { Tries (spec.word word.now self.old) result self.old self.new }
     {
-        let (front, rest) = self.rest.split_at(word_bytes(self.rest));
+        let (front, rest) = word_of(self.rest);
         if front == word {
             self.rest = rest;
             true
@@ -176,7 +220,7 @@ impl<'a> Tokens<'a> {
     pub fn name_here(&mut self, alloc: Global) -> Result<Name, Stop>
         ensures { Reads (spec.name_here self.old) result self.new }
     {
-        let (front, rest) = self.rest.split_at(word_bytes(self.rest));
+        let (front, rest) = word_of(self.rest);
         let name = name_of(alloc, front)?;
         self.rest = rest;
         Ok(name)
@@ -187,14 +231,8 @@ impl<'a> Tokens<'a> {
         ensures value { IfOk result (λ t. t ≡ spec.front spec.is_char self.old) }
         ensures rest { OnOk result (self.new ≡ spec.past spec.is_char self.old) }
     {
-        let mut text = Text::empty(alloc);
-        while let [first, rest @ ..] = self.rest {
-            if !is_char(*first) {
-                return Ok(text);
-            }
-            text.push_ascii(*first)?;
-            self.rest = rest;
-        }
+        let text = chars_of(alloc, self.rest)?;
+        self.rest = past_chars(self.rest);
         Ok(text)
     }
 

@@ -32,6 +32,6 @@ one_place [] [] h = refl
 one_place [] (y ∷ ys) h = grind arith
 one_place (x ∷ xs) [] h = grind arith
 one_place (x ∷ xs) (y ∷ ys) h =
-  let e = one_segment x y (grind arith) in
-  let es = one_place xs ys (grind arith) in
-  grind (arith, e, es)
+    let e = one_segment x y (grind arith) in
+    let es = one_place xs ys (grind arith) in
+    grind (arith, e, es)

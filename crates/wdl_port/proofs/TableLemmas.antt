@@ -32,26 +32,26 @@ from_first : (n : ℕ) (r : TableRow) (rs : List TableRow) (p : List Segment) (k
     → (first_at (n + 1) rs (place_text p) ≡ Some i → (n + 1 ≤ i) × (answer_of (drop (i - (n + 1)) rs) p k ≡ answer_of rs p k))
     → (n ≤ i) × (answer_of (drop (i - n) (r ∷ rs)) p k ≡ answer_of (r ∷ rs) p k)
 from_first n r rs p k i true e h more =
-  let at : n ≡ i = grind (arith, e, h) in
-  let none : i - n ≡ 0 = omega arith in
-  (omega arith, ap (λ m. answer_of (drop m (r ∷ rs)) p k) none)
+    let at : n ≡ i = grind (arith, e, h) in
+    let none : i - n ≡ 0 = omega arith in
+    (omega arith, ap (λ m. answer_of (drop m (r ∷ rs)) p k) none)
 from_first n r rs p k i false e h more =
-  let rest = more (grind (arith, e, h)) in
-  let below : n + 1 ≤ i = rest.0 in
-  (omega arith, ap (λ xs. answer_of xs p k) (next_row n i r rs below) ∙ rest.1 ∙ sym (skip r rs p k e))
+    let rest = more (grind (arith, e, h)) in
+    let below : n + 1 ≤ i = rest.0 in
+    (omega arith, ap (λ xs. answer_of xs p k) (next_row n i r rs below) ∙ rest.1 ∙ sym (skip r rs p k e))
 
 pub from_row : (n : ℕ) (rs : List TableRow) (p : List Segment) (k i : ℕ) → first_at n rs (place_text p) ≡ Some i
     → (n ≤ i) × (answer_of (drop (i - n) rs) p k ≡ answer_of rs p k)
 from_row n [] p k i h = grind arith
 from_row n (r ∷ rs) p k i h =
-  from_first n r rs p k i (bytes_eq (place_text r.place) (place_text p)) refl h (λ more. from_row (n + 1) rs p k i more)
+    from_first n r rs p k i (bytes_eq (place_text r.place) (place_text p)) refl h (λ more. from_row (n + 1) rs p k i more)
 
 -- one row more at the front
 pub earlier : (rs : List TableRow) (i : ℕ) (r : TableRow) (text : List ℕ) (o p : Option ℕ) → 0 < i → i ≤ length rs → r ≡ get_or rs (i - 1) r
     → p ≡ first_at i (drop i rs) text → o ≡ cond (bytes_eq (place_text r.place) text) (Some (i - 1)) p
     → o ≡ first_at (i - 1) (drop (i - 1) rs) text
 earlier rs i r text o p some within is was now =
-  let back : suc (i - 1) ≡ i = omega arith in
-  let up : i ≡ i - 1 + 1 = omega arith in
-  let front : drop (i - 1) rs ≡ r ∷ drop i rs = drop-cons rs (i - 1) r (omega arith) ∙ ap (λ x. x ∷ drop (suc (i - 1)) rs) (sym is) ∙ ap (λ m. r ∷ drop m rs) back in
-  now ∙ ap (λ x. cond (bytes_eq (place_text r.place) text) (Some (i - 1)) x) (was ∙ ap (λ m. first_at m (drop i rs) text) up) ∙ sym (ap (λ xs. first_at (i - 1) xs text) front)
+    let back : suc (i - 1) ≡ i = omega arith in
+    let up : i ≡ i - 1 + 1 = omega arith in
+    let front : drop (i - 1) rs ≡ r ∷ drop i rs = drop-cons rs (i - 1) r (omega arith) ∙ ap (λ x. x ∷ drop (suc (i - 1)) rs) (sym is) ∙ ap (λ m. r ∷ drop m rs) back in
+    now ∙ ap (λ x. cond (bytes_eq (place_text r.place) text) (Some (i - 1)) x) (was ∙ ap (λ m. first_at m (drop i rs) text) up) ∙ sym (ap (λ xs. first_at (i - 1) xs text) front)

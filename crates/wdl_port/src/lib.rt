@@ -15,6 +15,8 @@ mod shelf;
 mod sink;
 mod table_launcher;
 mod table_row;
+#[cfg(test)]
+mod tests;
 
 pub use fault::{KeepFault, LaunchFault, ReadFault, WriteFault};
 pub use keeper::Keeper;
@@ -23,6 +25,7 @@ pub use map_keeper::MapKeeper;
 pub use memory_shelf::{MemoryShelf, PathFile, front, read_limit};
 pub use memory_sink::MemorySink;
 pub use no_keeper::NoKeeper;
+pub use row::rises;
 pub use shelf::Shelf;
 pub use sink::Sink;
 pub use table_launcher::TableLauncher;

@@ -1,8 +1,8 @@
 ghost use Rattle.std.specs.Prelude.{◌≡◌, IfOk, OnOk, OnErr};
 ghost use Rattle.std.specs.Cmp.Lexicographic.{slice_cmp};
-ghost use Rattle.std.specs.Ordering.{nat_cmp, ordering_then};
+ghost use Rattle.std.specs.Ordering.{is_lt, nat_cmp, ordering_then};
 ghost use Rattle.wdl_value.specs.Places.{place_text as spec_text};
-ghost use Rattle.wdl_port.specs.Rows.{kept_row, put_row as spec_put};
+ghost use Rattle.wdl_port.specs.Rows.{kept_row, put_row as spec_put, rises as spec_rises, row_order};
 ghost use Rattle.wdl_port.specs.Spots.{IsSpot};
 
 use sqlite_items::Items;
@@ -79,4 +79,29 @@ pub(crate) fn put_row(alloc: Global, row: Entry, rows: &mut Vec<Entry>) -> Resul
         Spot::Before(at) => rows.insert(at, row)?,
     }
     Ok(())
+}
+
+/// Whether the first row is before the next.
+fn is_before(alloc: Global, row: &Entry, next: &Entry) -> Result<bool, NoMemory>
+    ensures { IfOk result (λ b. b ≡ is_lt (row_order row.now next.now)) }
+{
+    let place = place_text(alloc, &row.request.place)?;
+    Ok(order_of(alloc, &place, row.request.attempt, &next.request)?.is_lt())
+}
+
+/// Whether the rows strictly rise, by the texts of their places and then by their attempts.
+pub fn rises(alloc: Global, rows: &[Entry]) -> Result<bool, NoMemory>
+    ensures value { IfOk result (λ b. b ≡ spec_rises rows.now) }
+{
+    let mut rest = rows;
+    while let [row, more @ ..] = rest {
+        let [next, ..] = more else {
+            return Ok(true);
+        };
+        if !is_before(alloc, row, next)? {
+            return Ok(false);
+        }
+        rest = more;
+    }
+    Ok(true)
 }

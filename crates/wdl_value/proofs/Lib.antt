@@ -1,1 +1,3 @@
 pub mod PlainLemmas
+mod ValueTextLemmas
+pub mod PlaceLemmas

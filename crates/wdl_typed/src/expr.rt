@@ -1,0 +1,61 @@
+use sqlite_items::{Boxed, Items};
+use wdl_value::{Func, Key, Name, Op, Text, Ty, Value};
+
+/// A row of a map literal.
+#[derive(Debug, Drop)]
+pub struct TPair<E> {
+    pub key: E,
+    pub value: E,
+}
+
+/// A member of a struct literal, or an argument of a call.
+#[derive(Debug, Drop)]
+pub struct TField<E> {
+    pub name: Name,
+    pub value: E,
+}
+
+/// How a placeholder prints its value: as it is, the items of an array joined, one of two texts for a Boolean, or a text
+/// in the place of an undefined value (OpenWDL 1.1, "Expression Placeholder Options").
+#[derive(Debug, Drop)]
+pub enum Choice {
+    Plain,
+    Sep(Text),
+    Both { yes: Text, no: Text },
+    Default(Text),
+}
+
+/// A placeholder.
+#[derive(Debug, Drop)]
+pub struct THole<E> {
+    pub expr: E,
+    pub choice: Choice,
+}
+
+/// A piece of a string or of a command.
+#[derive(Debug, Drop)]
+pub enum TPart<E> {
+    Chars(Text),
+    Hole(THole<E>),
+}
+
+/// A typed expression (OpenWDL 1.1, "Expressions"). Each coercion is written out as a `Cast`; parentheses and `+` before
+/// one Int leave no node; a string without a placeholder is a `Lit`.
+#[derive(Debug, Drop)]
+pub enum TExpr {
+    Lit(Value),
+    Get(Key),
+    Member(Boxed<TExpr>, Name),
+    At(Boxed<TExpr>, Boxed<TExpr>),
+    Not(Boxed<TExpr>),
+    Neg(Boxed<TExpr>),
+    Binary(Op, Boxed<TExpr>, Boxed<TExpr>),
+    Choose(Boxed<TExpr>, Boxed<TExpr>, Boxed<TExpr>),
+    ListOf(Items<TExpr>),
+    MapOf(Items<TPair<TExpr>>),
+    PairOf(Boxed<TExpr>, Boxed<TExpr>),
+    StructOf(Name, Items<TField<TExpr>>),
+    Apply(Func, Items<TExpr>),
+    Strung(Items<TPart<TExpr>>),
+    Cast(Boxed<TExpr>, Ty),
+}

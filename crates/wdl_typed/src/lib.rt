@@ -1,0 +1,10 @@
+//! Typed trees: what the checker makes of a library, and what the runner and the translator read.
+#![tactic(auto)]
+
+mod expr;
+mod flow;
+mod task;
+
+pub use expr::{Choice, TExpr, TField, THole, TPair, TPart};
+pub use flow::{FlowDef, Statement, TCall, TIf, TScatter, Target};
+pub use task::{TCodes, TDecl, TInput, TaskDef};
