@@ -1,4 +1,4 @@
-mod PlainLemmas
+pub mod PlainLemmas
 mod ValueTextLemmas
 pub mod PlaceLemmas
 pub mod ValueLayers

@@ -1,0 +1,77 @@
+//! The program `wdl`: it makes the real objects and calls `workflow`, which does the rest.
+#![tactic(auto)]
+
+ghost use Rattle.std.specs.Prelude.{◌≡◌, ◌<◌, None};
+
+use job_launcher::ShellLauncher;
+use report_text::{Status, no_memory_line, number_of};
+use std::alloc::Global;
+use std::env;
+use std::env::Env;
+use std::io::ErrorKind;
+use std::marker::Brand;
+use std::process::ExitCode;
+use std::sync::ledger::{Blank, Ledger};
+use wdl_port::{Keeper, Launcher, NoKeeper, Shelf, Sink};
+use wdl_value::{NoMemory, Steps};
+use workflow_cli::{FileShelf, StreamSink, workflow};
+
+/// The words after the program's name. Where they are no text there are none, which has no reading.
+fn words<R: Env + AllocGlobal>(rt: &R) -> Result<Vec<String>, NoMemory> {
+    let mut words = Vec::new(rt.alloc());
+    match env::args(rt) {
+        Ok(all) => {
+            for word in all.skip(1) {
+                words.push(word)?;
+            }
+        }
+        Err(e) if e.kind() == ErrorKind::OutOfMemory => return Err(NoMemory),
+        Err(_) => {}
+    }
+    Ok(words)
+}
+
+/// Makes the top call with a count of steps that nobody reads, and gives the number of its status.
+fn number<F: Shelf, O: Sink, E: Sink, L: Launcher + Sync, K: Keeper, S: Ledger>(
+    alloc: Global,
+    words: &[String],
+    shelf: &mut F,
+    out: &mut O,
+    err: &mut E,
+    launcher: &L,
+    keeper: &mut K,
+    blank: Blank,
+) -> u8
+    requires keeper { K.path keeper.old ≡ None }
+    requires name { blank.name ≡ S.name }
+    requires parts { blank.parts ≡ S.parts }
+    requires some { 0 < blank.parts }
+{
+    let mut steps: Steps<S> = Steps::start(blank);
+    let ended = workflow(alloc, words, shelf, out, err, launcher, keeper, &mut steps);
+    number_of(&ended.status)
+}
+
+fn main(rt: HostRuntime) -> ExitCode {
+    let alloc: Global = rt.alloc();
+    let mut err = StreamSink::new(rt.stderr());
+    let Ok(words) = words(&rt) else {
+        let _ = err.write(no_memory_line().as_bytes());
+        return ExitCode::from(number_of(&Status::NoMemory));
+    };
+    let mut shelf = FileShelf::new(&rt);
+    let mut out = StreamSink::new(rt.stdout());
+    let launcher = ShellLauncher::new(&rt);
+    let mut keeper = NoKeeper::new();
+    let number = number::<_, _, _, _, _, Brand>(
+        alloc,
+        words.as_slice(),
+        &mut shelf,
+        &mut out,
+        &mut err,
+        &launcher,
+        &mut keeper,
+        Blank::new(1),
+    );
+    ExitCode::from(number)
+}

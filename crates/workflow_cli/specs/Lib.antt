@@ -1,0 +1,4 @@
+pub mod Causes
+pub mod Writing
+pub mod Complete
+pub mod Counting

@@ -1,0 +1,19 @@
+//! All that the program does, from the words of its command line to what it writes, and the real files and streams.
+#![tactic(auto)]
+
+mod counting;
+mod ended;
+mod file_shelf;
+mod finish;
+mod stream_sink;
+mod top;
+mod work;
+mod writing;
+
+pub use ended::Ended;
+pub use file_shelf::FileShelf;
+pub use stream_sink::StreamSink;
+pub use top::workflow;
+
+#[cfg(test)]
+mod tests;
