@@ -61,17 +61,17 @@ expect "an empty document" 12 '' 'not built yet\n' run empty.wdl
 document quoted.wdl 's/echo ~{s}/printf "a\\"b\\tc\\nd"/'
 expect "characters that JSON escapes" 0 '{"w.r":"a\\"b\\tc\\nd"}\n' '' run quoted.wdl
 
+# The directory of the job holds what its command left.
+if [ "$(cat /tmp/wdl-run/say/_stdout)" = "$(printf 'a"b\tc\nd')" ]; then passed=$((passed + 1)); else
+  failed=$((failed + 1)); echo "FAILED the directory of a job"
+fi
+
 if [ -w /dev/full ]; then
   "$top/wdl" run "$top/examples/hello.wdl" >/dev/full 2>err
   got=$?
   if [ "$got" = 6 ] && [ "$(cat err)" = "cannot write" ]; then passed=$((passed + 1)); else
     failed=$((failed + 1)); echo "FAILED a full device: status $got"; cat err
   fi
-fi
-
-# The directory of the job holds what its command left.
-if [ "$(cat /tmp/wdl-run/say/_stdout)" = "$(printf 'a"b\tc\nd')" ]; then passed=$((passed + 1)); else
-  failed=$((failed + 1)); echo "FAILED the directory of a job"
 fi
 
 echo "$passed passed, $failed failed"
