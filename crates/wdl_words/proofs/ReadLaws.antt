@@ -1,0 +1,14 @@
+-- What a reading says of a result.
+use Rattle.std.proofs.Common.{◌≡◌, Option, Some, None, Result, Ok, Err, IfOk, IsErrOf, refl}
+use Rattle.wdl_words.specs.Faults.{Misses, Reads}
+use Rattle.wdl_words.specs.declared.error.WordFault.{WordFault}
+use Rattle.wdl_words.specs.declared.error.WordFault.TheVariants.{Usage, NoMemory}
+
+pub read_value : {T : Type 0} (o : Option T) (r : Result T WordFault) → Reads o r → IfOk r (λ v. o ≡ Some v)
+read_value o (Ok v) h = h
+read_value o (Err e) h = tt
+
+pub read_usage : {T : Type 0} (o : Option T) (r : Result T WordFault) → Reads o r → IsErrOf r Usage → o ≡ None
+read_usage o (Ok v) h e = cc
+read_usage o (Err Usage) h e = h
+read_usage o (Err NoMemory) h e = cc
