@@ -5,3 +5,4 @@ pub mod Answers
 pub mod Places
 pub mod Same
 pub mod SameType
+pub mod Templates

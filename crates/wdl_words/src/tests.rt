@@ -150,7 +150,8 @@ fn other_words_are_refused(rt: HostRuntime) -> Result<(), Fail> {
         "help",
         "--help",
     ];
-    assert!(rt; read_words(alloc, [].as_slice()).is_err());
+    let none: Vec<String> = Vec::new(alloc);
+    assert!(rt; read_words(alloc, none.as_slice()).is_err());
     for words in refused {
         match read_words(alloc, words_of(alloc, words)?.as_slice()) {
             Err(WordFault::Usage) => {}
