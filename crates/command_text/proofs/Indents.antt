@@ -1,11 +1,11 @@
 -- The indent that lines have in common.
-use Rattle.std.proofs.Common.{◌≡◌, ◌∙◌, sym, ap, ℕ, zero, suc, ◌+◌, ◌<◌, ◌≤◌, ◌==◌, min, Bool, true, false, not, cond, List, [], ◌∷◌, ◌++◌, length, map, take, drop, get_or, Bor, refl, arith}
-use Rattle.std.specs.List.{All, common_prefix_len, filter, fold, prefix_len}
+use Rattle.std.proofs.Common.{◌≡◌, ◌∙◌, sym, ap, ℕ, ◌+◌, ◌<◌, ◌≤◌, ◌==◌, min, Bool, true, false, cond, List, [], ◌∷◌, length, map, take, drop, get_or, Bor, refl, arith}
+use Rattle.std.specs.List.{All, common_prefix_len, filter, fold}
 use Rattle.std.proofs.lemmas.List.{length-take, length-drop, at_drop_more}
 use Rattle.std.proofs.lemmas.List.Elements.{All-nil, All-cons}
 use Rattle.std.proofs.lemmas.List.Folds.{length-prefix_len}
 use Rattle.std.proofs.lemmas.List.Sums.{common_prefix_len-le}
-use Rattle.wdl_value.specs.Templates.{common, common_indent, indent, is_blank_line, is_indent, is_written, longest_common}
+use Rattle.wdl_value.specs.Templates.{common, common_indent, indent, is_blank_line, is_indent, is_written}
 use Rattle.command_text.specs.Marks.{Fits}
 
 common_le : (left right : List ℕ) → (length (common left right) ≤ length left) × (length (common left right) ≤ length right)

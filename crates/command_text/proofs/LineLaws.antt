@@ -1,6 +1,6 @@
 -- What the dedent rule keeps of a text, and where lines may be cut.
-use Rattle.std.proofs.Common.{◌≡◌, ◌∙◌, sym, ap, ap₂, subst, ℕ, zero, suc, ◌+◌, ◌-◌, ◌<◌, ◌≤◌, ◌==◌, ◌&&◌, ◌||◌, Bool, true, false, not, true≢false, cond, List, [], ◌∷◌, ◌++◌, length, map, reverse, take, drop, get_or, Bor, Some, None, ◌≢◌, refl, arith, add-one, append-nil, zero-add}
-use Rattle.std.specs.List.{All, join_with_byte, list_all, prefix_len, slice_split, sum_by}
+use Rattle.std.proofs.Common.{◌≡◌, ◌∙◌, sym, ap, ap₂, subst, ℕ, zero, suc, ◌+◌, ◌-◌, ◌<◌, ◌≤◌, ◌==◌, ◌&&◌, Bool, true, false, true≢false, List, [], ◌∷◌, ◌++◌, length, map, reverse, take, drop, get_or, Bor, Some, None, ◌≢◌, refl, arith, add-one, append-nil, zero-add}
+use Rattle.std.specs.List.{All, join_with_byte, prefix_len, sum_by}
 use Rattle.std.specs.Str.{IsCharBoundary, IsUtf8}
 use Rattle.std.proofs.lemmas.Bool.Decides.{nat_tests}
 use Rattle.std.proofs.lemmas.List.{get_or-map, length-map, reverse-append}
@@ -14,7 +14,7 @@ use Rattle.wdl_value.specs.Plain.{has_nul}
 use Rattle.wdl_value.specs.Templates.{common_indent, cut, dedented_lines, dedented_text, is_blank, is_blank_line, is_indent, lines, without_first, without_last}
 use Rattle.command_text.specs.Marks.{Fits, led, zeros}
 use Rattle.command_text.proofs.Indents.{common_fits}
-use Rattle.command_text.proofs.Zeros.{more_zeros, plain_zeros, rest_zeros, zeros-append}
+use Rattle.command_text.proofs.Zeros.{rest_zeros, zeros-append}
 
 -- ---- a hole and what stands around it
 

@@ -1,5 +1,5 @@
 -- Holes in marked texts.
-use Rattle.std.proofs.Common.{◌≡◌, ◌∙◌, sym, ap, ℕ, zero, suc, ◌+◌, ◌<◌, ◌==◌, ◌||◌, Bool, true, false, true≢false, cond, List, [], ◌∷◌, ◌++◌, length, drop, get_or, subst, ◌≤◌, refl, arith, append-nil, zero-add}
+use Rattle.std.proofs.Common.{◌≡◌, ◌∙◌, sym, ap, ℕ, zero, suc, ◌+◌, ◌<◌, ◌==◌, false, true≢false, cond, List, [], ◌∷◌, ◌++◌, length, drop, get_or, subst, ◌≤◌, refl, arith, append-nil, zero-add}
 use Rattle.std.proofs.lemmas.Bool.Decides.{nat_tests}
 use Rattle.std.proofs.lemmas.List.Sums.{sum_by-append, sum_by-cons}
 use Rattle.std.proofs.lemmas.List.{append_assoc, at_drop_more, length-append, length-drop}

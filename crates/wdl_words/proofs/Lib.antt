@@ -1,3 +1,4 @@
 pub mod Numbers
 pub mod ReadLaws
 pub mod Found
+pub mod Limits

@@ -1,5 +1,5 @@
 -- The reading of the words.
-use Rattle.std.specs.Prelude.{ℕ, ◌≡◌, Bool, true, false, ◌==◌, ◌||◌, ◌&&◌, not, nat_le, nat_lt, List, [], ◌∷◌, length}
+use Rattle.std.specs.Prelude.{ℕ, ◌≤◌, Bool, true, false, ◌==◌, ◌||◌, ◌&&◌, not, nat_le, nat_lt, List, [], ◌∷◌, length}
 use Rattle.std.specs.Prelude.{Option, Some, None, option_map, option_and_then, Result, Ok, Err, if◌then◌else◌, codes}
 use Rattle.std.specs.Str.{bytes_eq, all_ascii_digits}
 use Rattle.std.specs.Str.Parse.{digits_value}
@@ -51,18 +51,19 @@ root_of (Some text) = directory_of text
 
 -- ---- commands
 
+-- all of these values, if none is refused
+abbrev pub run_with : Option Text → Option (Option Text) → Option ℕ → Option Text → Option (Option Text) → Option Wants
+run_with (Some file) (Some inputs) (Some workers) (Some root) (Some journal) =
+    Some (Run file inputs workers root journal)
+run_with _ _ _ _ _ = None
+
 abbrev pub run_of : List Row → Option Wants
-run_of rows =
-    option_and_then (λ file.
-    option_and_then (λ inputs.
-    option_and_then (λ workers.
-    option_and_then (λ root.
-    option_map (λ journal. Run file inputs workers root journal)
-    (optional_file (first_of (codes "journal") rows)))
-    (root_of (first_of (codes "root") rows)))
-    (workers_of (first_of (codes "workers") rows)))
-    (optional_file (first_of (codes "inputs") rows)))
+run_of rows = run_with
     (option_and_then file_of (first_of (codes "file") rows))
+    (optional_file (first_of (codes "inputs") rows))
+    (workers_of (first_of (codes "workers") rows))
+    (root_of (first_of (codes "root") rows))
+    (optional_file (first_of (codes "journal") rows))
 
 unfoldable pub run_in : List Text → Option Wants
 run_in words = option_and_then run_of (found_in run_app words)
@@ -100,3 +101,9 @@ named_by_first (command ∷ rest) = wants_by command (command ∷ rest)
 -- what the words ask for, or none where they have no reading
 abbrev pub wants : List Text → Option Wants
 wants words = if some_nul words then None else named_by_first words
+
+-- 1 to 64 workers, a root of at most 512 bytes, 1 to 10,000 calls
+abbrev pub IsWithinLimits : Wants → Type 0
+IsWithinLimits (Run file inputs workers root journal) = (1 ≤ workers) × (workers ≤ 64) × (length root ≤ 512)
+IsWithinLimits (Load number) = (1 ≤ number) × (number ≤ 10000)
+IsWithinLimits _ = Unit {0}

@@ -95,9 +95,10 @@ fn named_by_first(alloc: Global, words: &[String]) -> Result<Wants, WordFault>
 /// once. N is one or more decimal digits, for 1 to 64 workers (4 where it is left out) or 1 to 10,000 calls. DIR
 /// begins with `/`, has at most 512 bytes and is `/tmp/wdl-run` where it is left out. No word holds NUL, no FILE is
 /// empty, and a word that asks for help has no reading.
-#[tactic(auto, using(crate::proofs::ReadLaws::read_value, crate::proofs::ReadLaws::read_usage))]
+#[tactic(auto, using(crate::proofs::ReadLaws::read_value, crate::proofs::ReadLaws::within, crate::proofs::ReadLaws::read_usage))]
 pub fn read_words(alloc: Global, words: &[String]) -> Result<Wants, WordFault>
     ensures value { IfOk result (λ asked. spec.wants (map string_bytes words.now) ≡ Some asked) }
+    ensures limits { IfOk result spec.IsWithinLimits }
     ensures usage { IsErrOf result Usage → spec.wants (map string_bytes words.now) ≡ None }
 {
     if some_nul(words) {

@@ -1,4 +1,4 @@
-use Rattle.std.proofs.Common.{◌≡◌, ◌∙◌, ap, sym, subst, List, ℕ, Bor, map, length}
+use Rattle.std.proofs.Common.{◌∙◌, ap, sym, subst, List, ℕ, Bor, map}
 use Rattle.std.specs.List.{All}
 use Rattle.std.proofs.lemmas.Result.{IfOk-weaker}
 use Rattle.command_text.specs.Marks.{Fits, zeros}

@@ -1,6 +1,4 @@
-use Rattle.std.proofs.Common.{◌≡◌, ◌∙◌, ap, ◌++◌, List, [], ℕ, Bor, map, take, drop, length, ◌-◌, sym}
-use Rattle.wdl_value.specs.Templates.{cut}
-use Rattle.command_text.specs.Marks.{led}
+use Rattle.std.proofs.Common.{[]}
 use Rattle.command_text.proofs.LineLaws.{join_rest, rest_fits}
 use Rattle.command_text.proofs.lines.join_cut.Goals as goal
 

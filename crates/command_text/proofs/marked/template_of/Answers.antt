@@ -1,4 +1,4 @@
-use Rattle.std.proofs.Common.{◌≡◌, ◌∙◌, ap, sym, ◌++◌}
+use Rattle.std.proofs.Common.{◌∙◌}
 use Rattle.command_text.proofs.Zeros.{plain_end, template_end, template_step, utf8_after, zeros_step}
 use Rattle.command_text.proofs.marked.template_of.Goals as goal
 
