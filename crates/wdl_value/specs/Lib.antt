@@ -23,3 +23,4 @@ pub mod OperatorTypes
 pub mod FunctionTypes
 pub mod Tables
 pub mod Laws
+pub mod Templates
