@@ -1,6 +1,14 @@
 //! Cuts the text of a WDL 1.1 document into tokens.
 #![tactic(auto)]
 
+mod chars;
+mod classes;
+mod code;
+mod escapes;
 mod fault;
+mod gaps;
+mod marks;
+mod numbers;
+mod text;
 
 pub use fault::LexFault;

@@ -5,10 +5,16 @@ use Rattle.wdl_ast.specs.declared.token.HoleMark.{HoleMark}
 use Rattle.wdl_ast.specs.declared.token.Kind.{Kind}
 use Rattle.wdl_ast.specs.declared.token.Kind.TheVariants as kind
 use Rattle.wdl_ast.specs.Spelled.Classes.{Bytes, first}
-use Rattle.wdl_ast.specs.Spelled.Chars.{Inside, is_string, closer, closing, begins, hole_at, stops, is_backslash}
+use Rattle.wdl_ast.specs.Spelled.Chars.{Inside, string, command, is_string, closer, closing, begins, hole_at, stops, is_backslash}
 use Rattle.wdl_lex.specs.declared.fault.Flaw.{Flaw}
+use Rattle.wdl_lex.specs.declared.chars.Inside.{Inside as Place}
+use Rattle.wdl_lex.specs.declared.chars.Inside.TheVariants.{Str, Command}
 use Rattle.wdl_lex.specs.Reading.Code.{Found, flaw}
 use Rattle.wdl_lex.specs.Reading.Escapes.{escape}
+
+abbrev pub inside : Place → Inside
+inside (Str q) = string q
+inside (Command f) = command f
 
 -- what the characters mean, and their length
 abbrev pub Meant : Type 0

@@ -1,14 +1,23 @@
 -- Reads an escape behind its backslash.
-use Rattle.std.specs.Prelude.{ℕ, ◌+◌, Bool, true, false, ◌&&◌, if◌then◌else◌, nat_le, List, [], ◌∷◌, length, take, Option, Some, None}
+use Rattle.std.specs.Prelude.{ℕ, ◌+◌, Bool, true, false, if◌then◌else◌, nat_le, List, [], ◌∷◌, length, take, Option, Some, None}
 use Rattle.std.specs.Str.Parse.{digits_value}
 use Rattle.wdl_ast.specs.Spelled.Classes.{Bytes, is_digit_of, are_digits}
 use Rattle.wdl_ast.specs.Spelled.Escapes.{simple, hex_digits, is_character}
 
+abbrev pub character : ℕ → Option ℕ
+character c = if is_character c then Some c else None
+
+-- the character that digits number
+abbrev pub number : ℕ → Bytes → Option ℕ
+number base w = if are_digits base w then character (digits_value base w) else None
+
+abbrev pub with_len : Option ℕ → ℕ → Option (ℕ × ℕ)
+with_len (Some c) len = Some (c, len)
+with_len None len = None
+
 -- the character of n digits at the front, in an escape of len bytes
 abbrev pub numbered : ℕ → ℕ → ℕ → Bytes → Option (ℕ × ℕ)
-numbered base n len z =
-    if nat_le n (length z) && (are_digits base (take n z) && is_character (digits_value base (take n z)))
-    then Some (digits_value base (take n z), len) else None
+numbered base n len z = if nat_le n (length z) then with_len (number base (take n z)) len else None
 
 abbrev pub hex_escape : Option ℕ → Bytes → Option (ℕ × ℕ)
 hex_escape None z = None
