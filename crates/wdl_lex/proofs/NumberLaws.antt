@@ -52,6 +52,10 @@ pub point_no_digit : is_digit_of 10 46 ≡ false
 unfolding is_digit_of
 point_no_digit = refl
 
+pub nul_no_digit : is_digit_of 16 0 ≡ false
+unfolding is_digit_of
+nul_no_digit = refl
+
 pub zero_octal : is_digit_of 8 48 ≡ true
 unfolding is_digit_of
 zero_octal = refl
@@ -317,3 +321,144 @@ frac_past z = go (digits_len 10 z) (drop (digits_len 10 z) z)
         at_point : ((x == 46) ≡ true) ⊎ ((x == 46) ≡ false) → (behind_digits whole (x ∷ y) ≡ 0) ⊎ (whole < behind_digits whole (x ∷ y))
         at_point (inl p) = at_some (whole + digits_len 10 y) refl p
         at_point (inr p) = at_joined (joined_cases whole (exponent_len (x ∷ y))) p
+
+-- ---- integers
+
+abbrev read_int : ℕ → Bytes → ℕ → Kind × ℕ
+read_int base w n = (kind.Int (pos (digits_value base w)), n)
+
+int_is : (z w rest : Bytes) (base skip : ℕ) → base_of z ≡ (base, skip) → drop skip z ≡ w ++ rest → digits_len base (w ++ rest) ≡ length w → int_at z ≡ read_int base w (skip + length w)
+unfolding int_at
+int_is z w rest base skip b d n =
+    ap (λ (x : ℕ × ℕ). int_from x z) b ∙ ap (λ y. read_int base (take (digits_len base y) y) (skip + digits_len base y)) d
+    ∙ ap (λ k. read_int base (take k (w ++ rest)) (skip + k)) n ∙ ap (λ x. read_int base x (skip + length w)) (take_at w rest (length w) refl)
+
+hex_at : (x : ℕ) (w more : Bytes) → is_hex_mark x ≡ true → some_digits 16 w ≡ true → is_hex (48 ∷ x ∷ (w ++ more)) ≡ true
+hex_at x w more h d = let t = some_are 16 w d in and_from (is_hex_mark x) _ h (ap (λ v. is_digit_of 16 (first (v ++ more))) t.2 ∙ t.3)
+
+no_hex : (b : ℕ) (y : Bytes) → (b == 48) ≡ false → is_hex (b ∷ y) ≡ false
+no_hex b [] h = refl
+no_hex b (x ∷ y) h = ap (λ t. t && (is_hex_mark x && is_digit_of 16 (first y))) h
+
+octal_hex : (w : Bytes) → are_digits 8 w ≡ true → is_hex (48 ∷ w) ≡ false
+octal_hex [] h = refl
+octal_hex (x ∷ w) h = ap (λ t. t && is_digit_of 16 (first w)) (octal_no_hex x (and_parts (is_digit_of 8 x) (are_digits 8 w) h).0)
+
+octal_base : (y : Bytes) → is_hex (48 ∷ y) ≡ false → base_of (48 ∷ y) ≡ (8, 0)
+octal_base y h = cond-false (is_hex (48 ∷ y)) _ _ h
+
+decimal_base : (b : ℕ) (y : Bytes) → (b == 48) ≡ false → base_of (b ∷ y) ≡ (10, 0)
+decimal_base b y h = cond-false (is_hex (b ∷ y)) _ _ (no_hex b y h) ∙ cond-false (b == 48) _ _ h
+
+hex_base : (y : Bytes) → is_hex (48 ∷ y) ≡ true → base_of (48 ∷ y) ≡ (16, 2)
+hex_base y h = cond-true (is_hex (48 ∷ y)) _ _ h
+
+-- digits at the front, and then what is left
+abbrev Measures : Bytes → ℕ → ℕ → Type 0
+Measures z base skip = (w : Bytes) × (rest : Bytes) × (drop skip z ≡ w ++ rest) × (int_at z ≡ read_int base w (skip + length w)) × (are_digits base w ≡ true) × (length w ≡ digits_len base (drop skip z))
+
+measures : (z : Bytes) (base skip : ℕ) → base_of z ≡ (base, skip) → Measures z base skip
+measures z base skip b =
+    let f = front_of (is_digit_of base) (drop skip z) in
+    (f.0, f.1, f.2, int_is z f.0 f.1 base skip b f.2 (ap (digits_len base) (sym f.2) ∙ sym f.3), f.4, f.3)
+
+int_reach : (z : Bytes) (base skip k : ℕ) → base_of z ≡ (base, skip) → k ≤ digits_len base (drop skip z) → skip + k ≤ (int_at z).1
+int_reach z base skip k b h =
+    let m = measures z base skip b in
+    let e : (int_at z).1 ≡ skip + length m.0 = ap (λ (x : Kind × ℕ). x.1) m.3 in
+    omega (arith, e, m.5)
+
+pub int_len : (v more : Bytes) (n : ℕ) → IsInt v n → length v ≤ (int_at (v ++ more)).1
+int_len v more n (s.decimal b w h d) =
+    let r = int_reach (b ∷ (w ++ more)) 10 0 (length (b ∷ w)) (decimal_base b (w ++ more) h) (let f = front_more (is_digit_of 10) (b ∷ w) more d in omega (arith, f)) in omega (arith, r)
+int_len v more n (s.hex x w h d) =
+    let t = some_are 16 w d in
+    let r = int_reach (48 ∷ x ∷ (w ++ more)) 16 2 (length w) (hex_base (x ∷ (w ++ more)) (hex_at x w more h d)) (let f = front_more (is_digit_of 16) w more t.4 in omega (arith, f)) in omega (arith, r)
+int_len v more n (s.octal w d) = go w d (is_hex (48 ∷ (w ++ more))) refl
+  where
+    go : (w : Bytes) → are_digits 8 w ≡ true → (t : Bool) → is_hex (48 ∷ (w ++ more)) ≡ t → length (48 ∷ w) ≤ (int_at (48 ∷ (w ++ more))).1
+    go w d false h =
+        let all : are_digits 8 (48 ∷ w) ≡ true = and_from (is_digit_of 8 48) (are_digits 8 w) zero_octal d in
+        let r = int_reach (48 ∷ (w ++ more)) 8 0 (length (48 ∷ w)) (octal_base (w ++ more) h) (let f = front_more (is_digit_of 8) (48 ∷ w) more all in omega (arith, f)) in omega (arith, r)
+    go [] d true h = let r = int_reach (48 ∷ more) 16 2 0 (hex_base more h) (omega arith) in omega (arith, r)
+    go (x ∷ w) d true h = clash (is_hex_mark x) (and_parts (is_hex_mark x) (is_digit_of 16 (first (w ++ more))) h).0 (octal_no_hex x (and_parts (is_digit_of 8 x) (are_digits 8 w) d).0)
+
+whole_int : (z : Bytes) (base skip : ℕ) (w : Bytes) → base_of z ≡ (base, skip) → drop skip z ≡ w → are_digits base w ≡ true → int_at z ≡ read_int base w (skip + length w)
+whole_int z base skip w b e d = int_is z w [] base skip b (e ∙ sym (append-nil w)) (ap (digits_len base) (append-nil w) ∙ front_whole (is_digit_of base) w d)
+
+pub int_exact : (v : Bytes) (n : ℕ) → IsInt v n → int_at v ≡ (kind.Int (pos n), length v)
+int_exact v n (s.decimal b w h d) = whole_int (b ∷ w) 10 0 (b ∷ w) (decimal_base b w h) refl d ∙ ap (read_int 10 (b ∷ w)) (let e : 0 + length (b ∷ w) ≡ length (b ∷ w) = omega arith in e)
+int_exact v n (s.octal w d) =
+    whole_int (48 ∷ w) 8 0 (48 ∷ w) (octal_base w (octal_hex w d)) refl (and_from (is_digit_of 8 48) (are_digits 8 w) zero_octal d) ∙ ap (read_int 8 (48 ∷ w)) (let e : 0 + length (48 ∷ w) ≡ length (48 ∷ w) = omega arith in e)
+int_exact v n (s.hex x w h d) =
+    let t = some_are 16 w d in
+    let is : is_hex (48 ∷ x ∷ w) ≡ true = ap (λ u. is_hex (48 ∷ x ∷ u)) (sym (append-nil w)) ∙ hex_at x w [] h d in
+    whole_int (48 ∷ x ∷ w) 16 2 w (hex_base (x ∷ w) is) refl t.4 ∙ ap (read_int 16 w) (let e : 2 + length w ≡ length (48 ∷ x ∷ w) = omega arith in e)
+
+hex_no_frac : (x : ℕ) (y : Bytes) → is_hex_mark x ≡ true → frac_len (48 ∷ x ∷ y) ≡ 0
+unfolding exponent_len
+hex_no_frac x y h =
+    digits_then (48 ∷ []) (x ∷ y) (and_from (is_digit_of 10 48) true (octal_decimal 48 zero_octal) refl) (hex_no_digit x h)
+    ∙ cond-false (x == 46) _ _ (hex_no_point x h) ∙ ap (λ m. joined_len 1 (joined_len m (digits_len 10 (drop m (x ∷ y))))) (cond-false (is_exponent_mark x) _ 0 (hex_no_exponent x h))
+
+digits_past : (v more : Bytes) → are_digits 10 v ≡ true → (frac_len (v ++ more) ≡ 0) ⊎ (length v < frac_len (v ++ more))
+digits_past v more d = go (frac_past (v ++ more))
+  where
+    go : (frac_len (v ++ more) ≡ 0) ⊎ (digits_len 10 (v ++ more) < frac_len (v ++ more)) → (frac_len (v ++ more) ≡ 0) ⊎ (length v < frac_len (v ++ more))
+    go (inl none) = inl none
+    go (inr past) = inr (omega (arith, past, front_more (is_digit_of 10) v more d))
+
+digits_only : (v : Bytes) → are_digits 10 v ≡ true → frac_len v ≡ 0
+digits_only v d = ap frac_len (sym (append-nil v)) ∙ digits_then v [] d tt
+
+-- where a longer number has a point or an exponent
+pub int_or_frac : (v more : Bytes) (n : ℕ) → IsInt v n → (frac_len (v ++ more) ≡ 0) ⊎ (length v < frac_len (v ++ more))
+int_or_frac v more n (s.decimal b w h d) = digits_past (b ∷ w) more d
+int_or_frac v more n (s.octal w d) = digits_past (48 ∷ w) more (and_from (is_digit_of 10 48) (are_digits 10 w) (octal_decimal 48 zero_octal) (octals_decimals w d))
+int_or_frac v more n (s.hex x w h d) = inl (hex_no_frac x (w ++ more) h)
+
+pub int_no_frac : (v : Bytes) (n : ℕ) → IsInt v n → frac_len v ≡ 0
+int_no_frac v n (s.decimal b w h d) = digits_only (b ∷ w) d
+int_no_frac v n (s.octal w d) = digits_only (48 ∷ w) (and_from (is_digit_of 10 48) (are_digits 10 w) (octal_decimal 48 zero_octal) (octals_decimals w d))
+int_no_frac v n (s.hex x w h d) = hex_no_frac x w h
+
+abbrev pub HasInt : Bytes → Type 0
+HasInt z = (v : Bytes) × (rest : Bytes) × (n : ℕ) × (z ≡ v ++ rest) × (int_at z ≡ (kind.Int (pos n), length v)) × IsInt v n
+
+pub int_cases : (b : ℕ) (y : Bytes) → is_digit_of 10 b ≡ true → HasInt (b ∷ y)
+int_cases b y d = is_zero (b == 48) refl
+  where
+    decimal : (b == 48) ≡ false → Measures (b ∷ y) 10 0 → HasInt (b ∷ y)
+    decimal h ([], rest, e, i, ds, n) = let q : digits_len 10 (b ∷ y) ≡ 1 + digits_len 10 y = cond-true (is_digit_of 10 b) _ _ d in absurd (omega (arith, n, q))
+    decimal h (c ∷ w, rest, e, i, ds, n) =
+        let q = same_head b c y (w ++ rest) e in
+        (c ∷ w, rest, digits_value 10 (c ∷ w), e, i ∙ ap (read_int 10 (c ∷ w)) (let e : 0 + length (c ∷ w) ≡ length (c ∷ w) = omega arith in e), s.decimal c w (ap (λ x. x == 48) (sym q.0) ∙ h) ds)
+
+    octal : (z : Bytes) → Measures (48 ∷ z) 8 0 → HasInt (48 ∷ z)
+    octal z ([], rest, e, i, ds, n) = let q : digits_len 8 (48 ∷ z) ≡ 1 + digits_len 8 z = cond-true (is_digit_of 8 48) _ _ zero_octal in absurd (omega (arith, n, q))
+    octal z (c ∷ w, rest, e, i, ds, n) =
+        let q = same_head 48 c z (w ++ rest) e in
+        let all : are_digits 8 w ≡ true = (and_parts (is_digit_of 8 c) (are_digits 8 w) ds).1 in
+        (48 ∷ w, rest, digits_value 8 (48 ∷ w), e ∙ ap (λ x. x ∷ (w ++ rest)) (sym q.0), i ∙ ap (λ x. read_int 8 (x ∷ w) (0 + length (c ∷ w))) (sym q.0) ∙ ap (read_int 8 (48 ∷ w)) (let e : 0 + length (c ∷ w) ≡ length (48 ∷ w) = omega arith in e), s.octal w all)
+
+    hex : (z : Bytes) → is_hex (48 ∷ z) ≡ true → HasInt (48 ∷ z)
+    hex [] h = cc
+    hex (x ∷ z) h = go (measures (48 ∷ x ∷ z) 16 2 (hex_base (x ∷ z) h)) z refl
+      where
+        p : (is_hex_mark x ≡ true) × (is_digit_of 16 (first z) ≡ true)
+        p = and_parts (is_hex_mark x) (is_digit_of 16 (first z)) h
+
+        go : Measures (48 ∷ x ∷ z) 16 2 → (u : Bytes) → z ≡ u → HasInt (48 ∷ x ∷ z)
+        go (c ∷ w, rest, e, i, ds, n) u q =
+            (48 ∷ x ∷ c ∷ w, rest, digits_value 16 (c ∷ w), ap (λ y. 48 ∷ x ∷ y) e, i ∙ ap (read_int 16 (c ∷ w)) (let e : 2 + length (c ∷ w) ≡ length (48 ∷ x ∷ c ∷ w) = omega arith in e), s.hex x (c ∷ w) p.0 ds)
+        go ([], rest, e, i, ds, n) [] q = clash (is_digit_of 16 0) (ap (λ u. is_digit_of 16 (first u)) (sym q) ∙ p.1) nul_no_digit
+        go ([], rest, e, i, ds, n) (c ∷ u) q =
+            let r : digits_len 16 z ≡ 1 + digits_len 16 u = ap (digits_len 16) q ∙ cond-true (is_digit_of 16 c) _ _ (ap (λ u. is_digit_of 16 (first u)) (sym q) ∙ p.1) in absurd (omega (arith, n, r))
+
+    zero_first : (z : Bytes) (t : Bool) → is_hex (48 ∷ z) ≡ t → HasInt (48 ∷ z)
+    zero_first z true h = hex z h
+    zero_first z false h = octal z (measures (48 ∷ z) 8 0 (octal_base z h))
+
+    is_zero : (t : Bool) → (b == 48) ≡ t → HasInt (b ∷ y)
+    is_zero true h = subst (λ x. HasInt (x ∷ y)) (sym (eqb-true b 48 h)) (zero_first y (is_hex (48 ∷ y)) refl)
+    is_zero false h = decimal h (measures (b ∷ y) 10 0 (decimal_base b y h))
