@@ -1,0 +1,232 @@
+-- The tokens outside strings and commands: reading one gives the longest spelling, and each longest spelling is read.
+use Rattle.std.proofs.Common.{◌≡◌, ℕ, zero, suc, ◌+◌, ◌<◌, ◌≤◌, Bool, true, false, not, cond, ◌&&◌, ◌||◌, ◌==◌, nat_lt, ◌⊎◌, inl, inr, List, [], ◌∷◌, ◌++◌, length, take, drop, Option, Some, None, Result, Ok, Err, refl, ap, sym, ◌∙◌, subst, append_assoc, length-append, arith, pos}
+use Rattle.std.proofs.lemmas.Bool.{and_parts, and_from, cond-true, cond-false, eqb-true, lt-ltb, ltb-true, ltb-false, not-true, not-false, not_from_true, not_from_false, cases_Bool}
+use Rattle.std.proofs.lemmas.Bool.Decides.{nat_tests}
+use Rattle.std.proofs.lemmas.List.{append-nil, drop_at, take_at}
+use Rattle.std.specs.List.{list_all, prefix_len}
+use Rattle.wdl_ast.specs.declared.token.Kind.{Kind}
+use Rattle.wdl_ast.specs.declared.token.Kind.TheVariants as kind
+use Rattle.wdl_ast.specs.Spelled.Classes.{Bytes, is_blank, is_letter, is_word_byte, is_digit_of, are_digits, first, is_end}
+use Rattle.wdl_ast.specs.Spelled.Numbers as n
+use Rattle.wdl_ast.specs.Spelled.Numbers.{IsInt, IsExponent, MayBeExponent, IsFrac, is_exponent_mark, is_sign, is_hex_mark}
+use Rattle.wdl_ast.specs.Spelled.Marks.{mark_of}
+use Rattle.wdl_ast.specs.Spelled.Code as s
+use Rattle.wdl_ast.specs.Spelled.Code.{Spells, IsLongest, IsCodeToken, stands_alone, fits}
+use Rattle.wdl_lex.specs.declared.fault.Flaw.{Flaw}
+use Rattle.wdl_lex.specs.Limits.{is_short}
+use Rattle.wdl_lex.specs.Faults as f
+use Rattle.wdl_lex.specs.Faults.{IsCodeFlaw}
+use Rattle.wdl_lex.specs.Reading.Numbers.{digits_len, behind_digits, frac_len, int_at}
+use Rattle.wdl_lex.specs.Reading.Code.{Found, flaw, char_len, word_at, mark_at, longest_at, checked, code_token}
+use Rattle.wdl_lex.proofs.Digits.{is_plain, are_plain, all_more, digits_plain}
+use Rattle.wdl_lex.proofs.Lists.{chosen, clash, same_head, StopsAt, front_of, front_more, front_whole, cut, left, same_front}
+use Rattle.wdl_lex.proofs.NumberLaws.{frac_more, frac_exact, HasFrac, frac_cases, int_len, int_exact, int_or_frac, int_no_frac, HasInt, int_cases, point_no_digit, zero_octal, octal_decimal, exponent_no_digit}
+use Rattle.wdl_lex.proofs.MarkLaws.{mark_first, mark_plain, no_letter, no_digit, no_blank, Most, mark_least, mark_exact, mark_sound, point_mark}
+
+-- ---- classes of bytes
+
+letter_word : (b : ℕ) → is_letter b ≡ true → is_word_byte b ≡ true
+unfolding is_letter is_word_byte
+letter_word b h = grind (arith, nat_tests)
+
+pub word_byte_plain : (b : ℕ) → is_word_byte b ≡ true → is_plain b ≡ true
+unfolding is_word_byte
+word_byte_plain b h = grind (arith, nat_tests)
+
+digit_no_letter : (b : ℕ) → is_digit_of 10 b ≡ true → is_letter b ≡ false
+unfolding is_letter is_digit_of
+digit_no_letter b h = grind (arith, nat_tests)
+
+point_no_letter : is_letter 46 ≡ false
+unfolding is_letter
+point_no_letter = refl
+
+abbrev pub opens_gap : ℕ → Bool
+opens_gap b = is_blank b || b == 35
+
+letter_no_gap : (b : ℕ) → is_letter b ≡ true → opens_gap b ≡ false
+unfolding is_letter
+letter_no_gap b h = grind (arith, nat_tests)
+
+digit_no_gap : (b : ℕ) → is_digit_of 10 b ≡ true → opens_gap b ≡ false
+unfolding is_digit_of
+digit_no_gap b h = grind (arith, nat_tests)
+
+exponent_plain : (x : ℕ) → is_exponent_mark x ≡ true → is_plain x ≡ true
+exponent_plain x h = grind (arith, nat_tests)
+
+sign_plain : (x : ℕ) → is_sign x ≡ true → is_plain x ≡ true
+sign_plain x h = grind (arith, nat_tests)
+
+hex_plain : (x : ℕ) → is_hex_mark x ≡ true → is_plain x ≡ true
+hex_plain x h = grind (arith, nat_tests)
+
+-- ---- the first byte of a spelling
+
+-- a digit, or the point of a number
+int_first : (v : Bytes) (m : ℕ) → IsInt v m → (b : ℕ) × (w : Bytes) × (v ≡ b ∷ w) × (is_digit_of 10 b ≡ true)
+int_first v m (n.decimal b w h d) = (b, w, refl, (and_parts (is_digit_of 10 b) (are_digits 10 w) d).0)
+int_first v m (n.octal w d) = (48, w, refl, octal_decimal 48 zero_octal)
+int_first v m (n.hex x w h d) = (48, x ∷ w, refl, octal_decimal 48 zero_octal)
+
+frac_first : (v : Bytes) → IsFrac v → (b : ℕ) × (w : Bytes) × (v ≡ b ∷ w) × ((is_digit_of 10 b ≡ true) ⊎ (b ≡ 46))
+frac_first v (n.pointed [] b e da db some h) = (46, b ++ e, refl, inr refl)
+frac_first v (n.pointed (x ∷ a) b e da db some h) = (x, a ++ 46 ∷ (b ++ e), refl, inl (and_parts (is_digit_of 10 x) (are_digits 10 a) da).0)
+frac_first v (n.whole [] e da h) = cc
+frac_first v (n.whole (x ∷ a) e da h) = (x, a ++ e, refl, inl (and_parts (is_digit_of 10 x) (are_digits 10 a) da).0)
+
+frac_no_letter : (b : ℕ) → (is_digit_of 10 b ≡ true) ⊎ (b ≡ 46) → is_letter b ≡ false
+frac_no_letter b (inl d) = digit_no_letter b d
+frac_no_letter b (inr e) = ap is_letter e ∙ point_no_letter
+
+pub spells_first : (awaits closes : Bool) (v : Bytes) (k : Kind) → Spells awaits closes v k → (b : ℕ) × (w : Bytes) × (v ≡ b ∷ w) × (opens_gap b ≡ false)
+spells_first awaits closes v k (s.word b w h d) = (b, w, refl, letter_no_gap b h)
+spells_first awaits closes v k (s.int w m i) = let t = int_first w m i in (t.0, t.1, t.2, digit_no_gap t.0 t.3)
+spells_first awaits closes v k (s.frac w i) = let t = frac_first w i in (t.0, t.1, t.2, go t.0 t.3)
+  where
+    go : (b : ℕ) → (is_digit_of 10 b ≡ true) ⊎ (b ≡ 46) → opens_gap b ≡ false
+    go b (inl d) = digit_no_gap b d
+    go b (inr e) = ap opens_gap e
+spells_first awaits closes v k (s.mark w j q) = mark_first opens_gap awaits closes w j no_blank q
+
+-- ---- a spelling is plain ASCII
+
+plain_append : (a b : Bytes) → are_plain a ≡ true → are_plain b ≡ true → are_plain (a ++ b) ≡ true
+plain_append [] b h k = k
+plain_append (x ∷ a) b h k = let q = and_parts (is_plain x) (are_plain a) h in and_from (is_plain x) (are_plain (a ++ b)) q.0 (plain_append a b q.1 k)
+
+digits_are_plain : (base : ℕ) (w : Bytes) → base ≤ 36 → are_digits base w ≡ true → are_plain w ≡ true
+digits_are_plain base w h d = digits_plain base w h d
+
+some_plain : (base : ℕ) (w : Bytes) → base ≤ 36 → Rattle.wdl_ast.specs.Spelled.Classes.some_digits base w ≡ true → are_plain w ≡ true
+some_plain base [] h d = refl
+some_plain base (b ∷ w) h d = digits_plain base (b ∷ w) h d
+
+exponent_is_plain : (e : Bytes) → IsExponent e → are_plain e ≡ true
+exponent_is_plain e (n.plain x w h d) = and_from (is_plain x) (are_plain w) (exponent_plain x h) (some_plain 10 w (omega arith) d)
+exponent_is_plain e (n.signed x t w h g d) = and_from (is_plain x) (are_plain (t ∷ w)) (exponent_plain x h) (and_from (is_plain t) (are_plain w) (sign_plain t g) (some_plain 10 w (omega arith) d))
+
+maybe_plain : (e : Bytes) → MayBeExponent e → are_plain e ≡ true
+maybe_plain e n.none = refl
+maybe_plain e (n.some x h) = exponent_is_plain x h
+
+pub frac_plain : (v : Bytes) → IsFrac v → are_plain v ≡ true
+frac_plain v (n.pointed a b e da db some h) =
+    plain_append a (46 ∷ (b ++ e)) (digits_plain 10 a (omega arith) da) (and_from (is_plain 46) (are_plain (b ++ e)) refl (plain_append b e (digits_plain 10 b (omega arith) db) (maybe_plain e h)))
+frac_plain v (n.whole a e da h) = plain_append a e (some_plain 10 a (omega arith) da) (exponent_is_plain e h)
+
+int_plain : (v : Bytes) (m : ℕ) → IsInt v m → are_plain v ≡ true
+int_plain v m (n.decimal b w h d) = digits_plain 10 (b ∷ w) (omega arith) d
+int_plain v m (n.octal w d) = and_from (is_plain 48) (are_plain w) refl (digits_plain 8 w (omega arith) d)
+int_plain v m (n.hex x w h d) = and_from (is_plain 48) (are_plain (x ∷ w)) refl (and_from (is_plain x) (are_plain w) (hex_plain x h) (some_plain 16 w (omega arith) d))
+
+pub spells_plain : (awaits closes : Bool) (v : Bytes) (k : Kind) → Spells awaits closes v k → are_plain v ≡ true
+spells_plain awaits closes v k (s.word b w h d) = and_from (is_plain b) (are_plain w) (word_byte_plain b (letter_word b h)) (all_more is_word_byte is_plain word_byte_plain w d)
+spells_plain awaits closes v k (s.int w m i) = int_plain w m i
+spells_plain awaits closes v k (s.frac w i) = frac_plain w i
+spells_plain awaits closes v k (s.mark w j q) = mark_plain awaits closes w j q
+
+-- ---- the order in which a token is looked for
+
+module _ (awaits closes : Bool) (z : Bytes) where
+  abbrev found : Option Found
+  found = longest_at awaits closes z
+
+  pub at_letter : is_letter (first z) ≡ true → longest_at awaits closes z ≡ Some (word_at z)
+  unfolding longest_at
+  at_letter h = cond-true (is_letter (first z)) _ _ h
+
+  pub at_frac : is_letter (first z) ≡ false → 0 < frac_len z → longest_at awaits closes z ≡ Some (kind.Frac (take (frac_len z) z), frac_len z)
+  unfolding longest_at
+  at_frac h q = cond-false (is_letter (first z)) _ _ h ∙ cond-true (nat_lt 0 (frac_len z)) _ _ (lt-ltb 0 (frac_len z) q)
+
+  pub at_int : is_letter (first z) ≡ false → frac_len z ≡ 0 → is_digit_of 10 (first z) ≡ true → longest_at awaits closes z ≡ Some (int_at z)
+  unfolding longest_at
+  at_int h q d = cond-false (is_letter (first z)) _ _ h ∙ cond-false (nat_lt 0 (frac_len z)) _ _ (ap (nat_lt 0) q) ∙ cond-true (is_digit_of 10 (first z)) _ _ d
+
+  pub at_mark : is_letter (first z) ≡ false → frac_len z ≡ 0 → is_digit_of 10 (first z) ≡ false → longest_at awaits closes z ≡ mark_at awaits closes z
+  unfolding longest_at
+  at_mark h q d = cond-false (is_letter (first z)) _ _ h ∙ cond-false (nat_lt 0 (frac_len z)) _ _ (ap (nat_lt 0) q) ∙ cond-false (is_digit_of 10 (first z)) _ _ d
+
+-- ---- each spelling is found, or a longer one
+
+no_frac : (b : ℕ) (y : Bytes) → is_digit_of 10 b ≡ false → (b == 46) ≡ false → frac_len (b ∷ y) ≡ 0
+unfolding frac_len
+no_frac b y d p =
+    ap (λ m. behind_digits m (drop m (b ∷ y))) (cond-false (is_digit_of 10 b) (1 + digits_len 10 y) 0 d) ∙ cond-false (b == 46) _ _ p
+
+no_frac_mark : (awaits closes : Bool) (v : Bytes) (k : Kind) → mark_of awaits closes v ≡ Some k → (b : ℕ) (w : Bytes) → v ≡ b ∷ w → is_digit_of 10 b ≡ false → frac_len v ≡ 0
+unfolding frac_len is_digit_of
+no_frac_mark awaits closes v k q b w e d = go (cases_Bool (b == 46))
+  where
+    go : ((b == 46) ≡ true) ⊎ ((b == 46) ≡ false) → frac_len v ≡ 0
+    go (inl p) =
+        let none = point_mark awaits closes w k (ap (λ x. mark_of awaits closes (x ∷ w)) (sym (eqb-true b 46 p)) ∙ ap (mark_of awaits closes) (sym e) ∙ q) in
+        ap frac_len e ∙ ap (λ x. frac_len (x ∷ w)) (eqb-true b 46 p) ∙ ap (λ x. frac_len (46 ∷ x)) none
+    go (inr p) = ap frac_len e ∙ no_frac b w d p
+
+module _ (awaits closes : Bool) where
+  word_len : (b : ℕ) (w more : Bytes) → is_letter b ≡ true → list_all is_word_byte w ≡ true → prefix_len is_word_byte ((b ∷ w) ++ more) ≡ length (b ∷ w) + prefix_len is_word_byte more
+  word_len b w more h d = front_more is_word_byte (b ∷ w) more (and_from (is_word_byte b) (list_all is_word_byte w) (letter_word b h) d)
+
+  by_frac : (v more : Bytes) → is_letter (first (v ++ more)) ≡ false → 0 < frac_len (v ++ more) → length v ≤ frac_len (v ++ more) → Most (longest_at awaits closes (v ++ more)) (length v)
+  by_frac v more h some fits = (kind.Frac (take (frac_len (v ++ more)) (v ++ more)), frac_len (v ++ more), at_frac awaits closes (v ++ more) h some, fits)
+
+  least_int : (v more : Bytes) (m : ℕ) → IsInt v m → Most (longest_at awaits closes (v ++ more)) (length v)
+  least_int v more m i = go (int_first v m i) (int_or_frac v more m i)
+    where
+      go : ((b : ℕ) × (w : Bytes) × (v ≡ b ∷ w) × (is_digit_of 10 b ≡ true)) → (frac_len (v ++ more) ≡ 0) ⊎ (length v < frac_len (v ++ more)) → Most (longest_at awaits closes (v ++ more)) (length v)
+      go (b, w, e, d) (inr past) = by_frac v more (ap (λ x. is_letter (first (x ++ more))) e ∙ digit_no_letter b d) (omega (arith, past)) (omega (arith, past))
+      go (b, w, e, d) (inl none) =
+          ((int_at (v ++ more)).0, (int_at (v ++ more)).1, at_int awaits closes (v ++ more) (ap (λ x. is_letter (first (x ++ more))) e ∙ digit_no_letter b d) none (ap (λ x. is_digit_of 10 (first (x ++ more))) e ∙ d), int_len v more m i)
+
+  least_mark : (v more : Bytes) (k : Kind) → mark_of awaits closes v ≡ Some k → (b : ℕ) (w : Bytes) → v ≡ b ∷ w → is_letter b ≡ false → is_digit_of 10 b ≡ false → (t : ℕ) → frac_len (v ++ more) ≡ t → Most (longest_at awaits closes (v ++ more)) (length v)
+  least_mark v more k q b w e l d zero f =
+      let m = mark_least awaits closes v more k q in
+      (m.0, m.1, at_mark awaits closes (v ++ more) (ap (λ x. is_letter (first (x ++ more))) e ∙ l) f (ap (λ x. is_digit_of 10 (first (x ++ more))) e ∙ d) ∙ m.2, m.3)
+  least_mark v more k q b w e l d (suc t) f = by_frac v more (ap (λ x. is_letter (first (x ++ more))) e ∙ l) (omega (arith, f)) (let o = one (cases_Bool (b == 46)) in omega (arith, o, f))
+    where
+      one : ((b == 46) ≡ true) ⊎ ((b == 46) ≡ false) → length v ≤ 1
+      one (inl p) =
+          let none = point_mark awaits closes w k (ap (λ x. mark_of awaits closes (x ∷ w)) (sym (eqb-true b 46 p)) ∙ ap (mark_of awaits closes) (sym e) ∙ q) in
+          let len : length v ≡ 1 = ap length e ∙ ap (λ x. suc (length x)) none in omega (arith, len)
+      one (inr p) = (let z = sym f ∙ ap (λ x. frac_len (x ++ more)) e ∙ no_frac b (w ++ more) d p in let n : ⊥ = cc in absurd n)
+
+  pub least : (v more : Bytes) (k : Kind) → Spells awaits closes v k → Most (longest_at awaits closes (v ++ more)) (length v)
+  least v more k (s.word b w h d) =
+      ((word_at ((b ∷ w) ++ more)).0, (word_at ((b ∷ w) ++ more)).1, at_letter awaits closes ((b ∷ w) ++ more) h, (let q = word_len b w more h d in omega (arith, q)))
+  least v more k (s.int w m i) = least_int w more m i
+  least v more k (s.frac w i) =
+      let x = frac_more w more i in
+      let t = frac_first w i in
+      let some : 0 < length w = (let q = ap length t.2 in omega (arith, q)) in
+      by_frac w more (ap (λ y. is_letter (first (y ++ more))) t.2 ∙ frac_no_letter t.0 t.3) (omega (arith, x.1, some)) (omega (arith, x.1))
+  least v more k (s.mark w j q) =
+      let l = mark_first is_letter awaits closes w j no_letter q in
+      let d = mark_first (is_digit_of 10) awaits closes w j no_digit q in
+      let same : d.0 ≡ l.0 = (same_head d.0 l.0 d.1 l.1 (sym d.2 ∙ l.2)).0 in
+      least_mark w more j q l.0 l.1 l.2 l.3 (ap (is_digit_of 10) (sym same) ∙ d.3) (frac_len (w ++ more)) refl
+
+  -- and alone it is found itself
+  pub exact : (v : Bytes) (k : Kind) → Spells awaits closes v k → longest_at awaits closes v ≡ Some (k, length v)
+  exact v k (s.word b w h d) =
+      let len : prefix_len is_word_byte (b ∷ w) ≡ length (b ∷ w) = front_whole is_word_byte (b ∷ w) (and_from (is_word_byte b) (list_all is_word_byte w) (letter_word b h) d) in
+      at_letter awaits closes (b ∷ w) h ∙ ap (λ m. Some (kind.Word (take m (b ∷ w)), m)) len
+      ∙ ap (λ x. Some (kind.Word x, length (b ∷ w))) (cut (b ∷ w) (b ∷ w) [] (length (b ∷ w)) (sym (append-nil (b ∷ w))) refl)
+  exact v k (s.int w m i) =
+      let t = int_first w m i in
+      at_int awaits closes w (ap (λ y. is_letter (first y)) t.2 ∙ digit_no_letter t.0 t.3) (int_no_frac w m i) (ap (λ y. is_digit_of 10 (first y)) t.2 ∙ t.3) ∙ ap (λ x. Some x) (int_exact w m i)
+  exact v k (s.frac w i) =
+      let t = frac_first w i in
+      let len = frac_exact w i in
+      let some : 0 < frac_len w = (let q = ap length t.2 in omega (arith, q, len)) in
+      at_frac awaits closes w (ap (λ y. is_letter (first y)) t.2 ∙ frac_no_letter t.0 t.3) some ∙ ap (λ m. Some (kind.Frac (take m w), m)) len
+      ∙ ap (λ x. Some (kind.Frac x, length w)) (cut w w [] (length w) (sym (append-nil w)) refl)
+  exact v k (s.mark w j q) =
+      let l = mark_first is_letter awaits closes w j no_letter q in
+      let d = mark_first (is_digit_of 10) awaits closes w j no_digit q in
+      at_mark awaits closes w (ap (λ y. is_letter (first y)) l.2 ∙ l.3) (no_frac_mark awaits closes w j q l.0 l.1 l.2 (let same : d.0 ≡ l.0 = (same_head d.0 l.0 d.1 l.1 (sym d.2 ∙ l.2)).0 in ap (is_digit_of 10) (sym same) ∙ d.3)) (ap (λ y. is_digit_of 10 (first y)) d.2 ∙ d.3) ∙ mark_exact awaits closes w j q
+
+  -- what is found is a spelling
+  pub found_spells : (z : Bytes) (k : Kind) (m : ℕ) → longest_at awaits closes z ≡ Some (k, m) → (w : Bytes) × (rest : Bytes) × (z ≡ w ++ rest) × (length w ≡ m) × Spells awaits closes w k
+  found_spells z k m h = ?
