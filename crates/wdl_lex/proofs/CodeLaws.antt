@@ -14,14 +14,14 @@ use Rattle.wdl_ast.specs.Spelled.Code as s
 use Rattle.wdl_ast.specs.Spelled.Code.{Spells, IsLongest, IsCodeToken, stands_alone, fits}
 use Rattle.wdl_lex.specs.declared.fault.Flaw.{Flaw}
 use Rattle.wdl_lex.specs.Limits.{is_short}
-use Rattle.wdl_lex.specs.Faults as f
+use Rattle.wdl_lex.specs.Faults as fault
 use Rattle.wdl_lex.specs.Faults.{IsCodeFlaw}
 use Rattle.wdl_lex.specs.Reading.Numbers.{digits_len, behind_digits, frac_len, int_at}
 use Rattle.wdl_lex.specs.Reading.Code.{Found, flaw, char_len, word_at, mark_at, longest_at, checked, code_token}
 use Rattle.wdl_lex.proofs.Digits.{is_plain, are_plain, all_more, digits_plain}
 use Rattle.wdl_lex.proofs.Lists.{chosen, clash, same_head, StopsAt, front_of, front_more, front_whole, cut, left, same_front}
 use Rattle.wdl_lex.proofs.NumberLaws.{frac_more, frac_exact, HasFrac, frac_cases, int_len, int_exact, int_or_frac, int_no_frac, HasInt, int_cases, point_no_digit, zero_octal, octal_decimal, exponent_no_digit}
-use Rattle.wdl_lex.proofs.MarkLaws.{mark_first, mark_plain, no_letter, no_digit, no_blank, Most, mark_least, mark_exact, mark_sound, point_mark}
+use Rattle.wdl_lex.proofs.MarkLaws.{mark_first, mark_plain, no_letter, no_digit, no_blank, same_some, Most, mark_least, mark_exact, mark_sound, point_mark}
 
 -- ---- classes of bytes
 
@@ -228,5 +228,181 @@ module _ (awaits closes : Bool) where
       at_mark awaits closes w (ap (λ y. is_letter (first y)) l.2 ∙ l.3) (no_frac_mark awaits closes w j q l.0 l.1 l.2 (let same : d.0 ≡ l.0 = (same_head d.0 l.0 d.1 l.1 (sym d.2 ∙ l.2)).0 in ap (is_digit_of 10) (sym same) ∙ d.3)) (ap (λ y. is_digit_of 10 (first y)) d.2 ∙ d.3) ∙ mark_exact awaits closes w j q
 
   -- what is found is a spelling
-  pub found_spells : (z : Bytes) (k : Kind) (m : ℕ) → longest_at awaits closes z ≡ Some (k, m) → (w : Bytes) × (rest : Bytes) × (z ≡ w ++ rest) × (length w ≡ m) × Spells awaits closes w k
-  found_spells z k m h = ?
+  abbrev pub Finds : Bytes → Kind → ℕ → Type 0
+  Finds z k m = (w : Bytes) × (rest : Bytes) × (z ≡ w ++ rest) × (length w ≡ m) × Spells awaits closes w k
+
+  abbrev some_found : Found → Option Found
+  some_found t = Some t
+
+  finds_word : (z : Bytes) (k : Kind) (m : ℕ) → is_letter (first z) ≡ true → Some (word_at z) ≡ Some (k, m) → Finds z k m
+  unfolding is_letter
+  finds_word [] k m l h = cc
+  finds_word (b ∷ y) k m l h =
+      let f = front_of is_word_byte y in
+      let len : prefix_len is_word_byte (b ∷ y) ≡ length (b ∷ f.0) = cond-true (is_word_byte b) _ _ (letter_word b l) ∙ (let e : 1 + prefix_len is_word_byte y ≡ length (b ∷ f.0) = omega (arith, f.3) in e) in
+      let text : b ∷ y ≡ (b ∷ f.0) ++ f.1 = ap (λ x. b ∷ x) f.2 in
+      let is = same_some (word_at (b ∷ y)) (k, m) h in
+      let kind_is : kind.Word (b ∷ f.0) ≡ k = ap kind.Word (sym (cut (b ∷ y) (b ∷ f.0) f.1 (prefix_len is_word_byte (b ∷ y)) text (sym len))) ∙ is.0 in
+      (b ∷ f.0, f.1, text, sym len ∙ is.1, subst (λ x. Spells awaits closes (b ∷ f.0) x) kind_is (s.word b f.0 l f.4))
+
+  finds_int : (z : Bytes) (k : Kind) (m : ℕ) → is_digit_of 10 (first z) ≡ true → Some (int_at z) ≡ Some (k, m) → Finds z k m
+  unfolding is_digit_of
+  finds_int [] k m d h = cc
+  finds_int (b ∷ y) k m d h =
+      let i = int_cases b y d in
+      let is = same_some (int_at (b ∷ y)) (k, m) h in
+      let int_is = ap (λ (x : Found). x.0) i.4 in
+      let len_is = ap (λ (x : Found). x.1) i.4 in
+      (i.0, i.1, i.3, sym len_is ∙ is.1, subst (λ x. Spells awaits closes i.0 x) (sym int_is ∙ is.0) (s.int i.0 i.2 i.5))
+
+  finds_frac : (z : Bytes) (k : Kind) (m : ℕ) → HasFrac z → some_found (kind.Frac (take (frac_len z) z), frac_len z) ≡ Some (k, m) → Finds z k m
+  finds_frac z k m (v, rest, text, len, i) h =
+      let is = same_some (kind.Frac (take (frac_len z) z), frac_len z) (k, m) h in
+      (v, rest, text, len ∙ is.1, subst (λ x. Spells awaits closes v x) (ap kind.Frac (sym (cut z v rest (frac_len z) text len)) ∙ is.0) (s.frac v i))
+
+  finds_mark : (z : Bytes) (k : Kind) (m : ℕ) → mark_at awaits closes z ≡ Some (k, m) → Finds z k m
+  finds_mark z k m h = let t = mark_sound awaits closes z k m h in (t.0, t.1, t.2, t.3, s.mark t.0 k t.4)
+
+  pub finds : (z : Bytes) (k : Kind) (m : ℕ) → longest_at awaits closes z ≡ Some (k, m) → Finds z k m
+  finds z k m h = letter (cases_Bool (is_letter (first z)))
+    where
+      digit : is_letter (first z) ≡ false → frac_len z ≡ 0 → (is_digit_of 10 (first z) ≡ true) ⊎ (is_digit_of 10 (first z) ≡ false) → Finds z k m
+      digit l none (inl d) = finds_int z k m d (sym (at_int awaits closes z l none d) ∙ h)
+      digit l none (inr d) = finds_mark z k m (sym (at_mark awaits closes z l none d) ∙ h)
+
+      frac : is_letter (first z) ≡ false → (frac_len z ≡ 0) ⊎ HasFrac z → Finds z k m
+      frac l (inl none) = digit l none (cases_Bool (is_digit_of 10 (first z)))
+      frac l (inr (v, rest, text, len, i)) =
+          let t = frac_first v i in
+          let some : 0 < frac_len z = (let q = ap length t.2 in omega (arith, q, len)) in
+          finds_frac z k m (v, rest, text, len, i) (sym (at_frac awaits closes z l some) ∙ h)
+
+      letter : (is_letter (first z) ≡ true) ⊎ (is_letter (first z) ≡ false) → Finds z k m
+      letter (inl l) = finds_word z k m l (sym (at_letter awaits closes z l) ∙ h)
+      letter (inr l) = frac l (frac_cases z)
+
+  -- and the longest one
+  pub finds_longest : (z : Bytes) (k : Kind) (m : ℕ) → longest_at awaits closes z ≡ Some (k, m) → (w : Bytes) × (rest : Bytes) × (z ≡ w ++ rest) × (length w ≡ m) × IsLongest awaits closes w rest k
+  finds_longest z k m h =
+      let t = finds z k m h in
+      (t.0, t.1, t.2, t.3, record { spells = t.4; longest = λ v more j e q. fits_in v more (sym e ∙ sym t.2) (least v more j q) t.0 t.3 })
+    where
+      fits_in : (v more : Bytes) → v ++ more ≡ z → Most (longest_at awaits closes (v ++ more)) (length v) → (w : Bytes) → length w ≡ m → length v ≤ length w
+      fits_in v more e (j, l, q, le) w len = let s = same_some (j, l) (k, m) (sym q ∙ ap (longest_at awaits closes) e ∙ h) in omega (arith, s.1, le, len)
+
+  pub longest_found : (w rest : Bytes) (k : Kind) → IsLongest awaits closes w rest k → longest_at awaits closes (w ++ rest) ≡ Some (k, length w)
+  longest_found w rest k t =
+      let l = least w rest k t.spells in
+      let f = finds (w ++ rest) l.0 l.1 l.2 in
+      let le : length f.0 ≤ length w = t.longest f.0 f.1 l.0 f.2 f.4 in
+      let len : length f.0 ≡ length w = omega (arith, le, l.3, f.3) in
+      let same = same_front f.0 w f.1 rest (sym f.2) len in
+      let kinds = same_some (l.0, length f.0) (k, length w) (sym (exact f.0 l.0 f.4) ∙ ap (longest_at awaits closes) same.0 ∙ exact w k t.spells) in
+      l.2 ∙ ap (λ x. Some (x, l.1)) kinds.0 ∙ ap (λ m. Some (k, m)) (sym f.3 ∙ len)
+
+  pub none_found : (z : Bytes) → longest_at awaits closes z ≡ None → (w rest : Bytes) (k : Kind) → z ≡ w ++ rest → Spells awaits closes w k → ⊥
+  none_found z h w rest k e q = let l = least w rest k q in let f = sym h ∙ ap (longest_at awaits closes) e ∙ l.2 in let n : ⊥ = cc in n
+
+-- ---- what is read
+
+abbrev got : Found → Result Found Flaw
+got t = Ok t
+
+same_got : (x y : Found) → got x ≡ got y → (x.0 ≡ y.0) × (x.1 ≡ y.1)
+same_got x y h = let e : x ≡ y = cc in (ap (λ (z : Found). z.0) e, ap (λ (z : Found). z.1) e)
+
+abbrev bad : Flaw → Result Found Flaw
+bad f = Err f
+
+same_err : (f g : Flaw) → bad f ≡ bad g → f ≡ g
+same_err f g h = cc
+
+module _ (limited awaits closes : Bool) where
+  abbrev pub Limits : Kind → Type 0
+  Limits k = limited ≡ true → is_short k ≡ true
+
+  abbrev pub ReadsCode : Bytes → Kind → ℕ → Type 0
+  ReadsCode z k m = (w : Bytes) × (rest : Bytes) × (z ≡ w ++ rest) × (length w ≡ m) × IsCodeToken awaits closes w rest k × Limits k
+
+  abbrev Looked : Bytes → Option Found → Type 0
+  Looked z None = (w rest : Bytes) (k : Kind) → z ≡ w ++ rest → Spells awaits closes w k → ⊥
+  Looked z (Some t) = (w : Bytes) × (rest : Bytes) × (z ≡ w ++ rest) × (length w ≡ t.1) × IsLongest awaits closes w rest t.0
+
+  looked : (z : Bytes) (o : Option Found) → longest_at awaits closes z ≡ o → Looked z o
+  looked z None h = none_found awaits closes z h
+  looked z (Some t) h = finds_longest awaits closes z t.0 t.1 h
+
+  -- the tests of a token that was found, in their order
+  abbrev alone : Bytes → Found → Bool
+  alone z t = stands_alone t.0 (drop t.1 z)
+
+  abbrev long_ : Found → Bool
+  long_ t = limited && not (is_short t.0)
+
+  abbrev at_short : Bytes → Found → Result Found Flaw
+  at_short z t = cond (long_ t) (Err (flaw 107 0 t.1)) (Ok t)
+
+  abbrev at_fit : Bytes → Found → Result Found Flaw
+  at_fit z t = cond (not (fits t.0)) (Err (flaw 106 0 t.1)) (at_short z t)
+
+  not_long : (k : Kind) → (limited && not (is_short k)) ≡ false → Limits k
+  not_long k h l = not-false (is_short k) (ap (λ x. x && not (is_short k)) (sym l) ∙ h)
+
+  is_long : (k : Kind) → Limits k → (t : Bool) → limited ≡ t → (limited && not (is_short k)) ≡ false
+  is_long k h true l = ap (λ x. x && not (is_short k)) l ∙ not_from_true (is_short k) (h l)
+  is_long k h false l = ap (λ x. x && not (is_short k)) l
+
+  pub code_sound : (z : Bytes) (k : Kind) (m : ℕ) → code_token limited awaits closes z ≡ Ok (k, m) → ReadsCode z k m
+  unfolding code_token
+  code_sound z k m h = go (longest_at awaits closes z) (looked z (longest_at awaits closes z) refl) h
+    where
+      short : (t : Found) → Looked z (Some t) → not (alone z t) ≡ false → not (fits t.0) ≡ false → (long_ t ≡ true) × (Err (flaw 107 0 t.1) ≡ got (k, m)) ⊎ ((long_ t ≡ false) × (got t ≡ got (k, m))) → ReadsCode z k m
+      short t l a f (inl q) = (let e = q.1 in let n : ⊥ = cc in absurd n)
+      short t (w, rest, text, len, l) a f (inr q) =
+          let is = same_got t (k, m) q.1 in
+          let stands : stands_alone t.0 rest ≡ true = ap (stands_alone t.0) (sym (left z w rest t.1 text len)) ∙ not-false (alone z t) a in
+          (w, rest, text, len ∙ is.1, subst (IsCodeToken awaits closes w rest) is.0 (record { longest = l; alone = stands; in_range = not-false (fits t.0) f }), subst Limits is.0 (not_long t.0 q.0))
+
+      fit : (t : Found) → Looked z (Some t) → not (alone z t) ≡ false → (not (fits t.0) ≡ true) × (Err (flaw 106 0 t.1) ≡ got (k, m)) ⊎ ((not (fits t.0) ≡ false) × (at_short z t ≡ got (k, m))) → ReadsCode z k m
+      fit t l a (inl q) = (let e = q.1 in let n : ⊥ = cc in absurd n)
+      fit t l a (inr q) = short t l a q.0 (chosen (long_ t) _ _ _ q.1)
+
+      stands : (t : Found) → Looked z (Some t) → (not (alone z t) ≡ true) × (Err (flaw 102 0 (t.1 + 1)) ≡ got (k, m)) ⊎ ((not (alone z t) ≡ false) × (at_fit z t ≡ got (k, m))) → ReadsCode z k m
+      stands t l (inl q) = (let e = q.1 in let n : ⊥ = cc in absurd n)
+      stands t l (inr q) = fit t l q.0 (chosen (not (fits t.0)) _ _ _ q.1)
+
+      go : (o : Option Found) → Looked z o → checked limited z o ≡ got (k, m) → ReadsCode z k m
+      go None l h = cc
+      go (Some t) l h = stands t l (chosen (not (alone z t)) _ _ _ h)
+
+  pub code_full : (w rest : Bytes) (k : Kind) → IsCodeToken awaits closes w rest k → Limits k → code_token limited awaits closes (w ++ rest) ≡ Ok (k, length w)
+  unfolding code_token
+  code_full w rest k t l =
+      ap (checked limited (w ++ rest)) (longest_found awaits closes w rest k t.longest)
+      ∙ cond-false (not (alone (w ++ rest) (k, length w))) _ _ (not_from_true _ (ap (stands_alone k) (drop_at w rest (length w) refl) ∙ t.alone))
+      ∙ cond-false (not (fits k)) _ _ (not_from_true (fits k) t.in_range) ∙ cond-false (long_ (k, length w)) _ _ (is_long k l limited refl)
+
+  pub code_wrong : (z : Bytes) (f : Flaw) → code_token limited awaits closes z ≡ Err f → IsCodeFlaw awaits closes z f
+  unfolding code_token
+  code_wrong z f h = go (longest_at awaits closes z) (looked z (longest_at awaits closes z) refl) h
+    where
+      flawed : (w rest : Bytes) (g : Flaw) → z ≡ w ++ rest → IsCodeFlaw awaits closes (w ++ rest) g → g ≡ f → IsCodeFlaw awaits closes z f
+      flawed w rest g text q e = subst (IsCodeFlaw awaits closes z) e (subst (λ x. IsCodeFlaw awaits closes x g) (sym text) q)
+
+      short : (t : Found) → Looked z (Some t) → (long_ t ≡ true) × (bad (flaw 107 0 t.1) ≡ Err f) ⊎ ((long_ t ≡ false) × (got t ≡ Err f)) → IsCodeFlaw awaits closes z f
+      short t (w, rest, text, len, l) (inl q) =
+          flawed w rest (flaw 107 0 (length w)) text (fault.long w rest t.0 l (not-true (is_short t.0) (and_parts limited (not (is_short t.0)) q.0).1)) (ap (flaw 107 0) len ∙ same_err _ f q.1)
+      short t l (inr q) = (let e = q.1 in let n : ⊥ = cc in absurd n)
+
+      fit : (t : Found) → Looked z (Some t) → (not (fits t.0) ≡ true) × (bad (flaw 106 0 t.1) ≡ Err f) ⊎ ((not (fits t.0) ≡ false) × (at_short z t ≡ Err f)) → IsCodeFlaw awaits closes z f
+      fit t (w, rest, text, len, l) (inl q) = flawed w rest (flaw 106 0 (length w)) text (fault.large w rest t.0 l (not-true (fits t.0) q.0)) (ap (flaw 106 0) len ∙ same_err _ f q.1)
+      fit t l (inr q) = short t l (chosen (long_ t) _ _ _ q.1)
+
+      stands : (t : Found) → Looked z (Some t) → (not (alone z t) ≡ true) × (bad (flaw 102 0 (t.1 + 1)) ≡ Err f) ⊎ ((not (alone z t) ≡ false) × (at_fit z t ≡ Err f)) → IsCodeFlaw awaits closes z f
+      stands t (w, rest, text, len, l) (inl q) =
+          flawed w rest (flaw 102 0 (length w + 1)) text (fault.glued w rest t.0 l (ap (stands_alone t.0) (sym (left z w rest t.1 text len)) ∙ not-true (alone z t) q.0)) (ap (λ m. flaw 102 0 (m + 1)) len ∙ same_err _ f q.1)
+      stands t l (inr q) = fit t l (chosen (not (fits t.0)) _ _ _ q.1)
+
+      go : (o : Option Found) → Looked z o → checked limited z o ≡ Err f → IsCodeFlaw awaits closes z f
+      go None l h = subst (IsCodeFlaw awaits closes z) (same_err _ f h) (fault.stray z l)
+      go (Some t) l h = stands t l (chosen (not (alone z t)) _ _ _ h)

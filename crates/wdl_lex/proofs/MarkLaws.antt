@@ -174,7 +174,7 @@ mark_exact awaits closes (b ∷ c ∷ d ∷ e ∷ w) k q = cc
 abbrev HasMark : Bool → Bool → Bytes → Kind → ℕ → Type 0
 HasMark awaits closes z k n = (w : Bytes) × (rest_ : Bytes) × (z ≡ w ++ rest_) × (length w ≡ n) × (mark_of awaits closes w ≡ Some k)
 
-same_some : (x y : Found) → Some x ≡ Some y → (x.0 ≡ y.0) × (x.1 ≡ y.1)
+pub same_some : (x y : Found) → Some x ≡ Some y → (x.0 ≡ y.0) × (x.1 ≡ y.1)
 same_some x y h = let e : x ≡ y = cc in (ap (λ (t : Found). t.0) e, ap (λ (t : Found). t.1) e)
 
 pub mark_sound : (awaits closes : Bool) (z : Bytes) (k : Kind) (n : ℕ) → mark_at awaits closes z ≡ Some (k, n) → HasMark awaits closes z k n
