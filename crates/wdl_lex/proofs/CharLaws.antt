@@ -151,3 +151,149 @@ chars_full i w rest new (s.escape x c v r o str e more) out n =
     ∙ ap (λ t. with_escape t n (λ c len. chars_from i len (out ++ encode_utf8 c) (n + 1) (x ++ (v ++ rest)))) (escape_full x (v ++ rest) c e)
     ∙ passes i x (v ++ rest) (out ++ encode_utf8 c) (n + 1) ∙ chars_full i v rest o more (out ++ encode_utf8 c) (n + 1 + length x)
     ∙ same_ok ((out ++ encode_utf8 c) ++ o) (out ++ (encode_utf8 c ++ o)) (n + 1 + length x + length v) (n + length (92 ∷ (x ++ v))) (append_assoc out (encode_utf8 c) o) (omega (arith, length-append x v))
+
+abbrev pub WellRead : Inside → Bytes → Type 0
+WellRead i z = (w : Bytes) × (rest : Bytes) × (new : Bytes) × (z ≡ w ++ rest) × (chars i z ≡ Ok (new, length w)) × AreChars (Stops i) i w rest new
+
+abbrev pub BadlyRead : Inside → Bytes → Type 0
+BadlyRead i z = (w : Bytes) × (rest : Bytes) × (new : Bytes) × (z ≡ w ++ rest) × (chars i z ≡ Err (flaw 105 (length w) (length w + 1))) × (is_string i ≡ true) × AreChars IsBadEscape i w rest new
+
+pub chars_cases : (i : Inside) (z : Bytes) → WellRead i z ⊎ BadlyRead i z
+unfolding chars
+chars_cases i z = go (run i 0 0 [] z (omega arith))
+  where
+    go : Read i (chars_from i 0 [] 0 z) 0 0 [] z → WellRead i z ⊎ BadlyRead i z
+    go (b ∷ v, w, rest, new, text, len, e) = absurd (omega (arith, len))
+    go ([], w, rest, new, text, len, inl e) = inl (w, rest, new, text, e.0 ∙ same_ok new new (0 + 0 + length w) (length w) refl (omega arith), e.1)
+    go ([], w, rest, new, text, len, inr e) = inr (w, rest, new, text, e.0 ∙ ap (λ k. Err (flaw 105 k (k + 1))) (let q : 0 + 0 + length w ≡ length w = omega arith in q), e.1, e.2)
+
+pub chars_are : (i : Inside) (w rest new : Bytes) → AreChars (Stops i) i w rest new → chars i (w ++ rest) ≡ Ok (new, length w)
+unfolding chars
+chars_are i w rest new h = chars_full i w rest new h [] 0 ∙ same_ok new new (0 + length w) (length w) refl (omega arith)
+
+-- ---- tokens
+
+begins_with : (c z : Bytes) → begins c z ≡ true → (rest : Bytes) × (z ≡ c ++ rest)
+begins_with [] z h = (z, refl)
+begins_with (b ∷ c) [] h = cc
+begins_with (b ∷ c) (x ∷ z) h =
+    let q = and_parts (b == x) (begins c z) h in
+    let t = begins_with c z q.1 in
+    (t.0, (let e : b ≡ x = eqb-true b x q.0 in let f = t.1 in (let g : x ∷ z ≡ b ∷ (c ++ t.0) = cc in g)))
+
+closes_itself : (i : Inside) (rest : Bytes) → begins (closer i) (closer i ++ rest) ≡ true
+closes_itself (string Single) rest = refl
+closes_itself (string Double) rest = refl
+closes_itself (command Brace) rest = refl
+closes_itself (command Angle) rest = refl
+
+hole_is_open : (i : Inside) (m : HoleMark) (z : Bytes) → begins (closer i) (hole_byte m ∷ z) ≡ false
+hole_is_open (string Single) Tilde z = refl
+hole_is_open (string Double) Tilde z = refl
+hole_is_open (command Brace) Tilde z = refl
+hole_is_open (command Angle) Tilde z = refl
+hole_is_open (string Single) Dollar z = refl
+hole_is_open (string Double) Dollar z = refl
+hole_is_open (command Brace) Dollar z = refl
+hole_is_open (command Angle) Dollar z = refl
+
+-- what opens a placeholder
+hole_bytes : (i : Inside) (b c : ℕ) (m : HoleMark) → hole_at i b c ≡ Some m → (b ≡ hole_byte m) × (c ≡ 123) × (hole_at i (hole_byte m) 123 ≡ Some m)
+hole_bytes i b c m h = brace (chosen (c == 123) _ _ _ h)
+  where
+    dollar : c ≡ 123 → ((b == 36 && takes_dollar i) ≡ true) × (Some Dollar ≡ Some m) ⊎ (((b == 36 && takes_dollar i) ≡ false) × (None ≡ Some m)) → (b ≡ hole_byte m) × (c ≡ 123) × (hole_at i (hole_byte m) 123 ≡ Some m)
+    dollar e (inl q) =
+        let t = and_parts (b == 36) (takes_dollar i) q.0 in
+        let is : Dollar ≡ m = (let f = q.1 in cc) in
+        subst (λ x. (b ≡ hole_byte x) × (c ≡ 123) × (hole_at i (hole_byte x) 123 ≡ Some x)) is (eqb-true b 36 t.0, e, cond-true (takes_dollar i) _ _ t.1)
+    dollar e (inr q) = (let f = q.1 in let n : ⊥ = cc in absurd n)
+
+    tilde : c ≡ 123 → ((b == 126) ≡ true) × (Some Tilde ≡ Some m) ⊎ (((b == 126) ≡ false) × (cond (b == 36 && takes_dollar i) (Some Dollar) None ≡ Some m)) → (b ≡ hole_byte m) × (c ≡ 123) × (hole_at i (hole_byte m) 123 ≡ Some m)
+    tilde e (inl q) =
+        let is : Tilde ≡ m = (let f = q.1 in cc) in
+        subst (λ x. (b ≡ hole_byte x) × (c ≡ 123) × (hole_at i (hole_byte x) 123 ≡ Some x)) is (eqb-true b 126 q.0, e, refl)
+    tilde e (inr q) = dollar e (chosen (b == 36 && takes_dollar i) _ _ _ q.1)
+
+    brace : ((c == 123) ≡ true) × (cond (b == 126) (Some Tilde) (cond (b == 36 && takes_dollar i) (Some Dollar) None) ≡ Some m) ⊎ (((c == 123) ≡ false) × (None ≡ Some m)) → (b ≡ hole_byte m) × (c ≡ 123) × (hole_at i (hole_byte m) 123 ≡ Some m)
+    brace (inl q) = tilde (eqb-true c 123 q.0) (chosen (b == 126) _ _ _ q.1)
+    brace (inr q) = (let f = q.1 in let n : ⊥ = cc in absurd n)
+
+none_hole : (i : Inside) (b c : ℕ) (o : Option HoleMark) → hole_at i b c ≡ o → is_some (hole_at i b c) ≡ false → hole_at i b c ≡ None
+none_hole i b c None e h = e
+none_hole i b c (Some m) e h = (let f = sym (ap is_some e) ∙ h in let n : ⊥ = cc in absurd n)
+
+abbrev got : Found → Result Found Flaw
+got t = Ok t
+
+abbrev bad : Flaw → Result Found Flaw
+bad f = Err f
+
+same_got : (x y : Found) → got x ≡ got y → (x.0 ≡ y.0) × (x.1 ≡ y.1)
+same_got x y h = let e : x ≡ y = cc in (ap (λ (z : Found). z.0) e, ap (λ (z : Found). z.1) e)
+
+same_bad : (f g : Flaw) → bad f ≡ bad g → f ≡ g
+same_bad f g h = cc
+
+-- the tests of a byte at which characters may stand
+stops_parts : (i : Inside) (b : ℕ) (z : Bytes) → begins (closer i) (b ∷ z) ≡ false → is_some (hole_at i b (first z)) ≡ false → (b == 0) ≡ false → (is_string i && b == 10) ≡ false → stops i (b ∷ z) ≡ false
+stops_parts i b z c h n l = or_from _ _ (or_from _ _ (or_from _ _ c h) n) l
+
+abbrev pub ReadsText : Inside → Bytes → Kind → ℕ → Type 0
+ReadsText i z k m = (w : Bytes) × (rest : Bytes) × (z ≡ w ++ rest) × (length w ≡ m) × IsTextToken i w rest k
+
+-- a token in a text that goes on, or what is wrong there
+abbrev Tells : Inside → Bytes → Result Found Flaw → Type 0
+Tells i z (Ok t) = ReadsText i z t.0 t.1
+Tells i z (Err f) = IsTextFlaw i z f
+
+tells_chars : (i : Inside) (b : ℕ) (y : Bytes) → stops i (b ∷ y) ≡ false → WellRead i (b ∷ y) ⊎ BadlyRead i (b ∷ y) → Tells i (b ∷ y) (as_chars (chars i (b ∷ y)))
+unfolding as_chars
+tells_chars i b y st (inl ([], rest, new, text, is, (s.over r q))) = clash (stops i (b ∷ y)) (ap (stops i) text ∙ q) st
+tells_chars i b y st (inl (c ∷ w, rest, new, text, is, h)) =
+    subst (Tells i (b ∷ y)) (sym (ap as_chars is)) (c ∷ w, rest, text, refl, s.chars c w rest new (ap (stops i) (sym text) ∙ st) h)
+tells_chars i b y st (inr (w, rest, new, text, is, str, h)) =
+    subst (Tells i (b ∷ y)) (sym (ap as_chars is)) (subst (λ x. IsTextFlaw i x (flaw 105 (length w) (length w + 1))) (sym text) (fault.escape w rest new str h))
+
+pub text_tells : (i : Inside) (b : ℕ) (y : Bytes) → Tells i (b ∷ y) (text_token i (b ∷ y))
+unfolding text_token
+text_tells i b y = close (cases_Bool (begins (closer i) (b ∷ y)))
+  where
+    line : begins (closer i) (b ∷ y) ≡ false → hole_at i b (first y) ≡ None → (b == 0) ≡ false → (is_string i && b == 10 ≡ true) ⊎ ((is_string i && b == 10) ≡ false) → Tells i (b ∷ y) (cond (is_string i && b == 10) (Err (flaw 103 0 1)) (as_chars (chars i (b ∷ y))))
+    line c h n (inl q) =
+        let t = and_parts (is_string i) (b == 10) q in
+        subst (Tells i (b ∷ y)) (sym (cond-true (is_string i && b == 10) _ _ q)) (subst (λ x. IsTextFlaw i (x ∷ y) (flaw 103 0 1)) (sym (eqb-true b 10 t.1)) (fault.newline y t.0))
+    line c h n (inr q) =
+        subst (Tells i (b ∷ y)) (sym (cond-false (is_string i && b == 10) _ _ q)) (tells_chars i b y (stops_parts i b y c (ap is_some h) n q) (chars_cases i (b ∷ y)))
+
+    nul : begins (closer i) (b ∷ y) ≡ false → hole_at i b (first y) ≡ None → ((b == 0) ≡ true) ⊎ ((b == 0) ≡ false) → Tells i (b ∷ y) (text_behind_hole None i (b ∷ y))
+    nul c h (inl q) = subst (Tells i (b ∷ y)) (sym (cond-true (b == 0) _ _ q)) (subst (λ x. IsTextFlaw i (x ∷ y) (flaw 102 0 1)) (sym (eqb-true b 0 q)) (fault.nul y))
+    nul c h (inr q) = subst (Tells i (b ∷ y)) (sym (cond-false (b == 0) _ _ q)) (line c h q (cases_Bool (is_string i && b == 10)))
+
+    opened : (y : Bytes) (m : HoleMark) → hole_at i b (first y) ≡ Some m → Tells i (b ∷ y) (Ok (kind.HoleOpen m, 2))
+    opened [] m h = let t = hole_bytes i b 0 m h in absurd (omega (arith, t.1))
+    opened (c ∷ y) m h =
+        let t = hole_bytes i b c m h in
+        (hole_byte m ∷ 123 ∷ [], y, (let e = t.0 in let f = t.1 in (let g : b ∷ c ∷ y ≡ hole_byte m ∷ 123 ∷ y = cc in g)), refl, s.hole m y t.2)
+
+    hole : begins (closer i) (b ∷ y) ≡ false → (o : Option HoleMark) → hole_at i b (first y) ≡ o → Tells i (b ∷ y) (text_behind_hole o i (b ∷ y))
+    hole c None h = nul c h (cases_Bool (b == 0))
+    hole c (Some m) h = opened y m h
+
+    close : (begins (closer i) (b ∷ y) ≡ true) ⊎ (begins (closer i) (b ∷ y) ≡ false) → Tells i (b ∷ y) (text_token i (b ∷ y))
+    close (inl q) =
+        let t = begins_with (closer i) (b ∷ y) q in
+        subst (Tells i (b ∷ y)) (sym (cond-true (begins (closer i) (b ∷ y)) _ _ q)) (closer i, t.0, t.1, refl, s.close t.0)
+    close (inr q) = subst (Tells i (b ∷ y)) (sym (cond-false (begins (closer i) (b ∷ y)) _ _ q)) (hole q (hole_at i b (first y)) refl)
+
+pub text_full : (i : Inside) (w rest : Bytes) (k : Kind) → IsTextToken i w rest k → text_token i (w ++ rest) ≡ Ok (k, length w)
+unfolding text_token as_chars
+text_full i w rest k (s.close r) = cond-true (begins (closer i) (closer i ++ rest)) _ _ (closes_itself i rest)
+text_full i w rest k (s.hole m r h) =
+    cond-false (begins (closer i) (hole_byte m ∷ 123 ∷ rest)) _ _ (hole_is_open i m (123 ∷ rest)) ∙ ap (λ o. text_behind_hole o i (hole_byte m ∷ 123 ∷ rest)) h
+text_full i w rest k (s.chars b v r new st h) =
+    let p = or_parts (begins (closer i) (b ∷ (v ++ rest)) || is_some (hole_at i b (first (v ++ rest))) || b == 0) (is_string i && b == 10) st in
+    let q = or_parts (begins (closer i) (b ∷ (v ++ rest)) || is_some (hole_at i b (first (v ++ rest)))) (b == 0) p.0 in
+    let t = or_parts (begins (closer i) (b ∷ (v ++ rest))) (is_some (hole_at i b (first (v ++ rest)))) q.0 in
+    cond-false (begins (closer i) (b ∷ (v ++ rest))) _ _ t.0
+    ∙ ap (λ o. text_behind_hole o i (b ∷ (v ++ rest))) (none_hole i b (first (v ++ rest)) (hole_at i b (first (v ++ rest))) refl t.1)
+    ∙ cond-false (b == 0) _ _ q.1 ∙ cond-false (is_string i && b == 10) _ _ p.1 ∙ ap as_chars (chars_are i (b ∷ v) rest new h)
