@@ -242,7 +242,7 @@ abbrev pub ReadsText : Inside → Bytes → Kind → ℕ → Type 0
 ReadsText i z k m = (w : Bytes) × (rest : Bytes) × (z ≡ w ++ rest) × (length w ≡ m) × IsTextToken i w rest k
 
 -- a token in a text that goes on, or what is wrong there
-abbrev Tells : Inside → Bytes → Result Found Flaw → Type 0
+abbrev pub Tells : Inside → Bytes → Result Found Flaw → Type 0
 Tells i z (Ok t) = ReadsText i z t.0 t.1
 Tells i z (Err f) = IsTextFlaw i z f
 
