@@ -198,7 +198,7 @@ hole_is_open (command Brace) Dollar z = refl
 hole_is_open (command Angle) Dollar z = refl
 
 -- what opens a placeholder
-hole_bytes : (i : Inside) (b c : ℕ) (m : HoleMark) → hole_at i b c ≡ Some m → (b ≡ hole_byte m) × (c ≡ 123) × (hole_at i (hole_byte m) 123 ≡ Some m)
+pub hole_bytes : (i : Inside) (b c : ℕ) (m : HoleMark) → hole_at i b c ≡ Some m → (b ≡ hole_byte m) × (c ≡ 123) × (hole_at i (hole_byte m) 123 ≡ Some m)
 hole_bytes i b c m h = brace (chosen (c == 123) _ _ _ h)
   where
     dollar : c ≡ 123 → ((b == 36 && takes_dollar i) ≡ true) × (Some Dollar ≡ Some m) ⊎ (((b == 36 && takes_dollar i) ≡ false) × (None ≡ Some m)) → (b ≡ hole_byte m) × (c ≡ 123) × (hole_at i (hole_byte m) 123 ≡ Some m)

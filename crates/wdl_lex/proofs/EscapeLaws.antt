@@ -32,7 +32,7 @@ octal_simple b d =
     ∙ cond-false (b == 36) _ _ (differs b 36 d (inl (omega arith)))
 
 -- the letters of hexadecimal escapes
-hex_is : (b n : ℕ) → hex_digits b ≡ Some n → (b ≡ 120) ⊎ ((b ≡ 117) ⊎ (b ≡ 85))
+pub hex_is : (b n : ℕ) → hex_digits b ≡ Some n → (b ≡ 120) ⊎ ((b ≡ 117) ⊎ (b ≡ 85))
 hex_is b n h = x (chosen (b == 120) _ _ _ h)
   where
     long : ((b == 85) ≡ true) × (Some 8 ≡ Some n) ⊎ (((b == 85) ≡ false) × (None ≡ Some n)) → (b ≡ 120) ⊎ ((b ≡ 117) ⊎ (b ≡ 85))
