@@ -1,5 +1,5 @@
 -- The marks at the front of a text.
-use Rattle.std.proofs.Common.{◌≡◌, ℕ, zero, suc, ◌+◌, ◌<◌, ◌≤◌, Bool, true, false, not, cond, ◌&&◌, ◌||◌, ◌==◌, ◌⊎◌, inl, inr, List, [], ◌∷◌, ◌++◌, length, Option, Some, None, refl, ap, sym, ◌∙◌, subst, arith}
+use Rattle.std.proofs.Common.{◌≡◌, ℕ, zero, suc, ◌+◌, ◌<◌, ◌≤◌, Bool, true, false, not, cond, ◌&&◌, ◌||◌, ◌==◌, ◌⊎◌, inl, inr, List, [], ◌∷◌, ◌++◌, length, Option, Some, None, Ok, refl, ap, sym, ◌∙◌, subst, arith}
 use Rattle.std.proofs.lemmas.Bool.{and_parts, and_from, and_right, cond-true, cond-false, eqb-true, eq-eqb, not-true, cases_Bool}
 use Rattle.std.proofs.lemmas.Bool.Decides.{nat_tests}
 use Rattle.std.specs.List.{list_all}
@@ -9,7 +9,7 @@ use Rattle.wdl_ast.specs.declared.token.Kind.{Kind}
 use Rattle.wdl_ast.specs.declared.token.Kind.TheVariants as kind
 use Rattle.wdl_ast.specs.Spelled.Classes.{Bytes, is_blank, is_letter, is_digit_of, first}
 use Rattle.wdl_ast.specs.Spelled.Marks.{singles, doubles, single_in, double_in, single, double, triple, mark_of}
-use Rattle.wdl_lex.specs.Reading.Code.{Found, rest, or_else, mark_at}
+use Rattle.wdl_lex.specs.Reading.Code.{Found, rest, or_else, mark_at, checked}
 use Rattle.wdl_lex.proofs.Digits.{is_plain, are_plain}
 use Rattle.wdl_lex.proofs.Lists.{chosen}
 
@@ -205,3 +205,63 @@ point_mark awaits closes [] k q = refl
 point_mark awaits closes (c ∷ []) k q = cc
 point_mark awaits closes (c ∷ d ∷ []) k q = cc
 point_mark awaits closes (c ∷ d ∷ e ∷ w) k q = cc
+
+-- ---- a mark is neither a word nor a number
+
+abbrev is_bare : Kind → Bool
+is_bare (kind.Word w) = false
+is_bare (kind.Int n) = false
+is_bare (kind.Frac w) = false
+is_bare _ = true
+
+bare_single : (es : List (ℕ × Kind)) (b : ℕ) (k : Kind) → list_all (λ (e : ℕ × Kind). is_bare e.1) es ≡ true → single_in es b ≡ Some k → is_bare k ≡ true
+bare_single [] b k h q = cc
+bare_single (e ∷ es) b k h q = go (λ r. bare_single es b k (and_parts (is_bare e.1) (list_all (λ (e : ℕ × Kind). is_bare e.1) es) h).1 r) (chosen (b == e.0) _ _ _ q)
+  where
+    go : (single_in es b ≡ Some k → is_bare k ≡ true) → ((b == e.0) ≡ true) × (Some e.1 ≡ Some k) ⊎ (((b == e.0) ≡ false) × (single_in es b ≡ Some k)) → is_bare k ≡ true
+    go more (inl r) = (let f : e.1 ≡ k = (let g = r.1 in cc) in ap is_bare (sym f) ∙ (and_parts (is_bare e.1) (list_all (λ (e : ℕ × Kind). is_bare e.1) es) h).0)
+    go more (inr r) = more r.1
+
+bare_double : (es : List (ℕ × ℕ × Kind)) (b c : ℕ) (k : Kind) → list_all (λ (e : ℕ × ℕ × Kind). is_bare e.2) es ≡ true → double_in es b c ≡ Some k → is_bare k ≡ true
+bare_double [] b c k h q = cc
+bare_double (e ∷ es) b c k h q = go (λ r. bare_double es b c k (and_parts (is_bare e.2) (list_all (λ (e : ℕ × ℕ × Kind). is_bare e.2) es) h).1 r) (chosen (b == e.0 && c == e.1) _ _ _ q)
+  where
+    go : (double_in es b c ≡ Some k → is_bare k ≡ true) → ((b == e.0 && c == e.1) ≡ true) × (Some e.2 ≡ Some k) ⊎ (((b == e.0 && c == e.1) ≡ false) × (double_in es b c ≡ Some k)) → is_bare k ≡ true
+    go more (inl r) = (let f : e.2 ≡ k = (let g = r.1 in cc) in ap is_bare (sym f) ∙ (and_parts (is_bare e.2) (list_all (λ (e : ℕ × ℕ × Kind). is_bare e.2) es) h).0)
+    go more (inr r) = more r.1
+
+mark_bare : (awaits closes : Bool) (w : Bytes) (k : Kind) → mark_of awaits closes w ≡ Some k → is_bare k ≡ true
+unfolding single double triple
+mark_bare awaits closes [] k q = cc
+mark_bare awaits closes (b ∷ []) k q = braced (chosen (b == 123 && awaits) _ _ _ q)
+  where
+    ended : ((b == 125 && closes) ≡ true) × (Some kind.HoleClose ≡ Some k) ⊎ (((b == 125 && closes) ≡ false) × (single_in singles b ≡ Some k)) → is_bare k ≡ true
+    ended (inl r) = (let f : kind.HoleClose ≡ k = (let g = r.1 in cc) in ap is_bare (sym f))
+    ended (inr r) = bare_single singles b k refl r.1
+
+    braced : ((b == 123 && awaits) ≡ true) × (Some (kind.CommandOpen Brace) ≡ Some k) ⊎ (((b == 123 && awaits) ≡ false) × (cond (b == 125 && closes) (Some kind.HoleClose) (single_in singles b) ≡ Some k)) → is_bare k ≡ true
+    braced (inl r) = (let f : kind.CommandOpen Brace ≡ k = (let g = r.1 in cc) in ap is_bare (sym f))
+    braced (inr r) = ended (chosen (b == 125 && closes) _ _ _ r.1)
+mark_bare awaits closes (b ∷ c ∷ []) k q = bare_double doubles b c k refl q
+mark_bare awaits closes (b ∷ c ∷ d ∷ []) k q = go (chosen (b == 60 && (c == 60 && (d == 60 && awaits))) _ _ _ q)
+  where
+    go : ((b == 60 && (c == 60 && (d == 60 && awaits))) ≡ true) × (Some (kind.CommandOpen Angle) ≡ Some k) ⊎ (((b == 60 && (c == 60 && (d == 60 && awaits))) ≡ false) × (None ≡ Some k)) → is_bare k ≡ true
+    go (inl r) = (let f : kind.CommandOpen Angle ≡ k = (let g = r.1 in cc) in ap is_bare (sym f))
+    go (inr r) = (let e = r.1 in let n : ⊥ = cc in absurd n)
+mark_bare awaits closes (b ∷ c ∷ d ∷ e ∷ w) k q = cc
+
+checked_bare : (k : Kind) → is_bare k ≡ true → (z : Bytes) (n : ℕ) → checked true z (Some (k, n)) ≡ Ok (k, n)
+checked_bare (kind.Word w) h z n = cc
+checked_bare (kind.Int i) h z n = cc
+checked_bare (kind.Frac w) h z n = cc
+checked_bare (kind.Mark m) h z n = refl
+checked_bare (kind.StrOpen q) h z n = refl
+checked_bare kind.StrClose h z n = refl
+checked_bare (kind.Chars w) h z n = refl
+checked_bare (kind.HoleOpen m) h z n = refl
+checked_bare kind.HoleClose h z n = refl
+checked_bare (kind.CommandOpen f) h z n = refl
+checked_bare kind.CommandClose h z n = refl
+
+pub mark_checked : (awaits closes : Bool) (z : Bytes) (k : Kind) (n : ℕ) → mark_at awaits closes z ≡ Some (k, n) → checked true z (mark_at awaits closes z) ≡ Ok (k, n)
+mark_checked awaits closes z k n h = let t = mark_sound awaits closes z k n h in ap (checked true z) h ∙ checked_bare k (mark_bare awaits closes t.0 k t.4) z n

@@ -462,3 +462,32 @@ int_cases b y d = is_zero (b == 48) refl
     is_zero : (t : Bool) → (b == 48) ≡ t → HasInt (b ∷ y)
     is_zero true h = subst (λ x. HasInt (x ∷ y)) (sym (eqb-true b 48 h)) (zero_first y (is_hex (48 ∷ y)) refl)
     is_zero false h = decimal h (measures (b ∷ y) 10 0 (decimal_base b y h))
+
+some_len : (base : ℕ) (z : Bytes) → is_digit_of base 0 ≡ false → is_digit_of base (first z) ≡ true → 0 < digits_len base z
+some_len base [] n d = clash (is_digit_of base 0) d n
+some_len base (b ∷ z) n d = let q : digits_len base (b ∷ z) ≡ 1 + digits_len base z = cond-true (is_digit_of base b) _ _ d in omega (arith, q)
+
+nul_is_no_digit : (is_digit_of 8 0 ≡ false) × (is_digit_of 10 0 ≡ false) × (is_digit_of 16 0 ≡ false)
+unfolding is_digit_of
+nul_is_no_digit = (refl, refl, refl)
+
+pub some_int_digits : (z : Bytes) → is_digit_of 10 (first z) ≡ true → 0 < digits_len (base_of z).0 (drop (base_of z).1 z)
+some_int_digits z d = hex (cases_Bool (is_hex z))
+  where
+    measured : (b : ℕ × ℕ) → base_of z ≡ b → 0 < digits_len b.0 (drop b.1 z) → 0 < digits_len (base_of z).0 (drop (base_of z).1 z)
+    measured b e h = subst (λ (x : ℕ × ℕ). 0 < digits_len x.0 (drop x.1 z)) (sym e) h
+
+    hex_some : (z : Bytes) → is_hex z ≡ true → 0 < digits_len 16 (drop 2 z)
+    hex_some [] h = cc
+    hex_some (b ∷ []) h = cc
+    hex_some (b ∷ x ∷ z) h =
+        let p = and_parts (b == 48) (is_hex_mark x && is_digit_of 16 (first z)) h in
+        some_len 16 z nul_is_no_digit.2 (and_parts (is_hex_mark x) (is_digit_of 16 (first z)) p.1).1
+
+    zero_ : is_hex z ≡ false → ((first z == 48) ≡ true) ⊎ ((first z == 48) ≡ false) → 0 < digits_len (base_of z).0 (drop (base_of z).1 z)
+    zero_ h (inl q) = measured (8, 0) (cond-false (is_hex z) _ _ h ∙ cond-true (first z == 48) _ _ q) (some_len 8 z nul_is_no_digit.0 (ap (is_digit_of 8) (eqb-true (first z) 48 q) ∙ zero_octal))
+    zero_ h (inr q) = measured (10, 0) (cond-false (is_hex z) _ _ h ∙ cond-false (first z == 48) _ _ q) (some_len 10 z nul_is_no_digit.1 d)
+
+    hex : (is_hex z ≡ true) ⊎ (is_hex z ≡ false) → 0 < digits_len (base_of z).0 (drop (base_of z).1 z)
+    hex (inl h) = measured (16, 2) (cond-true (is_hex z) _ _ h) (hex_some z h)
+    hex (inr h) = zero_ h (cases_Bool (first z == 48))

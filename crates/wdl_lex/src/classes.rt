@@ -1,6 +1,6 @@
 //! The classes of bytes, and the front of a text.
 
-ghost use Rattle.std.specs.Prelude.{◌≡◌, ◌≤◌, length, drop};
+ghost use Rattle.std.specs.Prelude.{◌≡◌, ◌≤◌, length, take, drop};
 ghost use Rattle.std.specs.List.{prefix_len};
 ghost use Rattle.wdl_ast.specs.Spelled.Classes as spec;
 ghost use Rattle.wdl_lex.specs.Reading.Code.{rest};
@@ -71,6 +71,14 @@ pub fn behind(z: &[u8], at: usize) -> &[u8]
     ensures { result.now ≡ drop at z.now }
 {
     &z[at..]
+}
+
+/// The first `len` bytes.
+pub fn front(z: &[u8], len: usize) -> &[u8]
+    requires { len ≤ length z.now }
+    ensures { result.now ≡ take len z.now }
+{
+    &z[..len]
 }
 
 /// How many digits stand at the front.

@@ -3,7 +3,7 @@
 
 mod chars;
 mod classes;
-//mod code;
+mod code;
 mod escapes;
 mod fault;
 mod gaps;
