@@ -30,27 +30,32 @@ inside_of (kind.StrOpen q) = Some (string q)
 inside_of (kind.CommandOpen f) = Some (command f)
 inside_of _ = None
 
-abbrev pub inside : Open → Option Inside
-inside [] = None
-inside (t ∷ opened) = inside_of t.kind
+abbrev pub innermost : Open → Option Kind
+innermost [] = None
+innermost (t ∷ opened) = Some t.kind
 
-abbrev pub is_hole : Kind → Bool
-is_hole (kind.HoleOpen m) = true
+abbrev pub inside_at : Option Kind → Option Inside
+inside_at None = None
+inside_at (Some k) = inside_of k
+
+abbrev pub inside : Open → Option Inside
+inside opened = inside_at (innermost opened)
+
+abbrev pub is_hole : Option Kind → Bool
+is_hole (Some (kind.HoleOpen m)) = true
 is_hole _ = false
 
-abbrev pub is_open_brace : Kind → Bool
-is_open_brace (kind.Mark mark.OpenBrace) = true
+abbrev pub is_open_brace : Option Kind → Bool
+is_open_brace (Some (kind.Mark mark.OpenBrace)) = true
 is_open_brace _ = false
 
 -- a placeholder is innermost, with no open brace in it
 abbrev pub in_hole : Open → Bool
-in_hole [] = false
-in_hole (t ∷ opened) = is_hole t.kind
+in_hole opened = is_hole (innermost opened)
 
 -- a brace in a placeholder is innermost
 abbrev pub in_brace : Open → Bool
-in_brace [] = false
-in_brace (t ∷ opened) = is_open_brace t.kind
+in_brace opened = is_open_brace (innermost opened)
 
 abbrev pub closed : Open → Open
 closed [] = []

@@ -19,7 +19,7 @@ use Rattle.wdl_lex.specs.Faults as fault
 use Rattle.wdl_lex.specs.Faults.{IsBadEscape, IsTextFlaw}
 use Rattle.wdl_lex.specs.Reading.Code.{Found, flaw}
 use Rattle.wdl_lex.specs.Reading.Escapes.{escape}
-use Rattle.wdl_lex.specs.Reading.Chars.{Meant, with_escape, chars_from, chars, as_chars, text_behind_hole, second, text_token}
+use Rattle.wdl_lex.specs.Reading.Chars.{Meant, with_escape, chars_from, chars, as_chars, text_behind_hole, text_token}
 use Rattle.wdl_lex.proofs.Lists.{chosen, clash, same_head, same_front}
 use Rattle.wdl_lex.proofs.EscapeLaws.{escape_full, escape_sound, no_escape, HasEscape}
 

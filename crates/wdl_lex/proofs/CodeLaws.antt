@@ -291,14 +291,19 @@ module _ (awaits closes : Bool) where
       fits_in v more e (j, l, q, le) w len = let s = same_some (j, l) (k, m) (sym q ∙ ap (longest_at awaits closes) e ∙ h) in omega (arith, s.1, le, len)
 
   pub longest_found : (w rest : Bytes) (k : Kind) → IsLongest awaits closes w rest k → longest_at awaits closes (w ++ rest) ≡ Some (k, length w)
-  longest_found w rest k t =
-      let l = least w rest k t.spells in
-      let f = finds (w ++ rest) l.0 l.1 l.2 in
-      let le : length f.0 ≤ length w = t.longest f.0 f.1 l.0 f.2 f.4 in
-      let len : length f.0 ≡ length w = omega (arith, le, l.3, f.3) in
-      let same = same_front f.0 w f.1 rest (sym f.2) len in
-      let kinds = same_some (l.0, length f.0) (k, length w) (sym (exact f.0 l.0 f.4) ∙ ap (longest_at awaits closes) same.0 ∙ exact w k t.spells) in
-      l.2 ∙ ap (λ x. Some (x, l.1)) kinds.0 ∙ ap (λ m. Some (k, m)) (sym f.3 ∙ len)
+  longest_found w rest k t = go (least w rest k t.spells)
+    where
+      one : (j : Kind) (m : ℕ) → length w ≤ m → Finds (w ++ rest) j m → (j ≡ k) × (m ≡ length w)
+      one j m le (v, more, text, len, q) =
+          let most : length v ≤ length w = t.longest v more j text q in
+          let same = same_front v w more rest (sym text) (let e : length v ≡ length w = omega (arith, most, le, len) in e) in
+          ((same_some (j, length v) (k, length w) (sym (exact v j q) ∙ ap (longest_at awaits closes) same.0 ∙ exact w k t.spells)).0, (let e : m ≡ length w = omega (arith, most, le, len) in e))
+
+      go : Most (longest_at awaits closes (w ++ rest)) (length w) → longest_at awaits closes (w ++ rest) ≡ Some (k, length w)
+      go (j, m, h, le) =
+          let is = one j m le (finds (w ++ rest) j m h) in
+          let p : (j, m) ≡ (k, length w) = (let e = is.0 in let f = is.1 in cc) in
+          h ∙ ap some_found p
 
   pub none_found : (z : Bytes) → longest_at awaits closes z ≡ None → (w rest : Bytes) (k : Kind) → z ≡ w ++ rest → Spells awaits closes w k → ⊥
   none_found z h w rest k e q = let l = least w rest k q in let f = sym h ∙ ap (longest_at awaits closes) e ∙ l.2 in let n : ⊥ = cc in n

@@ -26,7 +26,9 @@ use Rattle.wdl_ast.specs.Spelled.Gaps.{IsGap}
 use Rattle.wdl_lex.proofs.Digits.{is_plain, are_plain, plain_utf8, plain_nul, digits_plain}
 use Rattle.wdl_lex.proofs.Lists.{chosen}
 use Rattle.wdl_lex.proofs.EscapeLaws.{hex_is}
-use Rattle.wdl_lex.proofs.CharLaws.{hole_bytes}
+use Rattle.wdl_lex.specs.declared.fault.Flaw.{Flaw}
+use Rattle.wdl_lex.specs.Reading.Chars.{Meant, chars}
+use Rattle.wdl_lex.proofs.CharLaws.{hole_bytes, WellRead, BadlyRead, chars_cases}
 use Rattle.wdl_lex.proofs.CodeLaws.{spells_plain}
 
 -- ---- where a text may be cut
@@ -195,3 +197,19 @@ behind_gap g y (gaps.blank b v q more) u = behind_gap v y more (behind_plain (b 
 behind_gap g y (gaps.comment body v q more) u =
     let cut = cut_before (35 ∷ body) (v ++ y) 10 (subst (λ z. IsUtf8 (35 ∷ z)) (append_assoc body (10 ∷ v) y) u) (omega arith) in
     behind_gap v y more (behind_plain (10 ∷ []) (v ++ y) refl cut.1)
+
+abbrev meant : Meant → Result Meant Flaw
+meant m = Ok m
+
+same_meant : (x y : Meant) → meant x ≡ meant y → x ≡ y
+same_meant x y h = cc
+
+pub chars_give : (i : Inside) (z new : Bytes) (m : ℕ) → chars i z ≡ Ok (new, m) → IsUtf8 z → IsUtf8 new × (has_nul new ≡ false)
+chars_give i z new m h u = go (chars_cases i z)
+  where
+    go : WellRead i z ⊎ BadlyRead i z → IsUtf8 new × (has_nul new ≡ false)
+    go (inl (w, rest, x, text, is, a)) =
+        let same : x ≡ new = ap (λ (t : Meant). t.0) (same_meant (x, length w) (new, m) (sym is ∙ h)) in
+        let t = chars_text i w rest x a (subst IsUtf8 text u) in
+        (subst IsUtf8 same t.0, ap has_nul (sym same) ∙ t.1)
+    go (inr b) = (let f = sym b.4 ∙ h in let n : ⊥ = cc in absurd n)

@@ -7,7 +7,7 @@ use Rattle.wdl_value.specs.declared.span.Span.{Span}
 use Rattle.wdl_ast.specs.declared.token.Kind.{Kind}
 use Rattle.wdl_ast.specs.declared.token.Kind.TheVariants as kind
 use Rattle.wdl_ast.specs.declared.token.Token.{Token}
-use Rattle.wdl_ast.specs.Spelled.{Open, inside_of, inside, in_hole, after, is_command, unclosed, unclosed_from, IsTokenIn, IsToken, IsGapIn, span_at, placed, AreTokens, IsOver}
+use Rattle.wdl_ast.specs.Spelled.{Open, innermost, inside_at, inside_of, inside, in_hole, after, is_command, unclosed, unclosed_from, IsTokenIn, IsToken, IsGapIn, span_at, placed, AreTokens, IsOver}
 use Rattle.wdl_ast.specs.Spelled.Classes.{Bytes, first, is_end}
 use Rattle.wdl_ast.specs.Spelled.Code.{Spells, IsCodeToken}
 use Rattle.wdl_ast.specs.Spelled.Chars as chars
@@ -24,7 +24,7 @@ use Rattle.wdl_lex.specs.Reading.Code.{Found, code_token}
 use Rattle.wdl_lex.specs.Reading.Gaps.{gap_len, gap_in}
 use Rattle.wdl_lex.specs.Reading.Chars.{text_token}
 use Rattle.wdl_lex.proofs.Digits.{is_plain, are_plain}
-use Rattle.wdl_lex.proofs.Lists.{same_head}
+use Rattle.wdl_lex.proofs.Lists.{same_head, left}
 use Rattle.wdl_lex.proofs.CodeLaws.{opens_gap, spells_first, spells_plain, code_sound, code_full, code_wrong}
 use Rattle.wdl_lex.proofs.CharLaws.{text_tells, text_full, Tells}
 use Rattle.wdl_lex.proofs.GapLaws.{gap_then, last_gap, CutsOff, Measured, Splits, gap_splits, no_gap}
@@ -32,14 +32,14 @@ use Rattle.wdl_lex.proofs.GapLaws.{gap_then, last_gap, CutsOff, Measured, Splits
 -- ---- gaps in their places
 
 -- what stands before the next token, and what follows it
-abbrev Before : Option Inside → Bytes → Bytes → Type 0
+abbrev pub Before : Option Inside → Bytes → Bytes → Type 0
 Before None g y = IsGap g ⊎ CutsOff y
 Before (Some i) g y = g ≡ []
 
-abbrev Parts : Option Inside → Bytes → Type 0
+abbrev pub Parts : Option Inside → Bytes → Type 0
 Parts i z = (g : Bytes) × (y : Bytes) × (z ≡ g ++ y) × (gap_in i z ≡ length g) × Before i g y × (y ≡ [] → IsLastGap z)
 
-parts : (i : Option Inside) (z : Bytes) → Parts i z
+pub parts : (i : Option Inside) (z : Bytes) → Parts i z
 parts (Some i) z = ([], z, refl, refl, refl, λ e. inl (subst IsGap (sym e) gaps.none))
 parts None z =
     let m = gap_splits z in
@@ -259,3 +259,15 @@ module _ (limited : Bool) (doc : ℕ) where
       at_token n at awaits opened z g (w ++ rest) text gap_of w rest k (ap (λ x. is_end (x ++ rest)) s.2) refl (full (inside opened) awaits (in_hole opened) w rest k is k_short)
       ∙ ap (λ r. and_then r (λ ts. Ok (placed k (span_at doc (at + length g) (at + length g + length w)) ∷ ts))) (lex_full ts n (at + length g + length w) (is_command k) (after opened (span_at doc (at + length g) (at + length g + length w)) k) rest more ts_short less)
       ∙ ap (λ x. Ok (x ∷ ts)) (sym placed_is)
+
+  -- ---- for code that reads on
+
+  pub reads_token : (awaits : Bool) (opened : Open) (y : Bytes) (k : Kind) (m : ℕ) → is_end y ≡ false → token limited awaits opened y ≡ Ok (k, m) → (w : Bytes) × (rest : Bytes) × (y ≡ w ++ rest) × (length w ≡ m) × (rest ≡ drop m y) × IsToken awaits opened w rest k
+  reads_token awaits opened [] k m some h = cc
+  reads_token awaits opened (b ∷ v) k m some h =
+      let t = subst (TellsIn (inside opened) awaits (in_hole opened) (b ∷ v)) h (tells (inside opened) awaits (in_hole opened) b v) in
+      (t.0, t.1, t.2, t.3, sym (left (b ∷ v) t.0 t.1 m t.2 t.3), t.4)
+
+  pub reads_flaw : (awaits : Bool) (opened : Open) (y : Bytes) (f : Flaw) → is_end y ≡ false → token limited awaits opened y ≡ Err f → IsFlawIn (inside opened) awaits (in_hole opened) y f
+  reads_flaw awaits opened [] f some h = cc
+  reads_flaw awaits opened (b ∷ v) f some h = subst (TellsIn (inside opened) awaits (in_hole opened) (b ∷ v)) h (tells (inside opened) awaits (in_hole opened) b v)

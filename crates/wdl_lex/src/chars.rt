@@ -10,7 +10,7 @@ ghost use Rattle.wdl_lex.specs.Reading.Code.{Fails, Gives, rest};
 
 use crate::classes::{behind, first, second};
 use crate::escapes::escape;
-use crate::fault::{Flaw, Stop};
+use crate::fault::{Flaw, Stop, flawed};
 use crate::text::text_of;
 use std::alloc::{AllocError, Global};
 use wdl_ast::{Fence, HoleMark, Kind, Quote};
@@ -40,6 +40,24 @@ fn closes(inside: Inside, z: &[u8]) -> bool
         Inside::Str(Quote::Double) => matches!(z, [b'"', ..]),
         Inside::Command(Fence::Brace) => matches!(z, [b'}', ..]),
         Inside::Command(Fence::Angle) => matches!(z, [b'>', b'>', b'>', ..]),
+    }
+}
+
+fn closer_len(inside: Inside) -> usize
+    ensures { result ≡ length (form.closer (spec.inside inside)) }
+{
+    match inside {
+        Inside::Command(Fence::Angle) => 3,
+        _ => 1,
+    }
+}
+
+fn closing(inside: Inside) -> Kind
+    ensures { result ≡ form.closing (spec.inside inside) }
+{
+    match inside {
+        Inside::Str(_) => Kind::StrClose,
+        Inside::Command(_) => Kind::CommandClose,
     }
 }
 
@@ -136,4 +154,27 @@ fn chars(alloc: Global, inside: Inside, z: &[u8]) -> Result<(Vec<u8>, usize), St
         skip = push_unit(&mut out, inside, here, at)?;
     }
     Ok((out, z.len()))
+}
+
+/// The token at the front, with its length.
+#[tactic(auto, unfolding(crate::specs::Reading::Chars::text_token, crate::specs::Reading::Chars::as_chars))]
+pub fn text_token(alloc: Global, inside: Inside, z: &[u8]) -> Result<(Kind, usize), Stop>
+    requires { IsUtf8 z.now }
+    ensures { Gives (spec.text_token (spec.inside inside) z.now) result }
+{
+    if closes(inside, z) {
+        return Ok((closing(inside), closer_len(inside)));
+    }
+    let b = first(z);
+    if let Some(mark) = hole_at(inside, b, second(z)) {
+        return Ok((Kind::HoleOpen(mark), 2));
+    }
+    if b == 0 {
+        return Err(flawed(102, 1));
+    }
+    if is_string(inside) && b == b'\n' {
+        return Err(flawed(103, 1));
+    }
+    let (out, len) = chars(alloc, inside, z)?;
+    Ok((Kind::Chars(text_of(out)), len))
 }

@@ -7,7 +7,7 @@ ghost use Rattle.wdl_lex.specs.Reading.Code as spec;
 ghost use Rattle.wdl_lex.specs.Reading.Numbers as number;
 
 use crate::classes::{behind, char_len, digits_len, first, front, is_digit, is_letter, is_word_byte, word_len};
-use crate::fault::{Flaw, Stop};
+use crate::fault::{Stop, flawed};
 use crate::marks::mark_at;
 use crate::numbers::{base_of, frac_len};
 use crate::text::{as_str, copied};
@@ -17,18 +17,12 @@ use wdl_ast::Kind;
 /// The bytes that a word may have.
 pub const MAX_WORD: usize = 128;
 
-fn flaw(code: u16, end: usize) -> Stop
-    ensures { result ≡ spec.flawed code end }
-{
-    Stop::Flaw(Flaw { code, start: 0, end })
-}
-
 fn word(alloc: Global, z: &[u8]) -> Result<(Kind, usize), Stop>
     ensures { spec.Gives (spec.checked true z.now (Some (spec.word_at z.now))) result }
 {
     let len = word_len(z);
     if len > MAX_WORD {
-        return Err(flaw(107, len));
+        return Err(flawed(107, len));
     }
     Ok((Kind::Word(copied(alloc, front(z, len))?), len))
 }
@@ -40,7 +34,7 @@ fn frac(alloc: Global, z: &[u8], len: usize) -> Result<(Kind, usize), Stop>
     ensures { spec.Gives (spec.checked true z.now (Some (kind.Frac (take len z.now), len))) result }
 {
     if is_word_byte(first(behind(z, len))) {
-        return Err(flaw(102, len + 1));
+        return Err(flawed(102, len + 1));
     }
     Ok((Kind::Frac(copied(alloc, front(z, len))?), len))
 }
@@ -55,11 +49,11 @@ fn int(z: &[u8]) -> Result<(Kind, usize), Stop>
     let len = digits_len(digits, base);
     let end = skip + len;
     if is_word_byte(first(behind(z, end))) {
-        return Err(flaw(102, end + 1));
+        return Err(flawed(102, end + 1));
     }
     match i64::from_str_radix(as_str(front(digits, len)), base) {
         Ok(value) => Ok((Kind::Int(value), end)),
-        Err(_) => Err(flaw(106, end)),
+        Err(_) => Err(flawed(106, end)),
     }
 }
 
@@ -82,6 +76,6 @@ pub fn code_token(alloc: Global, z: &[u8], awaits: bool, closes: bool) -> Result
     }
     match mark_at(z, awaits, closes) {
         Some(found) => Ok(found),
-        None => Err(flaw(102, char_len(b))),
+        None => Err(flawed(102, char_len(b))),
     }
 }

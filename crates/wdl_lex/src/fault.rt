@@ -1,3 +1,6 @@
+ghost use Rattle.std.specs.Prelude.{◌≡◌};
+ghost use Rattle.wdl_lex.specs.Reading.Code as reading;
+
 use std::alloc::{AllocError, AllocFailed};
 use wdl_value::{NoMemory, Span};
 
@@ -70,4 +73,11 @@ impl<T: Drop> From<AllocFailed<T>> for Stop {
     fn from(_error: AllocFailed<T>) -> Stop {
         Stop::NoMemory
     }
+}
+
+/// A flaw of the first `end` bytes.
+pub fn flawed(code: u16, end: usize) -> Stop
+    ensures { result ≡ reading.flawed code end }
+{
+    Stop::Flaw(Flaw { code, start: 0, end })
 }

@@ -9,6 +9,7 @@ mod fault;
 mod gaps;
 mod marks;
 mod numbers;
+mod open;
 mod text;
 
 pub use fault::LexFault;

@@ -9,7 +9,7 @@ use Rattle.wdl_ast.specs.Spelled.Chars.{Inside, string, command, is_string, clos
 use Rattle.wdl_lex.specs.declared.fault.Flaw.{Flaw}
 use Rattle.wdl_lex.specs.declared.chars.Inside.{Inside as Place}
 use Rattle.wdl_lex.specs.declared.chars.Inside.TheVariants.{Str, Command}
-use Rattle.wdl_lex.specs.Reading.Code.{Found, flaw}
+use Rattle.wdl_lex.specs.Reading.Code.{Found, flaw, rest}
 use Rattle.wdl_lex.specs.Reading.Escapes.{escape}
 
 abbrev pub inside : Place → Inside
@@ -46,11 +46,7 @@ text_behind_hole None i z =
     if first z == 0 then Err (flaw 102 0 1)
     else (if is_string i && first z == 10 then Err (flaw 103 0 1) else as_chars (chars i z))
 
-abbrev pub second : Bytes → ℕ
-second [] = 0
-second (b ∷ z) = first z
-
 unfoldable pub text_token : Inside → Bytes → Result Found Flaw
 text_token i z =
     if begins (closer i) z then Ok (closing i, length (closer i))
-    else text_behind_hole (hole_at i (first z) (second z)) i z
+    else text_behind_hole (hole_at i (first z) (first (rest z))) i z

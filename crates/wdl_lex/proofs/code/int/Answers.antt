@@ -69,4 +69,4 @@ returns-in-Err c =
     let word : is_word_byte (first (drop end c.args.z.now)) ≡ false = ap (λ x. is_word_byte (first x)) (sym c.behind.ensures) ∙ ap is_word_byte (sym c.first.ensures) ∙ sym c.is_word_byte.ensures ∙ c.if-is_word_byte.false in
     let some = digits_some c.args.z.now c.behind-digits.result.now c.front.result.now c.base_of-base.result c.digits_len-len.result c.base_of-base.ensures.value c.behind-digits.ensures c.digits_len-len.ensures.value c.front.ensures c.digits_len-len.ensures.within c.requires in
     let big = ints_err base c.front.result.now c.as_str.result.now c.base_of-base.ensures.high some ds c.as_str.ensures c.in-Err.ensures.value in
-    fails _ end c.flaw-in-Err.result (int_checked c.args.z.now v end read word false big) c.flaw-in-Err.ensures
+    fails _ end c.flawed-in-Err.result (int_checked c.args.z.now v end read word false big) c.flawed-in-Err.ensures
