@@ -4,7 +4,7 @@ pub mod Code
 pub mod Escapes
 pub mod Chars
 pub mod Gaps
-use Rattle.std.specs.Prelude.{◌≡◌, ℕ, zero, suc, ◌+◌, Bool, true, false, if◌then◌else◌, List, [], ◌∷◌, ◌++◌, length, drop, Option, Some, None, Result, Ok, Err}
+use Rattle.std.specs.Prelude.{◌≡◌, ℕ, zero, suc, ◌+◌, ◌≤◌, Bool, true, false, if◌then◌else◌, List, [], ◌∷◌, ◌++◌, length, drop, Option, Some, None, Result, Ok, Err}
 use Rattle.wdl_value.specs.declared.span.Span.{Span}
 use Rattle.wdl_ast.specs.declared.token.Kind.{Kind}
 use Rattle.wdl_ast.specs.declared.token.Token.{Token}
@@ -12,6 +12,8 @@ use Rattle.wdl_ast.specs.Spelled.{Open, inside_of, inside, in_hole, after, is_co
 use Rattle.wdl_ast.specs.Spelled.Classes.{Bytes, is_end}
 use Rattle.wdl_ast.specs.Spelled.Chars.{Inside, string, command}
 use Rattle.wdl_lex.specs.declared.fault.Flaw.{Flaw}
+use Rattle.wdl_lex.specs.declared.fault.Stop.{Stop}
+use Rattle.wdl_lex.specs.declared.fault.Stop.TheVariants as stop
 use Rattle.wdl_lex.specs.declared.fault.LexFault.{LexFault}
 use Rattle.wdl_lex.specs.declared.fault.LexFault.TheVariants as lex_fault
 use Rattle.wdl_lex.specs.Reading.Code.{Found, code_token}
@@ -67,6 +69,16 @@ module _ (limited : Bool) (doc : ℕ) where
 
   unfoldable pub lex : Bytes → Result (List Token) Fault
   lex z = lex_from (suc (length z)) 0 false [] z
+
+-- where a stop stands in the document, with the token at a place
+abbrev pub stopped : ℕ → ℕ → Stop → LexFault
+stopped doc at stop.NoMemory = lex_fault.NoMemory
+stopped doc at (stop.Flaw f) = lex_fault.Bad f.code (span_at doc (at + f.start) (at + f.end))
+
+-- it ends at most 4 bytes past n bytes
+abbrev pub IsNear : ℕ → Stop → Type 0
+IsNear n stop.NoMemory = Unit {0}
+IsNear n (stop.Flaw f) = (f.start ≤ n) × (f.end ≤ n + 4)
 
 -- what a function that reads ensures: what reading gives, unless memory runs out
 abbrev pub Fails : {A : Type 0} → Result A Fault → LexFault → Type 0

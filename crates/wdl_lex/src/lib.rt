@@ -7,6 +7,7 @@ mod code;
 mod escapes;
 mod fault;
 mod gaps;
+mod lex;
 mod marks;
 mod numbers;
 mod open;
