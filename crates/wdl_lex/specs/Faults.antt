@@ -9,12 +9,22 @@ use Rattle.wdl_ast.specs.Spelled.{Open, inside_of, inside, in_hole, unclosed, Is
 use Rattle.wdl_ast.specs.Spelled.Classes.{Bytes, is_word_byte, first}
 use Rattle.wdl_ast.specs.Spelled.Code.{Spells, IsLongest, stands_alone, fits}
 use Rattle.wdl_ast.specs.Spelled.Escapes.{IsEscape}
-use Rattle.wdl_ast.specs.Spelled.Chars.{Inside, is_string, AreChars}
+use Rattle.wdl_ast.specs.Spelled.Chars.{Inside, command, is_string, AreChars}
 use Rattle.wdl_ast.specs.Spelled.Gaps.{IsLastGap}
 use Rattle.wdl_lex.specs.declared.fault.Flaw.{Flaw}
 use Rattle.wdl_lex.specs.Limits.{max_document, is_short}
-use Rattle.wdl_lex.specs.Reading.Code.{flaw, char_len}
-use Rattle.wdl_lex.specs.Reading.{open_code}
+use Rattle.wdl_lex.specs.declared.fault.LexFault.{LexFault}
+use Rattle.wdl_lex.specs.declared.fault.LexFault.TheVariants as lex_fault
+use Rattle.std.specs.Str.{continuation_len}
+use Rattle.std.specs.Prelude.{Result, Ok, Err}
+
+-- a code, and from where to where
+abbrev pub flaw : ℕ → ℕ → ℕ → Flaw
+flaw c from to = record { code = c; start = from; end = to }
+
+-- how many bytes the character has that begins with b
+abbrev pub char_len : ℕ → ℕ
+char_len b = 1 + continuation_len b
 
 -- What is wrong at the front of a text outside strings and commands: a character with which no token begins (102), a number that a
 -- letter, a digit or `_` follows (102), an integer past 9223372036854775807 (106), a word past its limit (107).
@@ -44,6 +54,11 @@ abbrev pub IsFlawedBy : ℕ → Flaw → ℕ → Bool → Open → Bytes → Typ
 IsFlawedBy from f at awaits opened z =
     (g y : Bytes) × (z ≡ g ++ y) × (IsGapIn (inside opened) g ⊎ (first y ≡ 0)) × IsFlawIn (inside opened) awaits (in_hole opened) y f × (from ≡ at + length g)
 
+-- a text that ends in a command, and in a string
+abbrev pub open_code : Option Inside → ℕ
+open_code (Some (command f)) = 104
+open_code _ = 103
+
 -- the text ends in a string (103) or in a command (104), which opens at the span
 abbrev pub IsUnclosed : ℕ → Span → ℕ → Bool → Open → Bytes → Type 0
 IsUnclosed code s at awaits opened z = IsLastGap z × ((t : Token) × (unclosed opened ≡ Some t) × (code ≡ open_code (inside_of t.kind)) × (s ≡ t.span))
@@ -68,3 +83,14 @@ IsCutOff doc z code s = (ts : List Token) × AreTokens (IsUnclosed code s) doc 0
 -- what a code says of a text at a span
 abbrev pub IsFault : ℕ → Bytes → ℕ → Span → Type 0
 IsFault doc z code s = IsTooLong doc z code s ⊎ (IsNotUtf8 doc z code s ⊎ (IsFlawed doc z code s ⊎ IsCutOff doc z code s))
+
+-- the cause of an answer that is not Ok
+abbrev pub HasCause : ℕ → Bytes → LexFault → Type 0
+HasCause doc z lex_fault.NoMemory = Unit {0}
+HasCause doc z (lex_fault.Bad code s) = IsFault doc z code s
+
+-- these tokens, unless memory runs out
+abbrev pub Answers : List Token → Result (List Token) LexFault → Type 0
+Answers ts (Ok us) = us ≡ ts
+Answers ts (Err lex_fault.NoMemory) = Unit {0}
+Answers ts (Err (lex_fault.Bad code s)) = ⊥

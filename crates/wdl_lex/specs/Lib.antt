@@ -1,3 +1,3 @@
-pub mod Reading
-pub mod Faults
 pub mod Limits
+pub mod Faults
+pub mod Reading

@@ -16,6 +16,7 @@ use Rattle.wdl_lex.specs.declared.fault.Stop.{Stop}
 use Rattle.wdl_lex.specs.declared.fault.Stop.TheVariants as stop
 use Rattle.wdl_lex.specs.declared.fault.LexFault.{LexFault}
 use Rattle.wdl_lex.specs.declared.fault.LexFault.TheVariants as lex_fault
+pub use Rattle.wdl_lex.specs.Faults.{open_code}
 use Rattle.wdl_lex.specs.Reading.Code.{Found, code_token}
 use Rattle.wdl_lex.specs.Reading.Chars.{text_token}
 use Rattle.wdl_lex.specs.Reading.Gaps.{gap_in}
@@ -45,10 +46,6 @@ token limited awaits opened z = token_in limited (inside opened) awaits (in_hole
 
 abbrev pub gap : Open → Bytes → ℕ
 gap opened z = gap_in (inside opened) z
-
-abbrev pub open_code : Option Inside → ℕ
-open_code (Some (command f)) = 104
-open_code _ = 103
 
 -- the end of the text, with the innermost string or command that is open
 abbrev pub ended : Option Token → Result (List Token) Fault

@@ -7,10 +7,12 @@ mod code;
 mod escapes;
 mod fault;
 mod gaps;
-mod lex;
 mod marks;
 mod numbers;
 mod open;
 mod text;
+mod tokens;
 
+pub use code::MAX_WORD;
 pub use fault::LexFault;
+pub use tokens::{MAX_DOCUMENT, lex, one_reading_of_texts};

@@ -1,7 +1,6 @@
 -- Reads a token outside strings and commands.
 use Rattle.std.specs.Prelude.{◌≡◌, ℕ, ◌+◌, Bool, true, false, not, ◌&&◌, if◌then◌else◌, nat_lt, List, [], ◌∷◌, take, drop, Option, Some, None, Result, Ok, Err}
 use Rattle.std.specs.List.{prefix_len}
-use Rattle.std.specs.Str.{continuation_len}
 use Rattle.wdl_ast.specs.declared.token.Kind.{Kind}
 use Rattle.wdl_ast.specs.declared.token.Kind.TheVariants as kind
 use Rattle.wdl_ast.specs.Spelled.Classes.{Bytes, is_letter, is_word_byte, is_digit_of, first}
@@ -11,14 +10,12 @@ use Rattle.wdl_lex.specs.declared.fault.Flaw.{Flaw}
 use Rattle.wdl_lex.specs.declared.fault.Stop.{Stop}
 use Rattle.wdl_lex.specs.declared.fault.Stop.TheVariants as stop
 use Rattle.wdl_lex.specs.Limits.{is_short}
+pub use Rattle.wdl_lex.specs.Faults.{flaw, char_len}
 use Rattle.wdl_lex.specs.Reading.Numbers.{frac_len, int_at}
 
 -- a token and its length
 abbrev pub Found : Type 0
 Found = Kind × ℕ
-
-abbrev pub flaw : ℕ → ℕ → ℕ → Flaw
-flaw c from to = record { code = c; start = from; end = to }
 
 abbrev pub rest : Bytes → Bytes
 rest [] = []
@@ -42,10 +39,6 @@ longest_at awaits closes z =
     if is_letter (first z) then Some (word_at z)
     else (if nat_lt 0 (frac_len z) then Some (kind.Frac (take (frac_len z) z), frac_len z)
     else (if is_digit_of 10 (first z) then Some (int_at z) else mark_at awaits closes z))
-
--- how many bytes the character has that begins with b
-abbrev pub char_len : ℕ → ℕ
-char_len b = 1 + continuation_len b
 
 abbrev pub checked : Bool → Bytes → Option Found → Result Found Flaw
 checked limited z None = Err (flaw 102 0 (char_len (first z)))

@@ -13,7 +13,7 @@ use Rattle.wdl_lex.specs.Reading.Code.{Found}
 use Rattle.wdl_lex.specs.Reading.{Fault, fault_at, gap, token, lex, lex_from, with_front, ended, stopped, IsNear, Fails}
 use Rattle.wdl_lex.specs.Reading.Code as code
 use Rattle.wdl_lex.proofs.LoopLaws.{finished, starts, at_last, failed, went, all_read, token_flaw, token_within, token_utf8, gap_utf8}
-use Rattle.wdl_lex.proofs.lex.read.Goals as goal
+use Rattle.wdl_lex.proofs.tokens.read.Goals as goal
 
 pub loop-turn-init : goal.loop-turn-init
 loop-turn-init c = record {

@@ -1,7 +1,7 @@
 use Rattle.std.proofs.Common.{◌≡◌, ◌-◌, ◌≤◌, true, drop, length}
 use Rattle.std.specs.Str.{IsUtf8}
 use Rattle.wdl_lex.specs.Reading.{lex, lex_from, with_front}
-use Rattle.wdl_lex.proofs.lex.read.Given as goal
+use Rattle.wdl_lex.proofs.tokens.read.Given as goal
 
 abbrev pub invariant-loop-turn : goal.invariant-loop-turn
 invariant-loop-turn l = record {

@@ -1,24 +1,41 @@
 //! Whole texts.
 
-ghost use Rattle.std.specs.Prelude.{◌≡◌, ◌≤◌, List, Ok, Some, IfOk, length};
+ghost use Rattle.std.specs.Prelude.{◌≡◌, ℕ, ◌+◌, ◌≤◌, true, List, Some, IfOk, IfErr, length};
 ghost use Rattle.std.specs.Str.{IsUtf8};
 ghost use Rattle.wdl_ast.specs.declared.token.Token.{Token};
 ghost use Rattle.wdl_ast.specs.Spelled as form;
 ghost use Rattle.wdl_ast.specs.Spelled.{Spelled};
+ghost use Rattle.wdl_lex.specs.declared.fault.LexFault.TheVariants as lex_fault;
+ghost use Rattle.wdl_lex.specs.Faults.{Answers, HasCause};
 ghost use Rattle.wdl_lex.specs.Reading as spec;
 ghost use Rattle.wdl_lex.specs.Limits.{IsWithinLimits};
-ghost use Rattle.std.specs.Prelude.{true};
 
 use crate::classes::behind;
 use crate::fault::{LexFault, Stop};
 use crate::open::Open;
 use sqlite_items::Items;
 use std::alloc::Global;
+use std::str;
 use wdl_ast::{Kind, Token};
 use wdl_value::Span;
 
 /// The bytes that a document may have.
 pub const MAX_DOCUMENT: usize = 1_048_576;
+
+/// The fault of one byte.
+fn bad(code: u16, doc: u32, at: usize) -> LexFault
+    requires { at ≤ MAX_DOCUMENT }
+    ensures { result ≡ lex_fault.Bad code (form.span_at doc at (at + 1)) }
+{
+    LexFault::Bad {
+        code,
+        span: Span {
+            doc,
+            start: at as u32,
+            end: (at + 1) as u32,
+        },
+    }
+}
 
 fn is_command(kind: &Kind) -> bool
     ensures { result ≡ form.is_command kind.now }
@@ -101,4 +118,31 @@ fn read(alloc: Global, z: &[u8], doc: u32) -> Result<Items<Token>, LexFault>
             end: at as u32,
         },
     })
+}
+
+/// The tokens of the text of document `doc`: exactly those that the text spells, where its limits are kept, and else
+/// `Bad` with a code that holds at its span. Where several codes hold, the first that is met is answered.
+///
+/// (OpenWDL 1.1: "Whitespace", "Literals", "Strings", "Expression Placeholders", "Command Section".)
+pub fn lex(alloc: Global, bytes: &[u8], doc: u32) -> Result<Items<Token>, LexFault>
+    // What is read is spelled so.
+    ensures found { IfOk result (λ ts. Spelled doc bytes.now ts × IsWithinLimits bytes.now ts) }
+    // What is spelled so is read, unless memory runs out.
+    ensures only { (ts : List Token) → Spelled doc bytes.now ts → IsWithinLimits bytes.now ts → Answers ts result }
+    // What is wrong otherwise.
+    ensures cause { IfErr result (HasCause doc bytes.now) }
+{
+    if bytes.len() > MAX_DOCUMENT {
+        return Err(bad(107, doc, MAX_DOCUMENT));
+    }
+    match str::from_utf8(bytes) {
+        Ok(text) => read(alloc, text.as_bytes(), doc),
+        Err(error) => Err(bad(101, doc, error.valid_up_to())),
+    }
+}
+
+/// A text has at most one list of tokens.
+pub fn one_reading_of_texts()
+    ensures { (doc : ℕ) (bytes : List ℕ) (ts us : List Token) → Spelled doc bytes ts → Spelled doc bytes us → ts ≡ us }
+{
 }
