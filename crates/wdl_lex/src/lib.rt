@@ -10,6 +10,8 @@ mod gaps;
 mod marks;
 mod numbers;
 mod open;
+#[cfg(test)]
+mod tests;
 mod text;
 mod tokens;
 
