@@ -5,7 +5,7 @@ use Rattle.std.proofs.lemmas.List.{length-take, length-drop, at_drop_more}
 use Rattle.std.proofs.lemmas.List.Elements.{All-nil, All-cons}
 use Rattle.std.proofs.lemmas.List.Folds.{length-prefix_len}
 use Rattle.std.proofs.lemmas.List.Sums.{common_prefix_len-le}
-use Rattle.wdl_value.specs.Templates.{common, common_indent, indent, is_blank_line, is_indent, is_written}
+use Rattle.wdl_base.specs.Templates.{common, common_indent, indent, is_blank_line, is_indent, is_written}
 use Rattle.command_text.specs.Marks.{Fits}
 
 common_le : (left right : List ℕ) → (length (common left right) ≤ length left) × (length (common left right) ≤ length right)

@@ -10,8 +10,8 @@ use Rattle.std.proofs.lemmas.List.Splits.{join_with_byte-slice_split}
 use Rattle.std.proofs.lemmas.List.Sums.{prefix_len-le-length, prefix_len_passes, sum_by-append, sum_by-cons}
 use Rattle.std.proofs.lemmas.Str.{IsCharBoundary-after_ascii}
 use Rattle.std.proofs.lemmas.Str.Pattern.{IsSplitOnceResult, split_parts}
-use Rattle.wdl_value.specs.Plain.{has_nul}
-use Rattle.wdl_value.specs.Templates.{common_indent, cut, dedented_lines, dedented_text, is_blank, is_blank_line, is_indent, lines, without_first, without_last}
+use Rattle.wdl_base.specs.Plain.{has_nul}
+use Rattle.wdl_base.specs.Templates.{common_indent, cut, dedented_lines, dedented_text, is_blank, is_blank_line, is_indent, lines, without_first, without_last}
 use Rattle.command_text.specs.Marks.{Fits, led, zeros}
 use Rattle.command_text.proofs.Indents.{common_fits}
 use Rattle.command_text.proofs.Zeros.{rest_zeros, zeros-append}

@@ -8,10 +8,10 @@ use Rattle.std.proofs.Math.Seq.{get_or-append_seam}
 use Rattle.std.proofs.lemmas.Str.{IsCharBoundary-after_ascii, IsUtf8-drop}
 use Rattle.std.proofs.Math.ListN.{drop_of_length-le}
 use Rattle.std.specs.Str.{IsCharBoundary, IsUtf8}
-use Rattle.wdl_value.specs.Plain.{has_nul}
-use Rattle.wdl_value.specs.declared.template.Part.{Part}
-use Rattle.wdl_value.specs.declared.template.Part.TheVariants.{Chars, Hole}
-use Rattle.wdl_value.specs.Templates.{holes, marked, onto_text, template_of}
+use Rattle.wdl_base.specs.Plain.{has_nul}
+use Rattle.wdl_base.specs.declared.template.Part.{Part}
+use Rattle.wdl_base.specs.declared.template.Part.TheVariants.{Chars, Hole}
+use Rattle.wdl_base.specs.Templates.{holes, marked, onto_text, template_of}
 use Rattle.command_text.specs.Marks.{text_parts, zeros}
 
 pub zeros-append : (xs ys : List ℕ) → zeros (xs ++ ys) ≡ zeros xs + zeros ys

@@ -1,9 +1,9 @@
 -- What the marked text of a template keeps, and the lines that may be cut.
 use Rattle.std.specs.Prelude.{ℕ, ◌≡◌, ◌≤◌, ◌==◌, false, List, [], ◌∷◌, ◌++◌}
 use Rattle.std.specs.List.{count_by, prefix_len}
-use Rattle.wdl_value.specs.declared.template.Part.{Part}
-use Rattle.wdl_value.specs.declared.template.Part.TheVariants.{Chars}
-use Rattle.wdl_value.specs.Templates.{is_blank_line, is_indent}
+use Rattle.wdl_base.specs.declared.template.Part.{Part}
+use Rattle.wdl_base.specs.declared.template.Part.TheVariants.{Chars}
+use Rattle.wdl_base.specs.Templates.{is_blank_line, is_indent}
 
 -- how many holes stand in a marked text
 abbrev pub zeros : List ℕ → ℕ

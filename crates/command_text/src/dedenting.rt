@@ -1,5 +1,5 @@
 ghost use Rattle.std.specs.Prelude.{◌≡◌, map, string_bytes, IfOk};
-ghost use Rattle.wdl_value.specs.Templates as spec;
+ghost use Rattle.wdl_base.specs.Templates as spec;
 ghost use Rattle.command_text.specs.Marks.{zeros};
 
 use crate::lines::{common_indent, join_cut, without_first, without_last};

@@ -1,7 +1,7 @@
 ghost use Rattle.std.specs.Prelude.{◌≡◌, ◌++◌, ◌∷◌, ◌≤◌, [], false, length, string_bytes, IfOk, OnOk};
-ghost use Rattle.wdl_value.specs.Plain.{has_nul};
-ghost use Rattle.wdl_value.specs.Templates as spec;
-ghost use Rattle.wdl_value.specs.declared.template.Part.TheVariants.{Hole};
+ghost use Rattle.wdl_base.specs.Plain.{has_nul};
+ghost use Rattle.wdl_base.specs.Templates as spec;
+ghost use Rattle.wdl_base.specs.declared.template.Part.TheVariants.{Hole};
 ghost use Rattle.command_text.specs.Marks.{text_parts, zeros};
 
 use std::alloc::Global;

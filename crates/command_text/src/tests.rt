@@ -1,5 +1,5 @@
 ghost use Rattle.std.specs.Prelude.{◌≡◌, IfOk};
-ghost use Rattle.wdl_value.specs.Templates.{HasPieces};
+ghost use Rattle.wdl_base.specs.Templates.{HasPieces};
 
 use crate::{FillFault, dedent, fill};
 use std::alloc::Global;

@@ -2,7 +2,7 @@
 ghost use Rattle.std.specs.Prelude.{◌≡◌, ◌≤◌, ◌<◌, ◌+◌, length, ◌++◌, ◌∷◌, [], IfOk, vec_len, vec_capacity};
 ghost use Rattle.thin_path.specs.Flow as spec;
 ghost use Rattle.thin_path.specs.Runs as runs;
-ghost use Rattle.wdl_value.specs.declared.step.Step.TheVariants.{Took, Settled};
+ghost use Rattle.wdl_base.specs.declared.step.Step.TheVariants.{Took, Settled};
 
 use crate::ask::asks;
 use crate::document::{Call, Document, Task, Wire};

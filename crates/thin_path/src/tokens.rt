@@ -1,6 +1,6 @@
 ghost use Rattle.std.specs.Prelude.{◌≡◌, ◌≤◌, length, true, false, IfOk, OnOk, IsErrOf};
 ghost use Rattle.std.specs.List.{prefix_len};
-ghost use Rattle.wdl_value.specs.Names.{is_name};
+ghost use Rattle.wdl_base.specs.Names.{is_name};
 ghost use Rattle.thin_path.specs.Scan as spec;
 ghost use Rattle.thin_path.specs.Results.{Reads, Eats, Tries};
 ghost use Rattle.thin_path.specs.declared.stop.Stop.TheVariants.{NotBuilt as StopNotBuilt};

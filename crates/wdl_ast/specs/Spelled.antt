@@ -9,7 +9,7 @@ pub mod Chars
 pub mod Gaps
 use Rattle.std.specs.Prelude.{◌≡◌, ℕ, ◌+◌, Bool, true, false, if◌then◌else◌, List, [], ◌∷◌, ◌++◌, length, codes, Option, Some, None}
 use Rattle.std.specs.Str.{IsUtf8, bytes_eq}
-use Rattle.wdl_value.specs.declared.span.Span.{Span}
+use Rattle.wdl_base.specs.declared.span.Span.{Span}
 use Rattle.wdl_ast.specs.declared.token.Mark.TheVariants as mark
 use Rattle.wdl_ast.specs.declared.token.Kind.{Kind}
 use Rattle.wdl_ast.specs.declared.token.Kind.TheVariants as kind

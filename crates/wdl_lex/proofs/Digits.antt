@@ -13,7 +13,7 @@ use Rattle.std.specs.Prelude.{FitsSigned, nat_le, take}
 use Rattle.std.specs.List.{prefix_len}
 use Rattle.std.proofs.Common.{w64}
 use Rattle.wdl_lex.proofs.Lists.{front_of, cut}
-use Rattle.wdl_value.specs.Plain.{has_nul}
+use Rattle.wdl_base.specs.Plain.{has_nul}
 use Rattle.wdl_ast.specs.Spelled.Classes.{Bytes, is_digit_of, are_digits}
 use Rattle.wdl_ast.specs.Spelled.Escapes.{is_character}
 use Rattle.wdl_lex.specs.Reading.Escapes.{character, number}

@@ -1,7 +1,7 @@
 -- Reading a text from its start.
 use Rattle.std.proofs.Common.{◌≡◌, ℕ, suc, ◌+◌, ◌<◌, ◌≤◌, Bool, true, false, ◌⊎◌, inl, inr, List, [], ◌∷◌, length, Result, Ok, Err, refl, ap, sym, ◌∙◌, subst, arith}
 use Rattle.std.specs.Str.{IsUtf8}
-use Rattle.wdl_value.specs.declared.span.Span.{Span}
+use Rattle.wdl_base.specs.declared.span.Span.{Span}
 use Rattle.wdl_ast.specs.declared.token.Token.{Token}
 use Rattle.wdl_ast.specs.Spelled.{Spelled, AreTokens, IsOver}
 use Rattle.wdl_ast.specs.Spelled.Classes.{Bytes}

@@ -1,7 +1,7 @@
 -- One turn of the loop that reads a text.
 use Rattle.std.proofs.Common.{◌≡◌, ℕ, zero, suc, ◌+◌, ◌-◌, ◌<◌, ◌≤◌, Bool, true, false, cond, List, [], ◌∷◌, ◌++◌, length, take, drop, Option, Some, None, Result, Ok, Err, refl, ap, sym, ◌∙◌, subst, append_assoc, length-append, length-drop, arith}
 use Rattle.std.proofs.lemmas.List.{append-nil, drop-drop, take-append-drop, length-take-le, drop_all}
-use Rattle.wdl_value.specs.declared.span.Span.{Span}
+use Rattle.wdl_base.specs.declared.span.Span.{Span}
 use Rattle.wdl_ast.specs.declared.token.Kind.{Kind}
 use Rattle.wdl_ast.specs.declared.token.Token.{Token}
 use Rattle.wdl_ast.specs.Spelled.{Open, inside_of, inside, in_hole, after, is_command, unclosed, span_at, placed, IsToken}

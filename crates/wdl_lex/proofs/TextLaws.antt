@@ -8,7 +8,7 @@ use Rattle.std.specs.Prelude.{is_some}
 use Rattle.std.specs.Char.{encode_utf8}
 use Rattle.std.specs.List.{list_all}
 use Rattle.std.specs.Str.{IsUtf8, IsCharBoundary}
-use Rattle.wdl_value.specs.Plain.{has_nul}
+use Rattle.wdl_base.specs.Plain.{has_nul}
 use Rattle.wdl_ast.specs.declared.token.Kind.{Kind}
 use Rattle.wdl_ast.specs.declared.token.Kind.TheVariants as kind
 use Rattle.wdl_ast.specs.declared.token.Quote.TheVariants.{Single, Double}

@@ -2,7 +2,7 @@
 
 ghost use Rattle.std.specs.Prelude.{◌≡◌, false, IfOk};
 ghost use Rattle.std.specs.Str.{IsUtf8};
-ghost use Rattle.wdl_value.specs.Plain.{has_nul};
+ghost use Rattle.wdl_base.specs.Plain.{has_nul};
 
 use std::alloc::{AllocError, Global};
 use std::str;

@@ -1,6 +1,4 @@
-pub mod PlainLemmas
 mod ValueTextLemmas
-pub mod PlaceLemmas
 pub mod ValueLayers
 pub mod SameTypeLemmas
 pub mod SameValueLemmas

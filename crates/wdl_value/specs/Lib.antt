@@ -1,9 +1,3 @@
-pub mod Plain
-pub mod Names
-pub mod Bodies
-pub mod Answers
-pub mod Places
-pub mod Same
 pub mod SameType
 pub mod Bare
 pub mod Recur
@@ -15,7 +9,6 @@ pub mod Fits
 pub mod Coerces
 pub mod Cast
 pub mod CastOut
-pub mod PlaceReading
 pub mod RecurType
 pub mod Kinds
 pub mod Join
@@ -23,4 +16,3 @@ pub mod OperatorTypes
 pub mod FunctionTypes
 pub mod Tables
 pub mod Laws
-pub mod Templates

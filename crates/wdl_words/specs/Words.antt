@@ -4,7 +4,7 @@ use Rattle.std.specs.Prelude.{Option, Some, None, option_map, option_and_then, R
 use Rattle.std.specs.Str.{bytes_eq, all_ascii_digits}
 use Rattle.std.specs.Str.Parse.{digits_value}
 use Rattle.clap.specs.Words.{Row, Text, first_of}
-use Rattle.wdl_value.specs.Plain.{has_nul}
+use Rattle.wdl_base.specs.Plain.{has_nul}
 use Rattle.wdl_words.specs.Commands.{found_in, operand_app, run_app}
 use Rattle.wdl_words.specs.declared.wants.Wants.{Wants}
 use Rattle.wdl_words.specs.declared.wants.Wants.TheVariants.{Run, Check, Cwl, Load, Bundle}

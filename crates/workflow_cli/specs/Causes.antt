@@ -1,12 +1,12 @@
 -- What each status says of the words, of the file that they name, and of the run.
 use Rattle.std.specs.Prelude.{◌≡◌, ◌⊎◌, ◌≤◌, ◌+◌, ℕ, List, [], ◌∷◌, ◌++◌, Option, Some, None, Result, Ok, Err, ⊤, codes, string_bytes, String, Contains}
 use Rattle.std.specs.declared.alloc.Global.{Global}
-use Rattle.wdl_value.specs.declared.request.Request.{Request}
-use Rattle.wdl_value.specs.declared.answer.Answer.{Answer}
-use Rattle.wdl_value.specs.declared.entry.Entry.{Entry}
-use Rattle.wdl_value.specs.declared.fault.Fault.{Fault}
-use Rattle.wdl_value.specs.declared.step.Step.{Step}
-use Rattle.wdl_value.specs.declared.step.Step.TheVariants as step
+use Rattle.wdl_base.specs.declared.request.Request.{Request}
+use Rattle.wdl_base.specs.declared.answer.Answer.{Answer}
+use Rattle.wdl_base.specs.declared.entry.Entry.{Entry}
+use Rattle.wdl_base.specs.declared.fault.Fault.{Fault}
+use Rattle.wdl_base.specs.declared.step.Step.{Step}
+use Rattle.wdl_base.specs.declared.step.Step.TheVariants as step
 use Rattle.report_text.specs.declared.status.Status.{Status}
 use Rattle.report_text.specs.declared.status.Status.TheVariants as status
 use Rattle.wdl_port.specs.Files.{IsFile}

@@ -1,6 +1,6 @@
 use Rattle.std.proofs.Common.{◌≡◌, ◌∙◌, ap, sym, length}
 use Rattle.std.proofs.lemmas.Result.{IfOk-weaker}
-use Rattle.wdl_value.specs.Templates.{holes}
+use Rattle.wdl_base.specs.Templates.{holes}
 use Rattle.command_text.specs.Marks.{zeros}
 use Rattle.command_text.proofs.Zeros.{template_holes}
 use Rattle.command_text.proofs.dedenting.dedent.Goals as goal

@@ -1,5 +1,5 @@
 use Rattle.std.proofs.Common.{◌≡◌, ◌++◌, ◌≤◌, drop, length}
-use Rattle.wdl_value.specs.Templates.{joined}
+use Rattle.wdl_base.specs.Templates.{joined}
 use Rattle.command_text.proofs.filling.fill.Given as goal
 
 abbrev pub invariant-loop-part : goal.invariant-loop-part

@@ -1,5 +1,5 @@
 use Rattle.std.proofs.Common.{◌≡◌, ◌++◌, drop, map, string_bytes}
-use Rattle.wdl_value.specs.Templates.{cut}
+use Rattle.wdl_base.specs.Templates.{cut}
 use Rattle.command_text.specs.Marks.{led}
 use Rattle.command_text.proofs.lines.append_cut.Given as goal
 

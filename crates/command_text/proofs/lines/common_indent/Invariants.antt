@@ -1,5 +1,5 @@
 use Rattle.std.proofs.Common.{◌≡◌, length, map}
-use Rattle.wdl_value.specs.Templates.{common_indent}
+use Rattle.wdl_base.specs.Templates.{common_indent}
 use Rattle.command_text.proofs.lines.common_indent.Given as goal
 
 abbrev pub invariant-loop-lines : goal.invariant-loop-lines

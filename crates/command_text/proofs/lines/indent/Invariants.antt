@@ -1,6 +1,6 @@
 use Rattle.std.proofs.Common.{◌≡◌, ◌+◌, drop}
 use Rattle.std.specs.List.{prefix_len}
-use Rattle.wdl_value.specs.Templates.{is_indent}
+use Rattle.wdl_base.specs.Templates.{is_indent}
 use Rattle.command_text.proofs.lines.indent.Given as goal
 
 abbrev pub invariant-loop-at : goal.invariant-loop-at

@@ -1,5 +1,5 @@
 use Rattle.std.proofs.Common.{◌≡◌, drop}
-use Rattle.wdl_value.specs.Templates.{is_blank_line}
+use Rattle.wdl_base.specs.Templates.{is_blank_line}
 use Rattle.command_text.proofs.lines.is_blank.Given as goal
 
 abbrev pub invariant-loop-byte : goal.invariant-loop-byte

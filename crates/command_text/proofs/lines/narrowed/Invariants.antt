@@ -1,6 +1,6 @@
 use Rattle.std.proofs.Common.{◌≡◌, drop, map}
 use Rattle.std.specs.List.{filter, fold}
-use Rattle.wdl_value.specs.Templates.{common, indent, is_written}
+use Rattle.wdl_base.specs.Templates.{common, indent, is_written}
 use Rattle.command_text.proofs.lines.narrowed.Given as goal
 
 abbrev pub invariant-loop-line : goal.invariant-loop-line

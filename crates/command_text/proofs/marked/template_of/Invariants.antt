@@ -1,7 +1,7 @@
 use Rattle.std.proofs.Common.{◌≡◌, ◌++◌, drop, length}
 use denote.Text.{Utf8}
 use denote.Shadow.{shadow}
-use Rattle.wdl_value.specs.Templates.{template_of}
+use Rattle.wdl_base.specs.Templates.{template_of}
 use Rattle.command_text.specs.Marks.{zeros}
 use Rattle.command_text.proofs.marked.template_of.Given as goal
 

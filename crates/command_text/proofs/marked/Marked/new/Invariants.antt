@@ -1,5 +1,5 @@
 use Rattle.std.proofs.Common.{◌≡◌, ◌++◌, drop, length, string_bytes}
-use Rattle.wdl_value.specs.Templates.{holes, marked}
+use Rattle.wdl_base.specs.Templates.{holes, marked}
 use Rattle.command_text.specs.Marks.{zeros}
 use Rattle.command_text.proofs.marked.Marked.new.Given as goal
 

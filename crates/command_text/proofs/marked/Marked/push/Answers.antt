@@ -1,5 +1,5 @@
 use Rattle.std.proofs.Common.{◌∙◌, ap, sym}
-use Rattle.wdl_value.specs.Plain.{has_nul}
+use Rattle.wdl_base.specs.Plain.{has_nul}
 use Rattle.command_text.proofs.Zeros.{counted_chars}
 use Rattle.command_text.proofs.marked.Marked.push.Goals as goal
 
