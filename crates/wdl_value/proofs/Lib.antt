@@ -5,3 +5,4 @@ pub mod SameValueLemmas
 pub mod FitsLemmas
 pub mod CastTakes
 pub mod CastParts
+pub mod FitsForms
