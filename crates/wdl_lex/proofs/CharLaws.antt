@@ -97,13 +97,13 @@ module _ (i : Inside) where
           let x = escape_sound z t.0 t.1 e in
           let fits : t.1 ≤ length z = (let q = ap length x.2 in omega (arith, q, length-append x.0 x.1, x.3)) in
           behind_escape _ n out z x.0 x.1 t.0 str x.2 x.4
-            (subst (λ k. Read (chars_from i t.1 (out ++ encode_utf8 t.0) (n + 1) z) k (n + 1) (out ++ encode_utf8 t.0) z) (sym x.3) (next t.1 (out ++ encode_utf8 t.0) fits))
+          (subst (λ k. Read (chars_from i t.1 (out ++ encode_utf8 t.0) (n + 1) z) k (n + 1) (out ++ encode_utf8 t.0) z) (sym x.3) (next t.1 (out ++ encode_utf8 t.0) fits))
 
       at_backslash : stops i (b ∷ z) ≡ false → (is_backslash i b ≡ true) ⊎ (is_backslash i b ≡ false) → ((skip : ℕ) (out : Bytes) → skip ≤ length z → Read (chars_from i skip out (n + 1) z) skip (n + 1) out z) → Read (chars_from i 0 out n (b ∷ z)) 0 n out (b ∷ z)
       at_backslash st (inl bs) next =
           let t = and_parts (b == 92) (is_string i) bs in
           as_read _ _ 0 n out (b ∷ z) (sym (cond-false (stops i (b ∷ z)) _ _ st ∙ cond-true (is_backslash i b) _ _ bs))
-            (subst (λ x. Read (with_escape (escape z) n (λ c len. chars_from i len (out ++ encode_utf8 c) (n + 1) z)) 0 n out (x ∷ z)) (sym (eqb-true b 92 t.0)) (escaped t.1 next (escape z) refl))
+          (subst (λ x. Read (with_escape (escape z) n (λ c len. chars_from i len (out ++ encode_utf8 c) (n + 1) z)) 0 n out (x ∷ z)) (sym (eqb-true b 92 t.0)) (escaped t.1 next (escape z) refl))
       at_backslash st (inr bs) next =
           as_read _ _ 0 n out (b ∷ z) (sym (cond-false (stops i (b ∷ z)) _ _ st ∙ cond-false (is_backslash i b) _ _ bs)) (behind_plain _ n b out z st bs (next 0 (out ++ b ∷ []) (omega arith)))
 

@@ -105,8 +105,8 @@ module _ (limited : Bool) (doc : ℕ) (z : Bytes) where
         go (w, rest, t, lw, r, is) =
             turn
             ∙ ap (with_front front) (
-                at_token limited doc m at awaits opened (drop at z) (take g (drop at z)) (drop (at + g) z) text gap_len w rest k (some less) t (h ∙ ap (λ x. Ok (k, x)) (sym lw))
-                ∙ ap (λ x. next x (length w) k rest) len ∙ ap (λ x. next g x k rest) lw ∙ ap (next g l k) (r ∙ drop-drop l (at + g) z))
+            at_token limited doc m at awaits opened (drop at z) (take g (drop at z)) (drop (at + g) z) text gap_len w rest k (some less) t (h ∙ ap (λ x. Ok (k, x)) (sym lw))
+            ∙ ap (λ x. next x (length w) k rest) len ∙ ap (λ x. next g x k rest) lw ∙ ap (next g l k) (r ∙ drop-drop l (at + g) z))
             ∙ front_both front (placed k (span_at doc (at + g) (at + g + l))) (lex_from limited doc m (at + g + l) (is_command k) (after opened (span_at doc (at + g) (at + g + l)) k) (drop (at + g + l) z))
 
   pub all_read : (front : List Token) (awaits : Bool) (opened : Open) (n at : ℕ) → lex limited doc z ≡ with_front front (lex_from limited doc n at awaits opened (drop at z)) → n ≡ 0 → lex limited doc z ≡ Err (102, span_at doc at at)

@@ -100,7 +100,7 @@ unfolding exponent_len
 exponent_more e more (s.plain x w h d) =
     let t = some_are 10 w d in
     let mark : exponent_mark_len (x ∷ (w ++ more)) ≡ 1 =
-        cond-true (is_exponent_mark x) _ _ h ∙ ap (λ v. cond (is_sign (first (v ++ more))) 2 1) t.2 ∙ cond-false (is_sign t.0) 2 1 (sign_no_digit t.0 t.3) in
+    cond-true (is_exponent_mark x) _ _ h ∙ ap (λ v. cond (is_sign (first (v ++ more))) 2 1) t.2 ∙ cond-false (is_sign t.0) 2 1 (sign_no_digit t.0 t.3) in
     let some : 0 < length w = (let q = ap length t.2 in omega (arith, q)) in
     let all : digits_len 10 (w ++ more) ≡ length w + digits_len 10 more = front_more (is_digit_of 10) w more t.4 in
     ap (λ n. joined_len n (digits_len 10 (drop n (x ∷ (w ++ more))))) mark ∙ ap (joined_len 1) all
@@ -281,12 +281,20 @@ frac_cases z = go (front_of (is_digit_of 10) z).0 (front_of (is_digit_of 10) z).
             more q = base ∙ pointed_some (length a) (length b) y (nonempty_length a b q) ∙ ap (λ w. length a + 1 + length b + exponent_len w) left_over
 
             tail_ : is_end (a ++ b) ≡ false → (exponent_len u ≡ 0) ⊎ HasExponent u → HasFrac z
-            tail_ q (inl none) =
-                (a ++ 46 ∷ (b ++ []), u, whole_text ∙ sym (append_assoc a (46 ∷ (b ++ [])) u ∙ ap (λ w. a ++ 46 ∷ (w ++ u)) (append-nil b)),
-                (let r : length (a ++ 46 ∷ (b ++ [])) ≡ length a + 1 + length b + exponent_len u = omega (arith, length-append a (46 ∷ (b ++ [])), length-append b [], none) in r ∙ sym (more q)), s.pointed a b [] d db q s.none)
-            tail_ q (inr (e, rest, et, k, h)) =
-                (a ++ 46 ∷ (b ++ e), rest, whole_text ∙ ap (λ w. a ++ 46 ∷ (b ++ w)) et ∙ sym (append_assoc a (46 ∷ (b ++ e)) rest ∙ ap (λ w. a ++ 46 ∷ w) (append_assoc b e rest)),
-                (let r : length (a ++ 46 ∷ (b ++ e)) ≡ length a + 1 + length b + exponent_len u = omega (arith, length-append a (46 ∷ (b ++ e)), length-append b e, k) in r ∙ sym (more q)), s.pointed a b e d db q (s.some e h))
+            tail_ q (inl none) = (
+              a ++ 46 ∷ (b ++ []),
+              u,
+              whole_text ∙ sym (append_assoc a (46 ∷ (b ++ [])) u ∙ ap (λ w. a ++ 46 ∷ (w ++ u)) (append-nil b)),
+              (let r : length (a ++ 46 ∷ (b ++ [])) ≡ length a + 1 + length b + exponent_len u = omega (arith, length-append a (46 ∷ (b ++ [])), length-append b [], none) in r ∙ sym (more q)),
+              s.pointed a b [] d db q s.none,
+            )
+            tail_ q (inr (e, rest, et, k, h)) = (
+              a ++ 46 ∷ (b ++ e),
+              rest,
+              whole_text ∙ ap (λ w. a ++ 46 ∷ (b ++ w)) et ∙ sym (append_assoc a (46 ∷ (b ++ e)) rest ∙ ap (λ w. a ++ 46 ∷ w) (append_assoc b e rest)),
+              (let r : length (a ++ 46 ∷ (b ++ e)) ≡ length a + 1 + length b + exponent_len u = omega (arith, length-append a (46 ∷ (b ++ e)), length-append b e, k) in r ∙ sym (more q)),
+              s.pointed a b e d db q (s.some e h),
+            )
 
             some : (t : Bool) → is_end (a ++ b) ≡ t → (frac_len z ≡ 0) ⊎ HasFrac z
             some false q = inr (tail_ q (exponent_cases u))

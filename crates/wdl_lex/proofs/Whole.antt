@@ -214,14 +214,14 @@ module _ (limited : Bool) (doc : ℕ) where
           → (r : Result Found Flaw) → token limited awaits opened y ≡ r → TellsIn (inside opened) awaits (in_hole opened) y r → Told at awaits opened z (lex_from limited doc (suc n) at awaits opened z)
       read g y b v e text gap_of before rec (Err f) t w =
           subst (Told at awaits opened z) (sym (at_flaw n at awaits opened z g y text gap_of f (ap is_end e) t))
-            (told_flaw at awaits opened z g b v f (text ∙ ap (λ x. g ++ x) e) (gap_or_nul (inside opened) g b v (subst (Before (inside opened) g) e before)) (subst (λ x. IsFlawIn (inside opened) awaits (in_hole opened) x f) e w))
+          (told_flaw at awaits opened z g b v f (text ∙ ap (λ x. g ++ x) e) (gap_or_nul (inside opened) g b v (subst (Before (inside opened) g) e before)) (subst (λ x. IsFlawIn (inside opened) awaits (in_hole opened) x f) e w))
       read g y b v e text gap_of before rec (Ok t) tok (w, rest, yt, len, is, short) =
           let s = some (inside opened) awaits (in_hole opened) w rest t.0 is in
           let less : length rest < n = (let q1 = ap length text in let q2 = ap length yt in let q3 = ap length s.2 in omega (arith, q1, q2, q3, length-append g y, length-append w rest, fits)) in
           let found : token limited awaits opened y ≡ Ok (t.0, length w) = tok ∙ ap (λ m. Ok (t.0, m)) (sym len) in
           subst (Told at awaits opened z) (sym (at_token n at awaits opened z g y text gap_of w rest t.0 (ap is_end e) yt found))
-            (told_token at awaits opened z g w rest t.0 (text ∙ ap (λ x. g ++ x) yt) (whole_gap (inside opened) awaits (in_hole opened) g y w rest t.0 yt is before) is short _
-              (rec (at + length g + length w) (is_command t.0) (after opened (span_at doc (at + length g) (at + length g + length w)) t.0) rest less))
+          (told_token at awaits opened z g w rest t.0 (text ∙ ap (λ x. g ++ x) yt) (whole_gap (inside opened) awaits (in_hole opened) g y w rest t.0 yt is before) is short _
+          (rec (at + length g + length w) (is_command t.0) (after opened (span_at doc (at + length g) (at + length g + length w)) t.0) rest less))
 
       at_last : (g y u : Bytes) → y ≡ u → z ≡ g ++ y → gap opened z ≡ length g → Before (inside opened) g y → (y ≡ [] → IsLastGap z)
           → ((at : ℕ) (awaits : Bool) (opened : Open) (z : Bytes) → length z < n → Told at awaits opened z (lex_from limited doc n at awaits opened z)) → Told at awaits opened z (lex_from limited doc (suc n) at awaits opened z)

@@ -61,8 +61,8 @@ module _ (limited : Bool) (doc : ℕ) where
       let y = drop g z in
       if is_end y then ended (unclosed opened)
       else and_then (located doc (at + g) (token limited awaits opened y)) (λ t.
-        and_then (lex_from n (at + g + t.1) (is_command t.0) (after opened (span_at doc (at + g) (at + g + t.1)) t.0) (drop t.1 y)) (λ ts.
-          Ok (placed t.0 (span_at doc (at + g) (at + g + t.1)) ∷ ts)))
+      and_then (lex_from n (at + g + t.1) (is_command t.0) (after opened (span_at doc (at + g) (at + g + t.1)) t.0) (drop t.1 y)) (λ ts.
+      Ok (placed t.0 (span_at doc (at + g) (at + g + t.1)) ∷ ts)))
 
   unfoldable pub lex : Bytes → Result (List Token) Fault
   lex z = lex_from (suc (length z)) 0 false [] z

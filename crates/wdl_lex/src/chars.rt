@@ -92,7 +92,10 @@ fn stops(inside: Inside, z: &[u8]) -> bool
     let [b, rest @ ..] = z else {
         return true;
     };
-    closes(inside, z) || hole_at(inside, *b, first(rest)).is_some() || *b == 0 || (is_string(inside) && *b == b'\n')
+    closes(inside, z)
+        || hole_at(inside, *b, first(rest)).is_some()
+        || *b == 0
+        || (is_string(inside) && *b == b'\n')
 }
 
 fn push_char(out: &mut Vec<u8>, c: char) -> Result<(), AllocError>

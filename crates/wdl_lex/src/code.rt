@@ -6,7 +6,9 @@ ghost use Rattle.wdl_ast.specs.declared.token.Kind.TheVariants as kind;
 ghost use Rattle.wdl_lex.specs.Reading.Code as spec;
 ghost use Rattle.wdl_lex.specs.Reading.Numbers as number;
 
-use crate::classes::{behind, char_len, digits_len, first, front, is_digit, is_letter, is_word_byte, word_len};
+use crate::classes::{
+    behind, char_len, digits_len, first, front, is_digit, is_letter, is_word_byte, word_len,
+};
 use crate::fault::{Stop, flawed};
 use crate::marks::mark_at;
 use crate::numbers::{base_of, frac_len};
@@ -60,7 +62,12 @@ fn int(z: &[u8]) -> Result<(Kind, usize), Stop>
 /// The token at the front, with its length. Behind the word `command` (`awaits`) a `{` or `<<<` opens a command; in a
 /// placeholder without an open brace (`closes`) a `}` closes it.
 #[tactic(auto, unfolding(crate::specs::Reading::Code::code_token, crate::specs::Reading::Code::longest_at))]
-pub fn code_token(alloc: Global, z: &[u8], awaits: bool, closes: bool) -> Result<(Kind, usize), Stop>
+pub fn code_token(
+    alloc: Global,
+    z: &[u8],
+    awaits: bool,
+    closes: bool,
+) -> Result<(Kind, usize), Stop>
     ensures { spec.Gives (spec.code_token true awaits closes z.now) result }
 {
     let b = first(z);

@@ -79,5 +79,9 @@ impl<T: Drop> From<AllocFailed<T>> for Stop {
 pub fn flawed(code: u16, end: usize) -> Stop
     ensures { result ≡ reading.flawed code end }
 {
-    Stop::Flaw(Flaw { code, start: 0, end })
+    Stop::Flaw(Flaw {
+        code,
+        start: 0,
+        end,
+    })
 }

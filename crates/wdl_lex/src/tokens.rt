@@ -144,5 +144,4 @@ pub fn lex(alloc: Global, bytes: &[u8], doc: u32) -> Result<Items<Token>, LexFau
 /// A text has at most one list of tokens.
 pub fn one_reading_of_texts()
     ensures { (doc : ℕ) (bytes : List ℕ) (ts us : List Token) → Spelled doc bytes ts → Spelled doc bytes us → ts ≡ us }
-{
-}
+{}

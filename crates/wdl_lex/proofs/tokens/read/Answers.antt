@@ -59,8 +59,8 @@ near awaits opened y n (stop.Flaw f) some fits h = let t = token_flaw true await
 pub stopped-requires-clause-near : goal.stopped-requires-clause-near
 stopped-requires-clause-near c =
     near c.loop-turn.awaits c.loop-turn.opened c.behind-in-loop-turn.result.now 1048576 c.in-Err.stop
-      (omega (arith, ap length c.behind-in-loop-turn.ensures, length-drop (c.loop-turn.at + c.gap.result) c.args.z.now, c.gap.ensures.within, ap length c.behind.ensures, length-drop c.loop-turn.at c.args.z.now))
-      (omega (arith, ap length c.behind-in-loop-turn.ensures, length-drop (c.loop-turn.at + c.gap.result) c.args.z.now)) c.in-Err.ensures
+    (omega (arith, ap length c.behind-in-loop-turn.ensures, length-drop (c.loop-turn.at + c.gap.result) c.args.z.now, c.gap.ensures.within, ap length c.behind.ensures, length-drop c.loop-turn.at c.args.z.now))
+    (omega (arith, ap length c.behind-in-loop-turn.ensures, length-drop (c.loop-turn.at + c.gap.result) c.args.z.now)) c.in-Err.ensures
 
 fails : (doc at : ℕ) (r : Texts) (t : Result Found Flaw) (s : Stop) (e : LexFault) → ((f : Flaw) → t ≡ Err f → r ≡ Err (fault_at doc at f)) → code.Fails t s → e ≡ stopped doc at s → Fails r e
 fails doc at r t stop.NoMemory e g h q = subst (Fails r) (sym q) tt
@@ -73,8 +73,8 @@ returns-in-Err c =
     let turns : length c.args.z.now + 1 - c.loop-turn._turn ≡ suc (length c.args.z.now + 1 - (c.loop-turn._turn + 1)) = omega arith in
     let less : c.loop-turn.at + c.gap.result < length c.args.z.now = omega arith in
     fails c.args.doc (c.loop-turn.at + c.gap.result) (lex true c.args.doc c.args.z.now) (token true c.loop-turn.awaits c.loop-turn.opened (drop (c.loop-turn.at + c.gap.result) c.args.z.now)) c.in-Err.stop c.stopped.result
-      (λ f h. failed true c.args.doc c.args.z.now c.loop-turn.tokens c.loop-turn.awaits c.loop-turn.opened (length c.args.z.now + 1 - c.loop-turn._turn) (length c.args.z.now + 1 - (c.loop-turn._turn + 1)) c.loop-turn.at c.gap.result c.loop-turn.invariant.so_far turns gap_is fits less f h)
-      (subst (λ y. code.Fails (token true c.loop-turn.awaits c.loop-turn.opened y) c.in-Err.stop) c.behind-in-loop-turn.ensures c.in-Err.ensures) c.stopped.ensures
+    (λ f h. failed true c.args.doc c.args.z.now c.loop-turn.tokens c.loop-turn.awaits c.loop-turn.opened (length c.args.z.now + 1 - c.loop-turn._turn) (length c.args.z.now + 1 - (c.loop-turn._turn + 1)) c.loop-turn.at c.gap.result c.loop-turn.invariant.so_far turns gap_is fits less f h)
+    (subst (λ y. code.Fails (token true c.loop-turn.awaits c.loop-turn.opened y) c.in-Err.stop) c.behind-in-loop-turn.ensures c.in-Err.ensures) c.stopped.ensures
 
 pub overflow_add-at : goal.overflow_add-at
 overflow_add-at c =
