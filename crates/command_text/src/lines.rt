@@ -12,11 +12,17 @@ fn is_indent(byte: u8) -> bool
     byte == b' ' || byte == b'\t'
 }
 
-fn is_blank(line: &str) -> bool
+fn is_blank(byte: u8) -> bool
+    ensures { result ≡ spec.is_blank byte }
+{
+    is_indent(byte) || byte == b'\r'
+}
+
+fn is_blank_line(line: &str) -> bool
     ensures { result ≡ spec.is_blank_line line.now }
 {
     for byte in line.as_bytes() {
-        if !(is_indent(*byte) || *byte == b'\r') {
+        if !is_blank(*byte) {
             return false;
         }
     }
@@ -53,7 +59,7 @@ fn common<'a>(left: &'a [u8], right: &[u8]) -> &'a [u8]
 fn narrow<'a>(prefix: &'a [u8], line: &str) -> &'a [u8]
     ensures { result.now ≡ (if spec.is_written line.now then spec.common prefix.now (spec.indent line.now) else prefix.now) }
 {
-    if is_blank(line) {
+    if is_blank_line(line) {
         return prefix;
     }
     common(prefix, indent(line))
@@ -75,7 +81,7 @@ pub fn common_indent(mut lines: &[&str]) -> usize
     ensures { result ≡ length (spec.common_indent (map (λ l. l.now) lines.entry.now)) }
 {
     while let [line, rest @ ..] = lines {
-        if !is_blank(line) {
+        if !is_blank_line(line) {
             return narrowed(indent(line), rest);
         }
         lines = rest;
@@ -88,7 +94,7 @@ pub fn without_first<'a, 'b>(lines: &'a [&'b str]) -> &'a [&'b str]
     ensures { map (λ l. l.now) result.now ≡ spec.without_first (map (λ l. l.now) lines.now) }
 {
     match lines {
-        [first, rest @ ..] if !rest.is_empty() && is_blank(first) => rest,
+        [first, rest @ ..] if !rest.is_empty() && is_blank_line(first) => rest,
         _ => lines,
     }
 }
@@ -98,7 +104,7 @@ pub fn without_last<'a, 'b>(lines: &'a [&'b str]) -> &'a [&'b str]
     ensures { map (λ l. l.now) result.now ≡ spec.without_last (map (λ l. l.now) lines.now) }
 {
     match lines {
-        [rest @ .., last] if !rest.is_empty() && is_blank(last) => rest,
+        [rest @ .., last] if !rest.is_empty() && is_blank_line(last) => rest,
         _ => lines,
     }
 }
@@ -108,7 +114,7 @@ fn cut<'a>(line: &'a str, width: usize) -> &'a str
     requires { Fits width line.now }
     ensures { result.now ≡ spec.cut width line.now }
 {
-    if is_blank(line) {
+    if is_blank_line(line) {
         return "";
     }
     &line[width..]

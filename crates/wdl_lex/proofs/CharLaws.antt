@@ -1,6 +1,6 @@
 -- The tokens in strings and commands: each is read, and what is read is one.
-use Rattle.std.proofs.Common.{◌≡◌, ℕ, zero, suc, ◌+◌, ◌-◌, ◌<◌, ◌≤◌, Bool, true, false, not, cond, ◌&&◌, ◌||◌, ◌==◌, nat_lt, ◌⊎◌, inl, inr, List, [], ◌∷◌, ◌++◌, length, drop, Option, Some, None, Result, Ok, Err, refl, ap, sym, ◌∙◌, subst, append_assoc, length-append, arith}
-use Rattle.std.proofs.lemmas.Bool.{and_parts, and_from, or_parts, or_from, cond-true, cond-false, eqb-true, lt-ltb, ltb-true, ltb-false, le-ltb, cases_Bool}
+use Rattle.std.proofs.Common.{◌≡◌, ℕ, zero, suc, ◌+◌, ◌-◌, ◌<◌, ◌≤◌, Bool, true, false, cond, ◌&&◌, ◌||◌, ◌==◌, nat_lt, ◌⊎◌, inl, inr, [], ◌∷◌, ◌++◌, length, Option, Some, None, Result, Ok, Err, refl, ap, sym, ◌∙◌, subst, append_assoc, length-append, arith}
+use Rattle.std.proofs.lemmas.Bool.{and_parts, or_parts, or_from, cond-true, cond-false, eqb-true, lt-ltb, cases_Bool}
 use Rattle.std.proofs.lemmas.List.{append-nil}
 use Rattle.std.specs.Prelude.{is_some}
 use Rattle.std.specs.Char.{encode_utf8}
@@ -20,8 +20,8 @@ use Rattle.wdl_lex.specs.Faults.{IsBadEscape, IsTextFlaw}
 use Rattle.wdl_lex.specs.Reading.Code.{Found, flaw}
 use Rattle.wdl_lex.specs.Reading.Escapes.{escape}
 use Rattle.wdl_lex.specs.Reading.Chars.{Meant, with_escape, chars_from, chars, as_chars, text_behind_hole, text_token}
-use Rattle.wdl_lex.proofs.Lists.{chosen, clash, same_head, same_front}
-use Rattle.wdl_lex.proofs.EscapeLaws.{escape_full, escape_sound, no_escape, HasEscape}
+use Rattle.wdl_lex.proofs.Lists.{chosen, clash, same_front}
+use Rattle.wdl_lex.proofs.EscapeLaws.{escape_full, escape_sound, no_escape}
 
 -- ---- characters
 
@@ -221,18 +221,6 @@ hole_bytes i b c m h = brace (chosen (c == 123) _ _ _ h)
 none_hole : (i : Inside) (b c : ℕ) (o : Option HoleMark) → hole_at i b c ≡ o → is_some (hole_at i b c) ≡ false → hole_at i b c ≡ None
 none_hole i b c None e h = e
 none_hole i b c (Some m) e h = (let f = sym (ap is_some e) ∙ h in let n : ⊥ = cc in absurd n)
-
-abbrev got : Found → Result Found Flaw
-got t = Ok t
-
-abbrev bad : Flaw → Result Found Flaw
-bad f = Err f
-
-same_got : (x y : Found) → got x ≡ got y → (x.0 ≡ y.0) × (x.1 ≡ y.1)
-same_got x y h = let e : x ≡ y = cc in (ap (λ (z : Found). z.0) e, ap (λ (z : Found). z.1) e)
-
-same_bad : (f g : Flaw) → bad f ≡ bad g → f ≡ g
-same_bad f g h = cc
 
 -- the tests of a byte at which characters may stand
 stops_parts : (i : Inside) (b : ℕ) (z : Bytes) → begins (closer i) (b ∷ z) ≡ false → is_some (hole_at i b (first z)) ≡ false → (b == 0) ≡ false → (is_string i && b == 10) ≡ false → stops i (b ∷ z) ≡ false

@@ -1,8 +1,8 @@
 -- The tokens outside strings and commands: reading one gives the longest spelling, and each longest spelling is read.
-use Rattle.std.proofs.Common.{◌≡◌, ℕ, zero, suc, ◌+◌, ◌<◌, ◌≤◌, Bool, true, false, not, cond, ◌&&◌, ◌||◌, ◌==◌, nat_lt, ◌⊎◌, inl, inr, List, [], ◌∷◌, ◌++◌, length, take, drop, Option, Some, None, Result, Ok, Err, refl, ap, sym, ◌∙◌, subst, append_assoc, length-append, arith, pos}
-use Rattle.std.proofs.lemmas.Bool.{and_parts, and_from, cond-true, cond-false, eqb-true, lt-ltb, ltb-true, ltb-false, not-true, not-false, not_from_true, not_from_false, cases_Bool}
+use Rattle.std.proofs.Common.{◌≡◌, ℕ, zero, suc, ◌+◌, ◌<◌, ◌≤◌, Bool, true, false, not, cond, ◌&&◌, ◌||◌, ◌==◌, nat_lt, ◌⊎◌, inl, inr, [], ◌∷◌, ◌++◌, length, take, drop, Option, Some, None, Result, Ok, Err, refl, ap, sym, ◌∙◌, subst, arith}
+use Rattle.std.proofs.lemmas.Bool.{and_parts, and_from, cond-true, cond-false, eqb-true, lt-ltb, not-true, not-false, not_from_true, cases_Bool}
 use Rattle.std.proofs.lemmas.Bool.Decides.{nat_tests}
-use Rattle.std.proofs.lemmas.List.{append-nil, drop_at, take_at}
+use Rattle.std.proofs.lemmas.List.{append-nil, drop_at}
 use Rattle.std.specs.List.{list_all, prefix_len}
 use Rattle.wdl_ast.specs.declared.token.Kind.{Kind}
 use Rattle.wdl_ast.specs.declared.token.Kind.TheVariants as kind
@@ -17,10 +17,10 @@ use Rattle.wdl_lex.specs.Limits.{is_short}
 use Rattle.wdl_lex.specs.Faults as fault
 use Rattle.wdl_lex.specs.Faults.{IsCodeFlaw}
 use Rattle.wdl_lex.specs.Reading.Numbers.{digits_len, behind_digits, frac_len, int_at}
-use Rattle.wdl_lex.specs.Reading.Code.{Found, flaw, char_len, word_at, mark_at, longest_at, checked, code_token}
+use Rattle.wdl_lex.specs.Reading.Code.{Found, flaw, word_at, mark_at, longest_at, checked, code_token}
 use Rattle.wdl_lex.proofs.Digits.{is_plain, are_plain, all_more, digits_plain}
-use Rattle.wdl_lex.proofs.Lists.{chosen, clash, same_head, StopsAt, front_of, front_more, front_whole, cut, left, same_front}
-use Rattle.wdl_lex.proofs.NumberLaws.{frac_more, frac_exact, HasFrac, frac_cases, int_len, int_exact, int_or_frac, int_no_frac, HasInt, int_cases, point_no_digit, zero_octal, octal_decimal, exponent_no_digit}
+use Rattle.wdl_lex.proofs.Lists.{chosen, same_head, front_of, front_more, front_whole, cut, left, same_front}
+use Rattle.wdl_lex.proofs.NumberLaws.{frac_more, frac_exact, HasFrac, frac_cases, int_len, int_exact, int_or_frac, int_no_frac, int_cases, zero_octal, octal_decimal}
 use Rattle.wdl_lex.proofs.MarkLaws.{mark_first, mark_plain, no_letter, no_digit, no_blank, same_some, Most, mark_least, mark_exact, mark_sound, point_mark}
 
 -- ---- classes of bytes
@@ -95,9 +95,6 @@ plain_append : (a b : Bytes) → are_plain a ≡ true → are_plain b ≡ true �
 plain_append [] b h k = k
 plain_append (x ∷ a) b h k = let q = and_parts (is_plain x) (are_plain a) h in and_from (is_plain x) (are_plain (a ++ b)) q.0 (plain_append a b q.1 k)
 
-digits_are_plain : (base : ℕ) (w : Bytes) → base ≤ 36 → are_digits base w ≡ true → are_plain w ≡ true
-digits_are_plain base w h d = digits_plain base w h d
-
 some_plain : (base : ℕ) (w : Bytes) → base ≤ 36 → Rattle.wdl_ast.specs.Spelled.Classes.some_digits base w ≡ true → are_plain w ≡ true
 some_plain base [] h d = refl
 some_plain base (b ∷ w) h d = digits_plain base (b ∷ w) h d
@@ -129,9 +126,6 @@ spells_plain awaits closes v k (s.mark w j q) = mark_plain awaits closes w j q
 -- ---- the order in which a token is looked for
 
 module _ (awaits closes : Bool) (z : Bytes) where
-  abbrev found : Option Found
-  found = longest_at awaits closes z
-
   pub at_letter : is_letter (first z) ≡ true → longest_at awaits closes z ≡ Some (word_at z)
   unfolding longest_at
   at_letter h = cond-true (is_letter (first z)) _ _ h

@@ -1,6 +1,6 @@
 -- Digits as texts, and the numbers that std reads from them.
 use Rattle.std.proofs.Common.{◌≡◌, ℕ, ◌+◌, ◌<◌, ◌≤◌, ◌^◌, Bool, true, false, cond, ◌&&◌, ◌||◌, ◌==◌, nat_lt, List, [], ◌∷◌, length, Result, Ok, Err, Option, Some, None, refl, ap, sym, ◌∙◌, subst, arith, pos, ℤ}
-use Rattle.std.proofs.lemmas.Bool.{and_parts, ltb-true, cond-true, cond-false, lt-ltb, le-ltb, leb-true, le-leb}
+use Rattle.std.proofs.lemmas.Bool.{and_parts, ltb-true, cond-true, cond-false, leb-true, le-leb}
 use Rattle.std.proofs.lemmas.Bool.Decides.{nat_tests}
 use Rattle.std.proofs.lemmas.Str.{IsUtf8-from_ascii}
 use Rattle.std.proofs.lemmas.Str.Ascii.{IsAscii-cons, IsAscii-nil}
@@ -8,7 +8,7 @@ use Rattle.std.specs.Char.{digit_value}
 use Rattle.std.specs.List.{list_all}
 use Rattle.std.specs.Result.{OkIff}
 use Rattle.std.specs.Str.{IsUtf8, IsAscii}
-use Rattle.std.specs.Str.Parse.{AllDigits, IsNumeral, digits_value, without_leading_plus, without_leading_sign, signed_digits_value, starts_with_minus, ParsesUnsigned, ParsesSigned}
+use Rattle.std.specs.Str.Parse.{AllDigits, IsNumeral, digits_value, without_leading_plus, without_leading_sign, signed_digits_value, starts_with_minus, ParsesUnsigned}
 use Rattle.std.specs.Prelude.{FitsSigned, nat_le, take}
 use Rattle.std.specs.List.{prefix_len}
 use Rattle.std.proofs.Common.{w64}
@@ -76,13 +76,6 @@ no_minus base [] h d = refl
 no_minus base (b ∷ w) h d =
     let q = and_parts (is_digit_of base b) (are_digits base w) d in
     let no : (b == 45) ≡ false = grind (arith, nat_tests) in no
-
-pub parsed : {E : Type 0} (k base : ℕ) (w : Bytes) (r : Result ℕ E) → base ≤ 36 → 0 < length w → are_digits base w ≡ true → ParsesUnsigned k base w r → OkIff r (digits_value base w < 2 ^ k) (digits_value base w)
-parsed k base w r h some d p = go r (subst (λ z. OkIff r (IsNumeral base z × (digits_value base z < 2 ^ k)) (digits_value base z)) (no_plus base w h d) p)
-  where
-    go : {E : Type 0} (r : Result ℕ E) → OkIff r (IsNumeral base w × (digits_value base w < 2 ^ k)) (digits_value base w) → OkIff r (digits_value base w < 2 ^ k) (digits_value base w)
-    go (Ok x) q = (q.0.1, q.1)
-    go (Err e) q = λ small. q ((some, all_digits base w d), small)
 
 -- the character that digits number, as std reads them
 abbrev pub Parses : ℕ → Bytes → Bytes → Type 0

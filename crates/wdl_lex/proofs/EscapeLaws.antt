@@ -1,13 +1,13 @@
 -- The escapes: each is read, and what is read is one.
-use Rattle.std.proofs.Common.{◌≡◌, ℕ, zero, suc, ◌+◌, ◌<◌, ◌≤◌, Bool, true, false, cond, ◌&&◌, ◌||◌, ◌==◌, nat_le, ◌⊎◌, inl, inr, List, [], ◌∷◌, ◌++◌, length, take, drop, Option, Some, None, refl, ap, sym, ◌∙◌, subst, length-append, arith}
-use Rattle.std.proofs.lemmas.Bool.{and_parts, cond-true, cond-false, eqb-true, leb-true, le-leb, cases_Bool}
+use Rattle.std.proofs.Common.{◌≡◌, ℕ, ◌+◌, ◌<◌, Bool, true, false, cond, ◌==◌, nat_le, ◌⊎◌, inl, inr, [], ◌∷◌, ◌++◌, length, take, drop, Option, Some, None, refl, ap, sym, ◌∙◌, subst, length-append, arith}
+use Rattle.std.proofs.lemmas.Bool.{and_parts, cond-true, cond-false, eqb-true, leb-true, le-leb}
 use Rattle.std.proofs.lemmas.Bool.Decides.{nat_tests}
 use Rattle.std.proofs.lemmas.List.{take_at, take-append-drop, length-take-le}
 use Rattle.std.specs.Str.Parse.{digits_value}
 use Rattle.wdl_ast.specs.Spelled.Classes.{Bytes, is_digit_of, are_digits}
 use Rattle.wdl_ast.specs.Spelled.Escapes as s
 use Rattle.wdl_ast.specs.Spelled.Escapes.{simple, hex_digits, is_character, IsEscape}
-use Rattle.wdl_lex.specs.Reading.Escapes.{character, number, with_len, numbered, hex_escape, long_escape, short_escape, escape}
+use Rattle.wdl_lex.specs.Reading.Escapes.{character, number, with_len, numbered, hex_escape, short_escape, escape}
 use Rattle.wdl_lex.proofs.Lists.{chosen}
 
 abbrev Meets : Type 0

@@ -1,16 +1,16 @@
 -- Reading a text from its start.
-use Rattle.std.proofs.Common.{◌≡◌, ℕ, suc, ◌+◌, ◌<◌, ◌≤◌, Bool, true, false, ◌⊎◌, inl, inr, List, [], ◌∷◌, length, Result, Ok, Err, refl, ap, sym, ◌∙◌, subst, arith}
+use Rattle.std.proofs.Common.{◌≡◌, ℕ, suc, ◌≤◌, Bool, true, false, inr, List, [], length, Result, Ok, Err, refl, ap, sym, ◌∙◌, subst, arith}
 use Rattle.std.specs.Str.{IsUtf8}
 use Rattle.wdl_base.specs.declared.span.Span.{Span}
 use Rattle.wdl_ast.specs.declared.token.Token.{Token}
-use Rattle.wdl_ast.specs.Spelled.{Spelled, AreTokens, IsOver}
+use Rattle.wdl_ast.specs.Spelled.{Spelled}
 use Rattle.wdl_ast.specs.Spelled.Classes.{Bytes}
 use Rattle.std.specs.Prelude.{IfOk, IfErr}
 use Rattle.wdl_lex.specs.declared.fault.LexFault.{LexFault}
 use Rattle.wdl_lex.specs.declared.fault.LexFault.TheVariants as fault
 use Rattle.wdl_lex.specs.Limits.{max_document, are_short, IsWithinLimits}
-use Rattle.wdl_lex.specs.Faults.{IsFlawed, IsCutOff, IsFault, HasCause, Answers}
-use Rattle.wdl_lex.specs.Reading.{Fault, lex, lex_from, Gives}
+use Rattle.wdl_lex.specs.Faults.{IsFault, HasCause, Answers}
+use Rattle.wdl_lex.specs.Reading.{Fault, lex, Gives}
 use Rattle.wdl_lex.proofs.Whole.{Told, lex_tells, lex_full}
 
 abbrev Texts : Type 0

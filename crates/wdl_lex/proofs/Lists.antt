@@ -1,5 +1,5 @@
 -- Fronts of lists.
-use Rattle.std.proofs.Common.{◌≡◌, ℕ, zero, suc, ◌+◌, ◌<◌, ◌≤◌, Bool, true, false, cond, ◌&&◌, ◌⊎◌, inl, inr, List, [], ◌∷◌, ◌++◌, length, take, drop, refl, ap, sym, ◌∙◌, arith, length-append}
+use Rattle.std.proofs.Common.{◌≡◌, ℕ, ◌+◌, ◌<◌, Bool, true, false, cond, ◌&&◌, ◌⊎◌, inl, inr, [], ◌∷◌, ◌++◌, length, take, drop, refl, ap, sym, ◌∙◌, arith}
 use Rattle.std.proofs.lemmas.Bool.{and_parts, cond-true, cond-false}
 use Rattle.std.proofs.lemmas.List.{take_at, drop_at}
 use Rattle.std.specs.List.{list_all, prefix_len}
@@ -60,10 +60,6 @@ left z w rest n h e = ap (drop n) h ∙ drop_at w rest n e
 -- two fronts of one text and of one length are one
 pub same_front : (v w x y : Bytes) → v ++ x ≡ w ++ y → length v ≡ length w → (v ≡ w) × (x ≡ y)
 same_front v w x y h e = (sym (take_at v x (length w) e) ∙ ap (take (length w)) h ∙ take_at w y (length w) refl, sym (drop_at v x (length w) e) ∙ ap (drop (length w)) h ∙ drop_at w y (length w) refl)
-
-pub nonempty : (y : Bytes) → is_end y ≡ false → (b : ℕ) × (v : Bytes) × (y ≡ b ∷ v)
-nonempty [] h = cc
-nonempty (b ∷ v) h = (b, v, refl)
 
 pub nonempty_length : (a b : Bytes) → is_end (a ++ b) ≡ false → 0 < length a + length b
 nonempty_length [] [] h = cc

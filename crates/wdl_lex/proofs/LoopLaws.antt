@@ -1,7 +1,6 @@
 -- One turn of the loop that reads a text.
-use Rattle.std.proofs.Common.{◌≡◌, ℕ, zero, suc, ◌+◌, ◌-◌, ◌<◌, ◌≤◌, Bool, true, false, cond, List, [], ◌∷◌, ◌++◌, length, take, drop, Option, Some, None, Result, Ok, Err, refl, ap, sym, ◌∙◌, subst, append_assoc, length-append, length-drop, arith}
+use Rattle.std.proofs.Common.{◌≡◌, ℕ, suc, ◌+◌, ◌<◌, ◌≤◌, Bool, false, List, [], ◌∷◌, ◌++◌, length, take, drop, Option, Some, None, Result, Ok, Err, refl, ap, sym, ◌∙◌, subst, append_assoc, length-append, length-drop, arith}
 use Rattle.std.proofs.lemmas.List.{append-nil, drop-drop, take-append-drop, length-take-le, drop_all}
-use Rattle.wdl_base.specs.declared.span.Span.{Span}
 use Rattle.wdl_ast.specs.declared.token.Kind.{Kind}
 use Rattle.wdl_ast.specs.declared.token.Token.{Token}
 use Rattle.wdl_ast.specs.Spelled.{Open, inside_of, inside, in_hole, after, is_command, unclosed, span_at, placed, IsToken}
@@ -64,9 +63,6 @@ module _ (limited : Bool) (doc : ℕ) (z : Bytes) where
   module _ (front : List Token) (awaits : Bool) (opened : Open) (n m at g : ℕ) (so_far : lex limited doc z ≡ with_front front (lex_from limited doc n at awaits opened (drop at z))) (turns : n ≡ suc m) (gap_is : g ≡ gap opened (drop at z)) (within : at + g ≤ length z) where
     fits : g ≤ length (drop at z)
     fits = omega (arith, length-drop at z)
-
-    before : Bytes
-    before = take g (drop at z)
 
     behind : drop g (drop at z) ≡ drop (at + g) z
     behind = drop-drop g at z

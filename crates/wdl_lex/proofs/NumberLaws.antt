@@ -1,9 +1,8 @@
 -- The numbers at the front of a text: what is measured is the longest spelling, and each spelling is measured.
-use Rattle.std.proofs.Common.{◌≡◌, ℕ, zero, suc, ◌+◌, ◌<◌, ◌≤◌, Bool, true, false, cond, ◌&&◌, ◌||◌, ◌==◌, ◌⊎◌, inl, inr, List, [], ◌∷◌, ◌++◌, length, take, drop, refl, ap, sym, ◌∙◌, subst, append_assoc, length-append, arith, pos}
-use Rattle.std.proofs.lemmas.Bool.{and_parts, and_from, or_cases, cond-true, cond-false, eqb-true, cases_Bool}
+use Rattle.std.proofs.Common.{◌≡◌, ℕ, zero, suc, ◌+◌, ◌<◌, ◌≤◌, Bool, true, false, cond, ◌&&◌, ◌==◌, ◌⊎◌, inl, inr, [], ◌∷◌, ◌++◌, length, take, drop, refl, ap, sym, ◌∙◌, subst, append_assoc, length-append, arith, pos}
+use Rattle.std.proofs.lemmas.Bool.{and_parts, and_from, cond-true, cond-false, eqb-true, cases_Bool}
 use Rattle.std.proofs.lemmas.Bool.Decides.{nat_tests}
-use Rattle.std.proofs.lemmas.List.{append-nil, drop_at, drop-drop, drop_all, take_at}
-use Rattle.std.specs.List.{list_all, prefix_len}
+use Rattle.std.proofs.lemmas.List.{append-nil, drop_at, drop-drop, take_at}
 use Rattle.std.specs.Str.Parse.{digits_value}
 use Rattle.wdl_ast.specs.declared.token.Kind.{Kind}
 use Rattle.wdl_ast.specs.declared.token.Kind.TheVariants as kind
@@ -11,7 +10,7 @@ use Rattle.wdl_ast.specs.Spelled.Classes.{Bytes, is_digit_of, are_digits, some_d
 use Rattle.wdl_ast.specs.Spelled.Numbers as s
 use Rattle.wdl_ast.specs.Spelled.Numbers.{is_hex_mark, is_exponent_mark, is_sign, IsInt, IsExponent, MayBeExponent, IsFrac}
 use Rattle.wdl_lex.specs.Reading.Numbers.{digits_len, exponent_mark_len, joined_len, exponent_len, pointed_len, behind_digits, frac_len, is_hex, base_of, int_from, int_at}
-use Rattle.wdl_lex.proofs.Lists.{chosen, clash, same_head, StopsAt, front_of, front_more, front_exact, front_stops, front_whole, cut, nonempty, nonempty_length}
+use Rattle.wdl_lex.proofs.Lists.{clash, same_head, StopsAt, front_of, front_more, front_exact, front_whole, nonempty_length}
 
 -- ---- classes of bytes
 

@@ -1,16 +1,14 @@
 -- The texts of tokens are UTF-8 without NUL, and so is what follows a token of a text that is UTF-8.
-use Rattle.std.proofs.Common.{◌≡◌, ℕ, zero, suc, ◌+◌, ◌<◌, ◌≤◌, Bool, true, false, not, cond, ◌&&◌, ◌||◌, ◌==◌, ◌⊎◌, inl, inr, List, [], ◌∷◌, ◌++◌, length, take, drop, get_or, Option, Some, None, Result, Ok, Err, refl, ap, sym, ◌∙◌, subst, append_assoc, length-append, arith}
-use Rattle.std.proofs.lemmas.Bool.{and_parts, and_from, or_parts, or_cases, cond-true, cond-false, eqb-true, not-true, ltb-true, cases_Bool}
+use Rattle.std.proofs.Common.{◌≡◌, ℕ, suc, ◌<◌, Bool, true, false, cond, ◌&&◌, ◌||◌, ◌==◌, ◌⊎◌, inl, inr, [], ◌∷◌, ◌++◌, length, take, get_or, Option, Some, None, Result, Ok, refl, ap, sym, ◌∙◌, subst, append_assoc, length-append, arith}
+use Rattle.std.proofs.lemmas.Bool.{and_parts, and_from, or_parts, or_cases, eqb-true, not-true, ltb-true}
 use Rattle.std.proofs.lemmas.Bool.Decides.{nat_tests}
 use Rattle.std.proofs.lemmas.List.{append-nil, drop_at, take_at, get_or_at}
 use Rattle.std.proofs.lemmas.Str.{IsUtf8-append, IsUtf8-nil, IsUtf8-encode, IsUtf8-take, IsUtf8-drop, IsCharBoundary-before_ascii, IsCharBoundary-from_take, inside_one}
 use Rattle.std.specs.Prelude.{is_some}
 use Rattle.std.specs.Char.{encode_utf8}
-use Rattle.std.specs.List.{list_all}
-use Rattle.std.specs.Str.{IsUtf8, IsCharBoundary}
+use Rattle.std.specs.Str.{IsUtf8}
 use Rattle.wdl_base.specs.Plain.{has_nul}
 use Rattle.wdl_ast.specs.declared.token.Kind.{Kind}
-use Rattle.wdl_ast.specs.declared.token.Kind.TheVariants as kind
 use Rattle.wdl_ast.specs.declared.token.Quote.TheVariants.{Single, Double}
 use Rattle.wdl_ast.specs.declared.token.Fence.TheVariants.{Brace, Angle}
 use Rattle.wdl_ast.specs.declared.token.HoleMark.{HoleMark}
@@ -23,7 +21,7 @@ use Rattle.wdl_ast.specs.Spelled.Chars as s
 use Rattle.wdl_ast.specs.Spelled.Chars.{Inside, string, command, is_string, closer, begins, hole_at, hole_byte, stops, AreChars, Stops, IsTextToken}
 use Rattle.wdl_ast.specs.Spelled.Gaps as gaps
 use Rattle.wdl_ast.specs.Spelled.Gaps.{IsGap}
-use Rattle.wdl_lex.proofs.Digits.{is_plain, are_plain, plain_utf8, plain_nul, digits_plain}
+use Rattle.wdl_lex.proofs.Digits.{is_plain, are_plain, plain_utf8, digits_plain}
 use Rattle.wdl_lex.proofs.Lists.{chosen}
 use Rattle.wdl_lex.proofs.EscapeLaws.{hex_is}
 use Rattle.wdl_lex.specs.declared.fault.Flaw.{Flaw}
@@ -45,20 +43,25 @@ behind_plain a r h u =
     let edge = IsCharBoundary-from_take (a ++ r) (length a) u (omega (arith, length-append a r)) front in
     subst IsUtf8 (drop_at a r (length a) refl) (IsUtf8-drop (a ++ r) (length a) u edge)
 
-plain_small : (b : ℕ) → is_plain b ≡ true → b < 128
-plain_small b h = ltb-true b 128 (and_parts _ _ h).1
-
 -- ---- escapes
 
-simple_plain : (b c : ℕ) → simple b ≡ Some c → is_plain b ≡ true
-simple_plain b c h = step 92 92 _ refl (step 110 10 _ refl (step 116 9 _ refl (step 39 39 _ refl (step 34 34 _ refl (step 126 126 _ refl (step 36 36 _ refl (λ q. (let n : ⊥ = cc in absurd n)))))))) h
+-- what holds of each short escape
+simple_each : (Q : ℕ → ℕ → Type 0) → Q 92 92 → Q 110 10 → Q 116 9 → Q 39 39 → Q 34 34 → Q 126 126 → Q 36 36 → (b c : ℕ) → simple b ≡ Some c → Q b c
+simple_each Q q1 q2 q3 q4 q5 q6 q7 b c h =
+    step 92 92 _ q1 (step 110 10 _ q2 (step 116 9 _ q3 (step 39 39 _ q4 (step 34 34 _ q5 (step 126 126 _ q6 (step 36 36 _ q7 (λ q. (let n : ⊥ = cc in absurd n)))))))) h
   where
-    step : (k v : ℕ) (o : Option ℕ) → is_plain k ≡ true → (o ≡ Some c → is_plain b ≡ true) → cond (b == k) (Some v) o ≡ Some c → is_plain b ≡ true
+    step : (k v : ℕ) (o : Option ℕ) → Q k v → (o ≡ Some c → Q b c) → cond (b == k) (Some v) o ≡ Some c → Q b c
     step k v o p more q = go (chosen (b == k) _ _ _ q)
       where
-        go : ((b == k) ≡ true) × (Some v ≡ Some c) ⊎ (((b == k) ≡ false) × (o ≡ Some c)) → is_plain b ≡ true
-        go (inl t) = ap is_plain (eqb-true b k t.0) ∙ p
+        go : ((b == k) ≡ true) × (Some v ≡ Some c) ⊎ (((b == k) ≡ false) × (o ≡ Some c)) → Q b c
+        go (inl t) = (let f : v ≡ c = (let g = t.1 in cc) in subst (λ x. Q x c) (sym (eqb-true b k t.0)) (subst (Q k) f p))
         go (inr t) = more t.1
+
+simple_plain : (b c : ℕ) → simple b ≡ Some c → is_plain b ≡ true
+simple_plain b c h = simple_each (λ b c. is_plain b ≡ true) refl refl refl refl refl refl refl b c h
+
+simple_character : (b c : ℕ) → simple b ≡ Some c → is_character c ≡ true
+simple_character b c h = simple_each (λ b c. is_character c ≡ true) refl refl refl refl refl refl refl b c h
 
 letter_plain : (b : ℕ) → (b ≡ 120) ⊎ ((b ≡ 117) ⊎ (b ≡ 85)) → is_plain b ≡ true
 letter_plain b (inl q) = ap is_plain q
@@ -69,16 +72,6 @@ escape_plain : (x : Bytes) (c : ℕ) → IsEscape x c → are_plain x ≡ true
 escape_plain x c (e.short b d h) = and_from (is_plain b) true (simple_plain b d h) refl
 escape_plain x c (e.octal w n d h) = digits_plain 8 w (omega arith) d
 escape_plain x c (e.hex b w n d h) = and_from (is_plain b) (are_plain w) (letter_plain b (hex_is b (length w) n)) (digits_plain 16 w (omega arith) d)
-
-simple_character : (b c : ℕ) → simple b ≡ Some c → is_character c ≡ true
-simple_character b c h = step 92 92 _ refl (step 110 10 _ refl (step 116 9 _ refl (step 39 39 _ refl (step 34 34 _ refl (step 126 126 _ refl (step 36 36 _ refl (λ q. (let n : ⊥ = cc in absurd n)))))))) h
-  where
-    step : (k v : ℕ) (o : Option ℕ) → is_character v ≡ true → (o ≡ Some c → is_character c ≡ true) → cond (b == k) (Some v) o ≡ Some c → is_character c ≡ true
-    step k v o p more q = go (chosen (b == k) _ _ _ q)
-      where
-        go : ((b == k) ≡ true) × (Some v ≡ Some c) ⊎ (((b == k) ≡ false) × (o ≡ Some c)) → is_character c ≡ true
-        go (inl t) = (let f : v ≡ c = (let g = t.1 in cc) in ap is_character (sym f) ∙ p)
-        go (inr t) = more t.1
 
 escape_character : (x : Bytes) (c : ℕ) → IsEscape x c → is_character c ≡ true
 escape_character x c (e.short b d h) = simple_character b d h

@@ -1,15 +1,12 @@
 -- Reading a whole text gives the tokens that it spells, or tells what is wrong.
-use Rattle.std.proofs.Common.{◌≡◌, ℕ, zero, suc, ◌+◌, ◌<◌, ◌≤◌, Bool, true, false, cond, ◌&&◌, ◌||◌, ◌==◌, ◌⊎◌, inl, inr, List, [], ◌∷◌, ◌++◌, length, drop, Option, Some, None, Result, Ok, Err, refl, ap, sym, ◌∙◌, subst, append_assoc, length-append, arith}
-use Rattle.std.proofs.lemmas.Bool.{and_parts, and_from, cond-true, cond-false, eqb-true, cases_Bool}
-use Rattle.std.proofs.lemmas.List.{append-nil, drop_at, drop_all}
-use Rattle.std.specs.List.{list_all}
-use Rattle.wdl_base.specs.declared.span.Span.{Span}
+use Rattle.std.proofs.Common.{◌≡◌, ℕ, zero, suc, ◌+◌, ◌<◌, Bool, true, false, cond, ◌⊎◌, inl, inr, List, [], ◌∷◌, ◌++◌, length, drop, Option, Some, None, Result, Ok, Err, refl, ap, sym, ◌∙◌, subst, length-append, arith}
+use Rattle.std.proofs.lemmas.Bool.{and_parts, and_from, cond-true, cond-false}
+use Rattle.std.proofs.lemmas.List.{append-nil, drop_at}
 use Rattle.wdl_ast.specs.declared.token.Kind.{Kind}
-use Rattle.wdl_ast.specs.declared.token.Kind.TheVariants as kind
 use Rattle.wdl_ast.specs.declared.token.Token.{Token}
 use Rattle.wdl_ast.specs.Spelled.{Open, innermost, inside_at, inside_of, inside, in_hole, after, is_command, unclosed, unclosed_from, IsTokenIn, IsToken, IsGapIn, span_at, placed, AreTokens, IsOver}
-use Rattle.wdl_ast.specs.Spelled.Classes.{Bytes, first, is_end}
-use Rattle.wdl_ast.specs.Spelled.Code.{Spells, IsCodeToken}
+use Rattle.wdl_ast.specs.Spelled.Classes.{Bytes, is_end}
+use Rattle.wdl_ast.specs.Spelled.Code.{IsCodeToken}
 use Rattle.wdl_ast.specs.Spelled.Chars as chars
 use Rattle.wdl_ast.specs.Spelled.Chars.{Inside, string, command, closer, IsTextToken}
 use Rattle.wdl_ast.specs.Spelled.Gaps as gaps
@@ -18,8 +15,8 @@ use Rattle.wdl_ast.specs.declared.token.Quote.TheVariants.{Single, Double}
 use Rattle.wdl_ast.specs.declared.token.Fence.TheVariants.{Brace, Angle}
 use Rattle.wdl_lex.specs.declared.fault.Flaw.{Flaw}
 use Rattle.wdl_lex.specs.Limits.{is_short, are_short}
-use Rattle.wdl_lex.specs.Faults.{IsCodeFlaw, IsTextFlaw, IsFlawIn, IsFlawedBy, IsUnclosed}
-use Rattle.wdl_lex.specs.Reading.{Fault, fault_at, located, and_then, token_in, token, gap, open_code, ended, lex_from}
+use Rattle.wdl_lex.specs.Faults.{IsFlawIn, IsFlawedBy, IsUnclosed}
+use Rattle.wdl_lex.specs.Reading.{Fault, fault_at, located, and_then, token_in, token, gap, ended, lex_from}
 use Rattle.wdl_lex.specs.Reading.Code.{Found, code_token}
 use Rattle.wdl_lex.specs.Reading.Gaps.{gap_len, gap_in}
 use Rattle.wdl_lex.specs.Reading.Chars.{text_token}
@@ -27,7 +24,7 @@ use Rattle.wdl_lex.proofs.Digits.{is_plain, are_plain}
 use Rattle.wdl_lex.proofs.Lists.{same_head, left}
 use Rattle.wdl_lex.proofs.CodeLaws.{opens_gap, spells_first, spells_plain, code_sound, code_full, code_wrong}
 use Rattle.wdl_lex.proofs.CharLaws.{text_tells, text_full, Tells}
-use Rattle.wdl_lex.proofs.GapLaws.{gap_then, last_gap, CutsOff, Measured, Splits, gap_splits, no_gap}
+use Rattle.wdl_lex.proofs.GapLaws.{gap_then, last_gap, CutsOff, Measured, gap_splits, no_gap}
 
 -- ---- gaps in their places
 

@@ -1,12 +1,11 @@
 -- What each code says of a text at its span.
-use Rattle.std.specs.Prelude.{◌≡◌, ℕ, ◌+◌, ◌<◌, Bool, true, false, ◌==◌, List, [], ◌∷◌, ◌++◌, length, Option, Some, None, ◌⊎◌}
+use Rattle.std.specs.Prelude.{◌≡◌, ℕ, ◌+◌, ◌<◌, Bool, true, false, List, [], ◌∷◌, ◌++◌, length, Option, Some, None, ◌⊎◌}
 use Rattle.std.specs.Str.{IsValidUpTo}
 use Rattle.wdl_base.specs.declared.span.Span.{Span}
 use Rattle.wdl_ast.specs.declared.token.Kind.{Kind}
-use Rattle.wdl_ast.specs.declared.token.Kind.TheVariants as kind
 use Rattle.wdl_ast.specs.declared.token.Token.{Token}
 use Rattle.wdl_ast.specs.Spelled.{Open, inside_of, inside, in_hole, unclosed, IsGapIn, span_at, AreTokens}
-use Rattle.wdl_ast.specs.Spelled.Classes.{Bytes, is_word_byte, first}
+use Rattle.wdl_ast.specs.Spelled.Classes.{Bytes, first}
 use Rattle.wdl_ast.specs.Spelled.Code.{Spells, IsLongest, stands_alone, fits}
 use Rattle.wdl_ast.specs.Spelled.Escapes.{IsEscape}
 use Rattle.wdl_ast.specs.Spelled.Chars.{Inside, command, is_string, AreChars}

@@ -1,5 +1,5 @@
 -- What clap's clauses say of a reading.
-use Rattle.std.proofs.Common.{◌≡◌, ◌⊎◌, Bool, true, false, ◌&&◌, List, [], ◌∷◌, Option, Some, None, map, Result, Ok, Err, IsErrAnd, refl, inl, inr}
+use Rattle.std.proofs.Common.{◌≡◌, ◌⊎◌, Bool, true, false, ◌&&◌, List, [], ◌∷◌, Option, Some, None, Result, Ok, Err, IsErrAnd, refl, inl, inr}
 use Rattle.clap.specs.Kinds.{IsAmong, Kinds}
 use Rattle.clap.specs.Words.{App, Text, Row, fault_of, is_simple, is_simple_and_free, matches_of}
 use Rattle.clap.specs.Simple.{built}

@@ -1,5 +1,5 @@
 -- The limits of what words ask for.
-use Rattle.std.proofs.Common.{◌≡◌, ◌≤◌, ◌&&◌, ℕ, Bool, true, false, subst, not, cond, nat_lt, nat_le, List, [], ◌∷◌, length, Option, Some, None, codes, refl, arith}
+use Rattle.std.proofs.Common.{◌≡◌, ◌≤◌, ◌&&◌, ℕ, Bool, true, false, subst, not, cond, nat_le, List, [], ◌∷◌, length, Option, Some, None, codes, refl, arith}
 use Rattle.std.specs.Prelude.{option_and_then, option_map}
 use Rattle.std.specs.Str.{bytes_eq}
 use Rattle.std.specs.Str.Parse.{digits_value}
@@ -7,7 +7,7 @@ use Rattle.std.proofs.lemmas.Bool.Decides.{nat_tests}
 use Rattle.clap.specs.Words.{Row, Text, first_of}
 use Rattle.wdl_base.specs.Plain.{has_nul}
 use Rattle.wdl_words.specs.Commands.{found_in, run_app}
-use Rattle.wdl_words.specs.Words.{IsWithinLimits, begins_with_slash, directory_of, file_in, file_of, is_directory, is_numeral, load_in, named_by_first, number_within, operand_in, optional_file, root_of, run_in, run_of, run_with, some_nul, wants, wants_by, workers_of}
+use Rattle.wdl_words.specs.Words.{IsWithinLimits, begins_with_slash, directory_of, file_in, file_of, is_numeral, load_in, named_by_first, number_within, operand_in, optional_file, root_of, run_in, run_of, run_with, some_nul, wants, wants_by, workers_of}
 use Rattle.wdl_words.specs.declared.wants.Wants.{Wants}
 use Rattle.wdl_words.specs.declared.wants.Wants.TheVariants.{Run, Check, Cwl, Load, Bundle}
 

@@ -1,10 +1,10 @@
 -- What a reading says of a result.
-use Rattle.std.proofs.Common.{◌≡◌, false, List, Option, Some, None, Result, Ok, Err, IfOk, IsErrOf, refl}
+use Rattle.std.proofs.Common.{◌≡◌, false, List, Option, Some, None, Result, Ok, Err, IfOk, IsErrOf}
 use Rattle.clap.specs.Words.{Text}
 use Rattle.wdl_words.proofs.Limits.{wants_within}
 use Rattle.wdl_words.specs.Words.{IsWithinLimits, named_by_first, some_nul}
 use Rattle.wdl_words.specs.declared.wants.Wants.{Wants}
-use Rattle.wdl_words.specs.Faults.{Misses, Reads}
+use Rattle.wdl_words.specs.Faults.{Reads}
 use Rattle.wdl_words.specs.declared.error.WordFault.{WordFault}
 use Rattle.wdl_words.specs.declared.error.WordFault.TheVariants.{Usage, NoMemory}
 

@@ -1,5 +1,5 @@
 -- The tokens in strings and commands.
-use Rattle.std.specs.Prelude.{◌≡◌, ℕ, Bool, true, false, ◌&&◌, ◌||◌, ◌==◌, if◌then◌else◌, List, [], ◌∷◌, ◌++◌, Option, Some, None, is_some}
+use Rattle.std.specs.Prelude.{◌≡◌, ℕ, Bool, true, false, ◌&&◌, ◌||◌, ◌==◌, if◌then◌else◌, [], ◌∷◌, ◌++◌, Option, Some, None, is_some}
 use Rattle.std.specs.Char.{encode_utf8}
 use Rattle.wdl_ast.specs.declared.token.Quote.{Quote}
 use Rattle.wdl_ast.specs.declared.token.Quote.TheVariants.{Single, Double}

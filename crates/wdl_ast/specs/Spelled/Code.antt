@@ -1,5 +1,5 @@
 -- The tokens outside strings and commands.
-use Rattle.std.specs.Prelude.{◌≡◌, ℕ, ◌≤◌, Bool, true, false, not, List, [], ◌∷◌, ◌++◌, length, nat_le, Option, Some, None, pos, negsuc}
+use Rattle.std.specs.Prelude.{◌≡◌, ℕ, ◌≤◌, Bool, true, false, not, ◌∷◌, ◌++◌, length, nat_le, Some, pos, negsuc}
 use Rattle.std.specs.List.{list_all}
 use Rattle.wdl_ast.specs.declared.token.Kind.{Kind}
 use Rattle.wdl_ast.specs.declared.token.Kind.TheVariants as kind

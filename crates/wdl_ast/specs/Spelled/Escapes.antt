@@ -1,5 +1,5 @@
 -- The escapes of strings, behind the backslash.
-use Rattle.std.specs.Prelude.{◌≡◌, ℕ, Bool, true, not, ◌&&◌, ◌==◌, if◌then◌else◌, List, [], ◌∷◌, length, Option, Some, None}
+use Rattle.std.specs.Prelude.{◌≡◌, ℕ, Bool, true, not, ◌&&◌, ◌==◌, if◌then◌else◌, [], ◌∷◌, length, Option, Some, None}
 use Rattle.std.specs.Str.Parse.{digits_value}
 use Rattle.wdl_ast.specs.Spelled.Classes.{Bytes, are_digits}
 use lib.Utf8.{scalar}

@@ -1,5 +1,5 @@
 -- How marks are written, and what opens and closes.
-use Rattle.std.specs.Prelude.{ℕ, Bool, true, false, ◌&&◌, ◌==◌, if◌then◌else◌, List, [], ◌∷◌, Option, Some, None}
+use Rattle.std.specs.Prelude.{ℕ, Bool, ◌&&◌, ◌==◌, if◌then◌else◌, List, [], ◌∷◌, Option, Some, None}
 use Rattle.wdl_ast.specs.declared.token.Mark.TheVariants as mark
 use Rattle.wdl_ast.specs.declared.token.Quote.TheVariants.{Single, Double}
 use Rattle.wdl_ast.specs.declared.token.Fence.TheVariants.{Brace, Angle}

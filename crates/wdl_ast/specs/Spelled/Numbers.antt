@@ -1,7 +1,7 @@
 -- How numbers are written.
-use Rattle.std.specs.Prelude.{◌≡◌, ℕ, Bool, true, false, ◌||◌, ◌==◌, List, [], ◌∷◌, ◌++◌}
+use Rattle.std.specs.Prelude.{◌≡◌, ℕ, Bool, true, false, ◌||◌, ◌==◌, [], ◌∷◌, ◌++◌}
 use Rattle.std.specs.Str.Parse.{digits_value}
-use Rattle.wdl_ast.specs.Spelled.Classes.{Bytes, is_digit_of, are_digits, some_digits, is_end}
+use Rattle.wdl_ast.specs.Spelled.Classes.{Bytes, are_digits, some_digits, is_end}
 
 -- `x` or `X`
 abbrev pub is_hex_mark : ℕ → Bool

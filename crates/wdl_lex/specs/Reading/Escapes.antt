@@ -1,5 +1,5 @@
 -- Reads an escape behind its backslash.
-use Rattle.std.specs.Prelude.{ℕ, ◌+◌, Bool, true, false, if◌then◌else◌, nat_le, List, [], ◌∷◌, length, take, Option, Some, None}
+use Rattle.std.specs.Prelude.{ℕ, ◌+◌, if◌then◌else◌, nat_le, [], ◌∷◌, length, take, Option, Some, None}
 use Rattle.std.specs.Str.Parse.{digits_value}
 use Rattle.wdl_ast.specs.Spelled.Classes.{Bytes, is_digit_of, are_digits}
 use Rattle.wdl_ast.specs.Spelled.Escapes.{simple, hex_digits, is_character}

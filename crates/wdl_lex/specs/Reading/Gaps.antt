@@ -1,5 +1,5 @@
 -- Measures the blank space and comments before a token.
-use Rattle.std.specs.Prelude.{ℕ, suc, Bool, true, false, ◌==◌, if◌then◌else◌, List, [], ◌∷◌, Option, Some, None}
+use Rattle.std.specs.Prelude.{ℕ, suc, Bool, true, false, ◌==◌, if◌then◌else◌, [], ◌∷◌, Option, Some, None}
 use Rattle.wdl_ast.specs.Spelled.Classes.{Bytes, is_blank}
 use Rattle.wdl_ast.specs.Spelled.Chars.{Inside}
 

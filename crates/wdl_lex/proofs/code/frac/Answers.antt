@@ -1,4 +1,4 @@
-use Rattle.std.proofs.Common.{◌≡◌, ℕ, ◌<◌, ◌∙◌, ◌⊎◌, inl, inr, ap, sym, subst, true, take, arith}
+use Rattle.std.proofs.Common.{◌≡◌, ℕ, ◌<◌, ◌∙◌, ◌⊎◌, inl, inr, ap, sym, true, take, arith}
 use Rattle.wdl_ast.specs.Spelled.Classes.{Bytes}
 use Rattle.wdl_lex.specs.Reading.Numbers.{frac_len}
 use Rattle.wdl_lex.proofs.Digits.{are_plain, plain_utf8, plain_nul}

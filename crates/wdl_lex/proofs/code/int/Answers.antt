@@ -1,14 +1,13 @@
-use Rattle.std.proofs.Common.{◌≡◌, ℕ, suc, ◌+◌, ◌-◌, ◌<◌, ◌≤◌, negsuc, Bool, true, false, not, cond, ◌&&◌, ◌==◌, nat_lt, nat_le, ◌∙◌, ap, sym, subst, refl, [], ◌∷◌, length, take, drop, Some, Ok, Err, Result, ℤ, pos, w64, arith}
-use Rattle.std.proofs.lemmas.Bool.{cond-true, cond-false, not_from_true, not_from_false, lt-ltb, leb-true}
+use Rattle.std.proofs.Common.{◌≡◌, ℕ, suc, ◌+◌, ◌-◌, ◌<◌, ◌≤◌, negsuc, Bool, true, false, not, cond, nat_lt, nat_le, ◌∙◌, ap, sym, subst, length, take, drop, Some, Ok, Err, Result, ℤ, pos, w64, arith}
+use Rattle.std.proofs.lemmas.Bool.{cond-false, lt-ltb, leb-true}
 use Rattle.std.proofs.lemmas.List.{length-take-le}
 use Rattle.std.specs.Str.Parse.{digits_value}
-use Rattle.wdl_ast.specs.declared.token.Kind.{Kind}
 use Rattle.wdl_ast.specs.declared.token.Kind.TheVariants as kind
 use Rattle.wdl_ast.specs.Spelled.Classes.{Bytes, is_digit_of, are_digits, is_word_byte, first}
 use Rattle.wdl_lex.specs.declared.fault.Flaw.{Flaw}
 use Rattle.wdl_lex.specs.Reading.Code.{Found, flaw, checked}
 use Rattle.wdl_lex.specs.Reading.Numbers.{digits_len, base_of, int_from, int_at}
-use Rattle.wdl_lex.proofs.Digits.{digits_plain, plain_utf8, front_digits, ParsesInt, ints_ok, ints_err}
+use Rattle.wdl_lex.proofs.Digits.{digits_plain, plain_utf8, front_digits, ints_ok, ints_err}
 use Rattle.wdl_lex.proofs.NumberLaws.{some_int_digits}
 use Rattle.wdl_lex.proofs.code.int.Goals as goal
 use mir.Val.{of_z, to_z, sel}

@@ -1,6 +1,4 @@
-use Rattle.std.proofs.Common.{◌≡◌, ◌∙◌, ap, sym, subst, true, take}
-use Rattle.std.specs.Str.{IsUtf8}
-use Rattle.wdl_base.specs.Plain.{has_nul}
+use Rattle.std.proofs.Common.{◌∙◌, ap, take}
 use Rattle.wdl_ast.specs.Spelled.Classes.{is_word_byte}
 use Rattle.wdl_lex.proofs.Digits.{are_plain, plain_utf8, plain_nul, front_plain}
 use Rattle.wdl_lex.proofs.CodeLaws.{word_byte_plain}

@@ -1,7 +1,4 @@
-use Rattle.std.proofs.Common.{◌≡◌, true, sym, ◌∙◌, ap, subst, arith}
-use Rattle.std.proofs.lemmas.Bool.{not-false}
-use Rattle.wdl_ast.specs.Spelled.Classes.{are_digits}
-use Rattle.wdl_lex.specs.Reading.Escapes.{number}
+use Rattle.std.proofs.Common.{sym, ◌∙◌}
 use Rattle.wdl_lex.proofs.Digits.{digits_plain, plain_utf8, numbers_ok, numbers_err}
 use Rattle.wdl_lex.proofs.escapes.number.Goals as goal
 

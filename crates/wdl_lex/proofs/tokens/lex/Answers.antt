@@ -1,5 +1,4 @@
-use Rattle.std.proofs.Common.{ap, ◌≡◌, ◌∙◌}
-use Rattle.wdl_lex.specs.Reading.{lex}
+use Rattle.std.proofs.Common.{◌∙◌}
 use Rattle.wdl_lex.proofs.Final.{found_by, only_by, cause_by}
 use Rattle.wdl_lex.proofs.tokens.lex.Goals as goal
 

@@ -1,8 +1,8 @@
-use Rattle.std.proofs.Common.{◌≡◌, ℕ, suc, ◌+◌, ◌-◌, ◌<◌, ◌≤◌, Bool, true, false, List, Option, Some, None, length, length-drop, drop, Result, Ok, Err, ap, sym, ◌∙◌, subst, arith, Fits, w32, w64}
+use Rattle.std.proofs.Common.{◌≡◌, ℕ, suc, ◌+◌, ◌-◌, ◌<◌, ◌≤◌, Bool, true, List, Some, length, length-drop, drop, Result, Ok, Err, ap, sym, ◌∙◌, subst, arith}
 use Rattle.std.proofs.lemmas.List.{drop-drop}
 use Rattle.std.specs.Str.{IsUtf8}
 use Rattle.wdl_ast.specs.declared.token.Token.{Token}
-use Rattle.wdl_ast.specs.Spelled.{Open, inside, after, is_command, unclosed, span_at}
+use Rattle.wdl_ast.specs.Spelled.{Open, inside, after, is_command, span_at}
 use Rattle.wdl_ast.specs.Spelled.Classes.{Bytes}
 use Rattle.wdl_lex.specs.declared.fault.Stop.{Stop}
 use Rattle.wdl_lex.specs.declared.fault.Stop.TheVariants as stop

@@ -1,7 +1,6 @@
-use Rattle.std.proofs.Common.{ap₂, ◌≡◌, ◌∙◌, codes, rules}
+use Rattle.std.proofs.Common.{ap₂, ◌∙◌}
 use Rattle.std.proofs.lemmas.Result.{IfOk-weaker}
-use Rattle.clap.specs.Words.{App, app_of, new_app, with_rule}
-use Rattle.wdl_words.specs.Commands.{option_rule, operand_rule}
+use Rattle.clap.specs.Words.{with_rule}
 use Rattle.wdl_words.proofs.commands.run_command.Goals as goal
 
 pub returns : goal.returns
