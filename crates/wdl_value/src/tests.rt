@@ -1,5 +1,6 @@
 use crate::{
-    Boxed, CastFault, Items, MapRow, NoMemory, Text, Ty, Value, cast, fits, same_value, size, text_of,
+    Boxed, CastFault, Items, MapRow, NoMemory, Text, Ty, Value, cast, fits, same_value, size,
+    text_of,
 };
 use std::alloc::Global;
 use std::test::Fail;
