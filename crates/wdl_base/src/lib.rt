@@ -22,7 +22,7 @@ mod tests;
 mod text;
 
 pub use answer::Answer;
-pub use body::{Body, Laid, Seen};
+pub use body::{BODY_LIMIT, Body, Laid, Seen};
 pub use entry::{Entry, Source};
 pub use error::{AnswerFault, NameFault, NoMemory, TextFault};
 pub use fault::{EvalCode, Fault, Why};

@@ -1,4 +1,4 @@
-mod ValueTextLemmas
+pub mod ValueTextLemmas
 pub mod ValueLayers
 pub mod SameTypeLemmas
 pub mod SameValueLemmas

@@ -16,3 +16,13 @@ pub mod OperatorTypes
 pub mod FunctionTypes
 pub mod Tables
 pub mod Laws
+pub mod Outcome
+pub mod Limits
+pub mod Parts
+pub mod Operate
+pub mod Functions
+pub mod Files
+pub mod Reads
+pub mod Paths
+pub mod Apply
+pub mod Written

@@ -9,6 +9,7 @@ mod equality;
 mod fitting;
 mod keyed;
 mod laws;
+mod limits;
 mod measure;
 mod operator;
 #[cfg(test)]
@@ -25,6 +26,7 @@ pub use equality::same_value;
 pub use fitting::fits;
 pub use keyed::{distinct_keys, has_key};
 pub use laws::{casts_fit, same_types_are_equal, same_values_are_equal};
+pub use limits::{ITEM_LIMIT, SIZE_LIMIT, is_within_limits};
 pub use measure::size;
 pub use operator::{Func, Op};
 pub use sqlite_items::{Boxed, Items};
@@ -33,8 +35,8 @@ pub use typing::{FuncTyping, OpTyping};
 pub use value::{Field, MapRow, Value, copy_values};
 pub use value_text::text_of;
 pub use wdl_base::{
-    Answer, AnswerFault, Body, Counts, Entry, EvalCode, Fault, Key, Laid, Name, NameFault,
-    NoMemory, Part, Place, PlaceFault, RESERVED, Request, Seen, Segment, Source, Span, Step, Steps,
-    Template, Text, TextFault, Why, copy_place, holds_nul, is_identifier, is_reserved, place_of,
-    place_text, places_are_read, same_place, same_request,
+    Answer, AnswerFault, BODY_LIMIT, Body, Counts, Entry, EvalCode, Fault, Key, Laid, Name,
+    NameFault, NoMemory, Part, Place, PlaceFault, RESERVED, Request, Seen, Segment, Source, Span,
+    Step, Steps, Template, Text, TextFault, Why, copy_place, holds_nul, is_identifier, is_reserved,
+    place_of, place_text, places_are_read, same_place, same_request,
 };
