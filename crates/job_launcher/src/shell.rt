@@ -44,8 +44,18 @@ fn run<R: Files + Processes + AllocGlobal + Clone + Drop>(
     make(rt, alloc, dir)?;
     lay_down(rt, alloc, dir, request.files.as_slice())?;
     let status = status_of(rt, alloc, dir, request.command.as_str())?;
-    let out = body_of(rt, alloc, path_in(alloc, dir, "_stdout")?.as_str(), OUT_LIMIT)?;
-    let err = body_of(rt, alloc, path_in(alloc, dir, "_stderr")?.as_str(), ERR_LIMIT)?;
+    let out = body_of(
+        rt,
+        alloc,
+        path_in(alloc, dir, "_stdout")?.as_str(),
+        OUT_LIMIT,
+    )?;
+    let err = body_of(
+        rt,
+        alloc,
+        path_in(alloc, dir, "_stderr")?.as_str(),
+        ERR_LIMIT,
+    )?;
     let files = files_of(rt, alloc, dir)?;
     match Answer::new(status, out, err, files) {
         Ok(answer) => Ok(answer),

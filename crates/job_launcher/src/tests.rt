@@ -59,7 +59,8 @@ fn add_body(all: &mut Vec<u8>, body: &Body) -> Result<(), LaunchFault> {
 fn runs_a_command_in_its_directory(rt: HostRuntime) -> Result<(), Fail> {
     let alloc = rt.alloc();
     let launcher = ShellLauncher::new(&rt);
-    let command = "cat .written-0; echo oops >&2; mkdir -p d/e; printf 1 > d/e/f; printf 2 > d-e; ln -s d-e link; head -c 70000 /dev/zero > big; exit 3";
+    let command =
+        "cat .written-0; echo oops >&2; mkdir -p d/e; printf 1 > d/e/f; printf 2 > d-e; ln -s d-e link; head -c 70000 /dev/zero > big; exit 3";
     let answer = launch(&launcher, alloc, "job/one", command)?;
     assert_eq!(rt; answer.status, 3);
     let mut streams = Vec::new(alloc);
@@ -67,7 +68,10 @@ fn runs_a_command_in_its_directory(rt: HostRuntime) -> Result<(), Fail> {
     add_body(&mut streams, &answer.err)?;
     assert_eq!(rt; streams.as_slice(), b"x\ty\noops\n".as_slice());
     let files = listed(alloc, answer.files.as_slice())?;
-    assert_eq!(rt; files.as_slice(), b".written-0 x\ty\n\nbig !\nd-e 2\nd/e/f 1\n".as_slice());
+    assert_eq!(rt;
+        files.as_slice(),
+        b".written-0 x\ty\n\nbig !\nd-e 2\nd/e/f 1\n".as_slice()
+    );
     // The directory is made anew, and a child that is killed has no status.
     let answer = launch(&launcher, alloc, "job/one", "kill -9 $$")?;
     assert_eq!(rt; answer.status, 255);

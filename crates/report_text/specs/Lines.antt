@@ -1,9 +1,9 @@
 -- The line of each status.
 use Rattle.std.specs.Prelude.{ℕ, ◌<◌, List, [], ◌∷◌, ◌++◌, Option, Some, None, codes, decimal, length, slice_get, unwrap_or, ⊤}
-use Rattle.wdl_value.specs.Places.{place_text}
-use Rattle.wdl_value.specs.declared.fault.Why.{Why}
-use Rattle.wdl_value.specs.declared.fault.Why.TheVariants as why
-use Rattle.wdl_value.specs.declared.span.Span.{Span}
+use Rattle.wdl_base.specs.Places.{place_text}
+use Rattle.wdl_base.specs.declared.fault.Why.{Why}
+use Rattle.wdl_base.specs.declared.fault.Why.TheVariants as why
+use Rattle.wdl_base.specs.declared.span.Span.{Span}
 use Rattle.report_text.specs.declared.status.Status.{Status}
 use Rattle.report_text.specs.declared.status.Status.TheVariants as status
 use Rattle.report_text.specs.Words.{word_of, eval_text}

@@ -1,7 +1,7 @@
 -- The words of the codes.
 use Rattle.std.specs.Prelude.{ℕ, ◌==◌, ◌/◌, List, [], codes, if◌then◌else◌}
-use Rattle.wdl_value.specs.declared.fault.EvalCode.{EvalCode}
-use Rattle.wdl_value.specs.declared.fault.EvalCode.TheVariants as eval
+use Rattle.wdl_base.specs.declared.fault.EvalCode.{EvalCode}
+use Rattle.wdl_base.specs.declared.fault.EvalCode.TheVariants as eval
 
 -- tokens and grammar
 abbrev pub text_word : ℕ → List ℕ

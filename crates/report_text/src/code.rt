@@ -1,5 +1,5 @@
 ghost use Rattle.std.specs.Prelude.{◌≡◌, false};
-ghost use Rattle.wdl_value.specs.Plain.{has_nul};
+ghost use Rattle.wdl_base.specs.Plain.{has_nul};
 ghost use Rattle.report_text.specs.Words as spec;
 
 use wdl_value::EvalCode;

@@ -1,5 +1,5 @@
 ghost use Rattle.std.specs.Prelude.{◌≡◌, ◌<◌, ◌++◌, false, [], decimal, length, slice_get, Some, IfOk};
-ghost use Rattle.wdl_value.specs.Plain.{has_nul};
+ghost use Rattle.wdl_base.specs.Plain.{has_nul};
 ghost use Rattle.report_text.specs.Lines as spec;
 ghost use Rattle.report_text.specs.Lines.{HasPath};
 ghost use Rattle.report_text.specs.declared.status.Status.TheVariants as status;

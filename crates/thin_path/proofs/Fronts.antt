@@ -7,7 +7,7 @@ use Rattle.std.proofs.lemmas.Str.{IsUtf8-from_ascii}
 use Rattle.std.proofs.lemmas.List.Elements.{All-cons}
 use Rattle.std.proofs.lemmas.Str.Ascii.{IsAscii-from_all}
 use Rattle.std.proofs.lemmas.Bool.Decides.{nat_tests}
-use Rattle.wdl_value.specs.Names.{is_name, is_word, is_word_from}
+use Rattle.wdl_base.specs.Names.{is_name, is_word, is_word_from}
 use Rattle.thin_path.specs.Scan.{front, past}
 
 front_one : (p : ℕ → Bool) (x : ℕ) (xs : List ℕ) (b : Bool) → p x ≡ b → take (prefix_len p xs) xs ≡ front p xs

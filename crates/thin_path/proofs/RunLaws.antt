@@ -1,13 +1,13 @@
 -- From the one call to the run of its document.
 use Rattle.std.proofs.Common.{◌≡◌, ℕ, true, List, [], ◌∷◌, inl, inr, Option, Some, Result, Ok, Err, refl, ap, ◌∙◌, sym, subst, arith, Contains}
 use Rattle.std.proofs.lemmas.Slice.Eq.{bytes_eq-Decides}
-use Rattle.wdl_value.specs.declared.entry.Entry.{Entry}
-use Rattle.wdl_value.specs.declared.answer.Answer.{Answer}
-use Rattle.wdl_value.specs.declared.request.Request.{Request}
-use Rattle.wdl_value.specs.declared.fault.Fault.{Fault}
-use Rattle.wdl_value.specs.declared.fault.EvalCode.{EvalCode}
-use Rattle.wdl_value.specs.declared.step.Step.{Step}
-use Rattle.wdl_value.specs.Same.{same_place}
+use Rattle.wdl_base.specs.declared.entry.Entry.{Entry}
+use Rattle.wdl_base.specs.declared.answer.Answer.{Answer}
+use Rattle.wdl_base.specs.declared.request.Request.{Request}
+use Rattle.wdl_base.specs.declared.fault.Fault.{Fault}
+use Rattle.wdl_base.specs.declared.fault.EvalCode.{EvalCode}
+use Rattle.wdl_base.specs.declared.step.Step.{Step}
+use Rattle.wdl_base.specs.Same.{same_place}
 use Rattle.thin_path.specs.declared.document.Task.{Task}
 use Rattle.thin_path.specs.declared.document.Call.{Call}
 use Rattle.thin_path.specs.declared.document.Wire.{Wire}

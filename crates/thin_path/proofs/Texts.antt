@@ -4,8 +4,8 @@ use Rattle.std.proofs.lemmas.List.{take_all}
 use Rattle.std.proofs.Math.Seq.{take-suc}
 use Rattle.std.proofs.lemmas.Str.{IsUtf8-from_is_utf8, is_utf8-from_IsUtf8}
 use Rattle.std.specs.Str.{is_utf8, IsUtf8}
-use Rattle.wdl_value.specs.Plain.{has_nul}
-use Rattle.wdl_value.specs.declared.fault.EvalCode.TheVariants as code
+use Rattle.wdl_base.specs.Plain.{has_nul}
+use Rattle.wdl_base.specs.declared.fault.EvalCode.TheVariants as code
 use Rattle.thin_path.specs.Flow.{text_of, cut, trimmed, is_end}
 
 -- ---- line ends

@@ -1,21 +1,21 @@
 -- What a document asks for and gives, computed from scratch over the answers of a journal.
 use Rattle.std.specs.Prelude.{◌≡◌, ℕ, Bool, ◌==◌, ◌&&◌, ◌||◌, not, nat_le, ◌+◌, length, List, [], ◌∷◌, ◌++◌, Option, Some, None, Result, Ok, Err, if◌then◌else◌, codes}
 use Rattle.std.specs.Str.{bytes_eq, is_utf8}
-use Rattle.wdl_value.specs.Plain.{has_nul}
-use Rattle.wdl_value.specs.Places.{place_text}
-use Rattle.wdl_value.specs.Same.{same_place}
-use Rattle.wdl_value.specs.declared.place.Segment.{Segment}
-use Rattle.wdl_value.specs.declared.place.Segment.TheVariants as segment
-use Rattle.wdl_value.specs.declared.request.Request.{Request}
-use Rattle.wdl_value.specs.declared.answer.Answer.{Answer}
-use Rattle.wdl_value.specs.declared.entry.Entry.{Entry}
-use Rattle.wdl_value.specs.declared.body.Body.{Body}
-use Rattle.wdl_value.specs.declared.body.Body.TheVariants as body
-use Rattle.wdl_value.specs.declared.fault.EvalCode.{EvalCode}
-use Rattle.wdl_value.specs.declared.fault.EvalCode.TheVariants as code
-use Rattle.wdl_value.specs.declared.fault.Why.{Why}
-use Rattle.wdl_value.specs.declared.fault.Why.TheVariants as why
-use Rattle.wdl_value.specs.declared.fault.Fault.{Fault}
+use Rattle.wdl_base.specs.Plain.{has_nul}
+use Rattle.wdl_base.specs.Places.{place_text}
+use Rattle.wdl_base.specs.Same.{same_place}
+use Rattle.wdl_base.specs.declared.place.Segment.{Segment}
+use Rattle.wdl_base.specs.declared.place.Segment.TheVariants as segment
+use Rattle.wdl_base.specs.declared.request.Request.{Request}
+use Rattle.wdl_base.specs.declared.answer.Answer.{Answer}
+use Rattle.wdl_base.specs.declared.entry.Entry.{Entry}
+use Rattle.wdl_base.specs.declared.body.Body.{Body}
+use Rattle.wdl_base.specs.declared.body.Body.TheVariants as body
+use Rattle.wdl_base.specs.declared.fault.EvalCode.{EvalCode}
+use Rattle.wdl_base.specs.declared.fault.EvalCode.TheVariants as code
+use Rattle.wdl_base.specs.declared.fault.Why.{Why}
+use Rattle.wdl_base.specs.declared.fault.Why.TheVariants as why
+use Rattle.wdl_base.specs.declared.fault.Fault.{Fault}
 use Rattle.thin_path.specs.declared.document.Output.{Output}
 use Rattle.thin_path.specs.declared.document.Hole.{Hole}
 use Rattle.thin_path.specs.declared.document.Command.{Command}

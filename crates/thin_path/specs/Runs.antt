@@ -1,14 +1,14 @@
 -- How a run of a document ends, and what its journal holds.
 use Rattle.std.specs.Prelude.{◌≡◌, ◌⊎◌, ◌<◌, ℕ, Bool, true, false, length, List, [], ◌∷◌, ◌++◌, None, Result, Ok, Err, ⊤, Contains}
-use Rattle.wdl_value.specs.declared.request.Request.{Request}
-use Rattle.wdl_value.specs.declared.answer.Answer.{Answer}
-use Rattle.wdl_value.specs.declared.entry.Entry.{Entry}
-use Rattle.wdl_value.specs.declared.entry.Source.TheVariants as source
-use Rattle.wdl_value.specs.declared.fault.EvalCode.{EvalCode}
-use Rattle.wdl_value.specs.declared.error.NoMemory.{NoMemory}
-use Rattle.wdl_value.specs.declared.fault.Fault.{Fault}
-use Rattle.wdl_value.specs.declared.step.Step.{Step}
-use Rattle.wdl_value.specs.declared.step.Step.TheVariants as step
+use Rattle.wdl_base.specs.declared.request.Request.{Request}
+use Rattle.wdl_base.specs.declared.answer.Answer.{Answer}
+use Rattle.wdl_base.specs.declared.entry.Entry.{Entry}
+use Rattle.wdl_base.specs.declared.entry.Source.TheVariants as source
+use Rattle.wdl_base.specs.declared.fault.EvalCode.{EvalCode}
+use Rattle.wdl_base.specs.declared.error.NoMemory.{NoMemory}
+use Rattle.wdl_base.specs.declared.fault.Fault.{Fault}
+use Rattle.wdl_base.specs.declared.step.Step.{Step}
+use Rattle.wdl_base.specs.declared.step.Step.TheVariants as step
 use Rattle.thin_path.specs.declared.document.Task.{Task}
 use Rattle.thin_path.specs.declared.document.Call.{Call}
 use Rattle.thin_path.specs.declared.document.Wire.{Wire}

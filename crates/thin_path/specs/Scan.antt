@@ -2,7 +2,7 @@
 use Rattle.std.specs.Prelude.{ℕ, Bool, ◌==◌, ◌&&◌, ◌||◌, not, nat_le, List, [], ◌∷◌, Option, Some, None, if◌then◌else◌}
 use Rattle.std.specs.Char.{is_ascii_alphanumeric}
 use Rattle.std.specs.Str.{bytes_eq}
-use Rattle.wdl_value.specs.Names.{is_name}
+use Rattle.wdl_base.specs.Names.{is_name}
 
 abbrev pub Bytes : Type 0
 Bytes = List ℕ

@@ -2,7 +2,7 @@
 use Rattle.std.specs.Prelude.{◌≡◌, ℕ, ◌==◌, ◌||◌, List, [], ◌∷◌, Option, Some, None, Result, Ok, Err, ⊤, if◌then◌else◌, codes, string_bytes, String}
 use Rattle.std.specs.Str.{bytes_eq}
 use Rattle.std.specs.declared.alloc.Global.{Global}
-use Rattle.wdl_value.specs.Plain.{has_nul}
+use Rattle.wdl_base.specs.Plain.{has_nul}
 use Rattle.thin_path.specs.declared.words.WordFault.{WordFault}
 use Rattle.thin_path.specs.declared.words.WordFault.TheVariants.{Usage, NoMemory}
 

@@ -1,6 +1,6 @@
 //! The command of a call.
 ghost use Rattle.std.specs.Prelude.{◌≡◌, ◌≤◌, ◌+◌, length, true, false, Ok, IfOk};
-ghost use Rattle.wdl_value.specs.Plain.{has_nul};
+ghost use Rattle.wdl_base.specs.Plain.{has_nul};
 ghost use Rattle.thin_path.specs.Flow as spec;
 ghost use Rattle.thin_path.specs.Runs.{Fits, GivesCode};
 

@@ -1,19 +1,19 @@
 //! A run of a document.
-ghost use Rattle.std.specs.Prelude.{◌≡◌, ◌≤◌, ◌<◌, ◌+◌, length, ◌++◌, ◌∷◌, [], IfOk, vec_len, vec_capacity};
+ghost use Rattle.std.specs.Prelude.{◌≡◌, ◌≤◌, ◌+◌, length, [], IfOk};
 ghost use Rattle.thin_path.specs.Flow as spec;
 ghost use Rattle.thin_path.specs.Runs as runs;
-ghost use Rattle.wdl_value.specs.declared.step.Step.TheVariants.{Took, Settled};
 
 use crate::ask::asks;
 use crate::document::{Call, Document, Task, Wire};
 use crate::fill::value_of;
+use crate::room::{journal_of, room_of};
 use crate::run::{Bind, CallFault, End, Ran};
 use crate::tell::tells;
 use sqlite_items::Items;
 use std::alloc::Global;
 use std::sync::ledger::Ledger;
 use wdl_port::{LaunchFault, Launcher};
-use wdl_value::{Answer, Entry, NoMemory, Place, Request, Source, Step, Steps, Text, copy_place};
+use wdl_value::{Answer, NoMemory, Request, Steps, Text};
 
 fn wired<S: Ledger>(
     alloc: Global,
@@ -66,55 +66,6 @@ fn idle(alloc: Global, end: End) -> Ran
         journal: Items::new(alloc),
         steps: Items::new(alloc),
         end,
-    }
-}
-
-/// What a job needs once it was launched, so that its answer is never lost: the room for its entry, and the steps of
-/// both ends.
-#[derive(Drop)]
-struct Room {
-    journal: Vec<Entry>,
-    taken: Items<Step>,
-    settled: Items<Step>,
-}
-
-fn took(alloc: Global, place: &Place) -> Result<Items<Step>, NoMemory>
-    ensures { IfOk result (λ s. s ≡ Took place.now ∷ []) }
-{
-    let mut steps = Items::new(alloc);
-    steps.push(Step::Took(copy_place(alloc, place)?))?;
-    Ok(steps)
-}
-
-fn room_of(alloc: Global, place: &Place) -> Result<Room, NoMemory>
-    ensures journal { IfOk result (λ r. r.journal.items ≡ []) }
-    ensures room { IfOk result (λ r. vec_len r.journal < vec_capacity r.journal) }
-    ensures taken { IfOk result (λ r. r.taken ≡ Took place.now ∷ []) }
-    ensures settled { IfOk result (λ r. r.settled ≡ Took place.now ∷ Settled place.now ∷ []) }
-{
-    let mut settled = took(alloc, place)?;
-    settled.push(Step::Settled(copy_place(alloc, place)?))?;
-    Ok(Room {
-        journal: Vec::with_capacity(alloc, 1)?,
-        taken: took(alloc, place)?,
-        settled,
-    })
-}
-
-/// The journal of one entry, for which there is room.
-fn journal_of(mut journal: Vec<Entry>, request: Request, answer: Answer) -> Items<Entry>
-    requires empty { journal.items ≡ [] }
-    requires room { vec_len journal < vec_capacity journal }
-    ensures { result ≡ runs.launched request answer ∷ [] }
-{
-    let entry = Entry {
-        request,
-        answer,
-        source: Source::Launched,
-    };
-    match journal.push(entry) {
-        Ok(()) => Items::from_vec(journal),
-        Err(_) => unreachable!(),
     }
 }
 

@@ -1,6 +1,5 @@
 #![tactic(auto, using(std::proofs::lemmas::Grind::common_steps), unfolding(crate::specs::Reading::then_, crate::specs::Reading::on, crate::specs::Reading::chosen, crate::specs::Reading::task, crate::specs::Reading::tasks, crate::specs::Reading::arguments, crate::specs::Reading::alias, crate::specs::Reading::given, crate::specs::Reading::call, crate::specs::Reading::calls, crate::specs::Reading::flow, crate::specs::Reading::version, crate::specs::Reading::document))]
 
-ghost use Rattle.std.specs.Prelude.{◌≡◌};
 ghost use Rattle.thin_path.specs.Reading as spec;
 ghost use Rattle.thin_path.specs.Results.{Eats, Gives, Reads};
 

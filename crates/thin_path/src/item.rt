@@ -1,6 +1,6 @@
 #![tactic(auto, using(std::proofs::lemmas::Grind::common_steps), unfolding(crate::specs::Reading::then_, crate::specs::Reading::on, crate::specs::Reading::chosen, crate::specs::Reading::section, crate::specs::Reading::input, crate::specs::Reading::standard_output, crate::specs::Reading::output, crate::specs::Reading::text, crate::specs::Reading::argument, crate::specs::Reading::next_argument, crate::specs::Reading::wire))]
 
-ghost use Rattle.std.specs.Prelude.{◌≡◌, ℕ, List, Option};
+ghost use Rattle.std.specs.Prelude.{ℕ, List, Option};
 ghost use Rattle.thin_path.specs.Reading as spec;
 ghost use Rattle.thin_path.specs.Results.{Reads, Eats};
 

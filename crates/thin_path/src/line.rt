@@ -6,8 +6,9 @@ ghost use Rattle.thin_path.specs.Line.{added, IsPlain};
 ghost use Rattle.thin_path.specs.Results.{Reads, Eats};
 
 use crate::document::{Command, Hole};
+use crate::scan::is_printable;
 use crate::stop::Stop;
-use crate::tokens::{Tokens, is_printable};
+use crate::tokens::Tokens;
 use sqlite_items::Items;
 use std::alloc::Global;
 use wdl_value::{Name, NoMemory, Text};

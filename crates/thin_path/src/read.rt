@@ -1,4 +1,3 @@
-ghost use Rattle.std.specs.Prelude.{◌≡◌};
 ghost use Rattle.thin_path.specs.Results.{Gives};
 ghost use Rattle.thin_path.specs.Sound as spec;
 

@@ -1,5 +1,5 @@
 ghost use Rattle.std.specs.Prelude.{◌≡◌};
-ghost use Rattle.thin_path.specs.declared.stop.Stop.TheVariants.{NoMemory as StopNoMemory, NotBuilt as StopNotBuilt};
+ghost use Rattle.thin_path.specs.declared.stop.Stop.TheVariants.{NoMemory as StopNoMemory};
 
 use std::alloc::AllocError;
 use wdl_value::NoMemory;

@@ -2,9 +2,9 @@
 use Rattle.std.proofs.Common.{◌≡◌, ℕ, Bool, true, false, ◌&&◌, ◌==◌, List, [], ◌∷◌, refl, ap, arith, eqb-true}
 use Rattle.std.specs.Str.{bytes_eq}
 use Rattle.std.proofs.lemmas.Slice.Eq.{bytes_eq-Decides}
-use Rattle.wdl_value.specs.Same.{same_place, same_segment}
-use Rattle.wdl_value.specs.declared.place.Segment.{Segment}
-use Rattle.wdl_value.specs.declared.place.Segment.TheVariants.{Call, Scatter, If, Index}
+use Rattle.wdl_base.specs.Same.{same_place, same_segment}
+use Rattle.wdl_base.specs.declared.place.Segment.{Segment}
+use Rattle.wdl_base.specs.declared.place.Segment.TheVariants.{Call, Scatter, If, Index}
 
 same_bytes : (a b : List ℕ) → bytes_eq a b ≡ true → a ≡ b
 same_bytes a b h = grind (arith, bytes_eq-Decides)

@@ -8,8 +8,8 @@ use Rattle.std.specs.Cmp.Lexicographic.{on_texts}
 use Rattle.std.specs.Ordering.{is_lt, nat_cmp, ordering_reverse}
 use Rattle.std.proofs.lemmas.Cmp.{then_total, on_total, nat_cmp_total}
 use Rattle.std.specs.Cmp.Derive.{both_true}
-use Rattle.wdl_value.specs.Places.{place_text}
-use Rattle.wdl_value.specs.declared.entry.Entry.{Entry}
+use Rattle.wdl_base.specs.Places.{place_text}
+use Rattle.wdl_base.specs.declared.entry.Entry.{Entry}
 use Rattle.wdl_port.specs.Rows.{row_order, is_under, rises, placed, put_row}
 
 pub row_total : IsTotalOrder row_order

@@ -2,9 +2,9 @@
 use Rattle.std.proofs.Common.{◌≡◌, ℕ, suc, ◌+◌, ◌-◌, ◌≤◌, ◌<◌, Bool, true, false, cond, List, [], ◌∷◌, length, get_or, drop, drop-cons, Option, Some, None, refl, sym, ap, ◌∙◌, arith}
 use Rattle.std.specs.Str.{bytes_eq}
 use Rattle.std.proofs.lemmas.Slice.Eq.{bytes_eq-Decides}
-use Rattle.wdl_value.specs.Places.{place_text}
-use Rattle.wdl_value.specs.Same.{same_place}
-use Rattle.wdl_value.specs.declared.place.Segment.{Segment}
+use Rattle.wdl_base.specs.Places.{place_text}
+use Rattle.wdl_base.specs.Same.{same_place}
+use Rattle.wdl_base.specs.declared.place.Segment.{Segment}
 use Rattle.wdl_port.specs.declared.table_row.TableRow.{TableRow}
 use Rattle.wdl_port.specs.Table.{answer_of, first_at}
 use Rattle.wdl_port.proofs.PlaceLemmas.{one_place}

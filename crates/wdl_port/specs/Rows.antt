@@ -5,11 +5,11 @@ use Rattle.std.specs.declared.cmp.Ordering.TheVariants.{Less, Equal, Greater}
 use Rattle.std.specs.Cmp.Lexicographic.{slice_cmp}
 use Rattle.std.specs.Ordering.{is_lt, nat_cmp, ordering_then}
 use Rattle.std.specs.Option.{option_map}
-use Rattle.wdl_value.specs.Places.{place_text}
-use Rattle.wdl_value.specs.declared.answer.Answer.{Answer}
-use Rattle.wdl_value.specs.declared.entry.Entry.{Entry}
-use Rattle.wdl_value.specs.declared.entry.Source.TheVariants.{Kept}
-use Rattle.wdl_value.specs.declared.request.Request.{Request}
+use Rattle.wdl_base.specs.Places.{place_text}
+use Rattle.wdl_base.specs.declared.answer.Answer.{Answer}
+use Rattle.wdl_base.specs.declared.entry.Entry.{Entry}
+use Rattle.wdl_base.specs.declared.entry.Source.TheVariants.{Kept}
+use Rattle.wdl_base.specs.declared.request.Request.{Request}
 
 -- the order of two requests by the text of the place, and then by the attempt
 abbrev pub request_order : Request → Request → Ordering

@@ -1,7 +1,7 @@
 -- Where a row belongs.
 use Rattle.std.specs.Prelude.{◌≡◌, ◌<◌, ◌≤◌, List, length, slice_set}
 use Rattle.std.specs.List.{insert}
-use Rattle.wdl_value.specs.declared.entry.Entry.{Entry}
+use Rattle.wdl_base.specs.declared.entry.Entry.{Entry}
 use Rattle.wdl_port.specs.Rows.{put_row}
 use Rattle.wdl_port.specs.declared.row.Spot.{Spot}
 use Rattle.wdl_port.specs.declared.row.Spot.TheVariants.{At, Before}

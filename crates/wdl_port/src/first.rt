@@ -1,7 +1,7 @@
 ghost use Rattle.std.specs.Prelude.{◌≡◌, ℕ, List, IfOk, drop};
 ghost use Rattle.std.specs.BTreeMap.{get_by_text};
 ghost use Rattle.std.specs.Option.{option_copied};
-ghost use Rattle.wdl_value.specs.Places.{place_text as spec_text};
+ghost use Rattle.wdl_base.specs.Places.{place_text as spec_text};
 ghost use Rattle.wdl_port.specs.Table as spec;
 
 use crate::table_row::TableRow;

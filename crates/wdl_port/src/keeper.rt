@@ -1,8 +1,8 @@
 ghost use Rattle.std.specs.Prelude.{◌≡◌, ℕ, List, Option, Some, None, true, false, IfOk, OnOk, OnErr, IsErrOf, IsSome};
 ghost use Rattle.wdl_port.specs.Causes.{HasCauseOf};
 ghost use Rattle.wdl_port.specs.Rows.{rises, with_entry, ToldRise, AreRows};
-ghost use Rattle.wdl_value.specs.Plain.{has_nul};
-ghost use Rattle.wdl_value.specs.declared.entry.Entry.{Entry as Row};
+ghost use Rattle.wdl_base.specs.Plain.{has_nul};
+ghost use Rattle.wdl_base.specs.declared.entry.Entry.{Entry as Row};
 
 use crate::fault::KeepFault;
 use sqlite_items::Items;

@@ -1,6 +1,6 @@
 ghost use Rattle.std.specs.Prelude.{◌≡◌, IfOk, IsErrOf};
-ghost use Rattle.wdl_value.specs.declared.answer.Answer.{Answer as Given};
-ghost use Rattle.wdl_value.specs.declared.request.Request.{Request as AskedOf};
+ghost use Rattle.wdl_base.specs.declared.answer.Answer.{Answer as Given};
+ghost use Rattle.wdl_base.specs.declared.request.Request.{Request as AskedOf};
 
 use crate::fault::LaunchFault;
 use std::alloc::Global;

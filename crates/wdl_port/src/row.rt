@@ -1,7 +1,7 @@
 ghost use Rattle.std.specs.Prelude.{◌≡◌, IfOk, OnOk, OnErr};
 ghost use Rattle.std.specs.Cmp.Lexicographic.{slice_cmp};
 ghost use Rattle.std.specs.Ordering.{is_lt, nat_cmp, ordering_then};
-ghost use Rattle.wdl_value.specs.Places.{place_text as spec_text};
+ghost use Rattle.wdl_base.specs.Places.{place_text as spec_text};
 ghost use Rattle.wdl_port.specs.Rows.{kept_row, put_row as spec_put, rises as spec_rises, row_order};
 ghost use Rattle.wdl_port.specs.Spots.{IsSpot};
 

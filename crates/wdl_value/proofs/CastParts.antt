@@ -18,7 +18,7 @@ use Rattle.wdl_value.specs.Fits.{Structs, is_int, takes_at, takes_step, takes, t
 use Rattle.wdl_value.specs.Keyed.{has_key, distinct_keys, rows_of, keyed_step, keyed, keyed_out, keyed_all, keyed_rows}
 use Rattle.wdl_value.specs.SameValue.{same_value}
 use Rattle.wdl_value.specs.ValueText.{bool_text}
-use Rattle.wdl_value.proofs.FitsLemmas.{tests, takes_out, takes_plain, bool_layer, int_layer, str_layer, file_layer, list_items, list_layer, pair_layer, map_layer, struct_layer}
+use Rattle.wdl_value.proofs.FitsLemmas.{tests, takes_out, takes_plain, tests_absent, absent_or, bool_layer, int_layer, str_layer, file_layer, list_items, list_layer, pair_layer, map_layer, struct_layer}
 use Rattle.wdl_value.proofs.SameValueLemmas.{same_value-true, same_value-refl}
 use Rattle.wdl_value.proofs.ValueLayers.{Known, plain, firsts, first_rows}
 
@@ -254,30 +254,7 @@ module _ (structs : Structs) where
 
   -- what is not Absent
   at_bare : (l : Value-F Value) (t : Ty) → is_absent l ≡ false → takes_step structs (tests structs l) t ≡ true → takes_at structs (tests structs l) (out-Ty (bare t)) ≡ true
-  at_bare l t n h = sym (takes_plain structs l t (still l n)) ∙ h
-    where
-      still : (l : Value-F Value) → is_absent l ≡ false → is_absent (tests structs l) ≡ false
-      still layer.Absent n = n
-      still (layer.Bool b) n = refl
-      still (layer.Int b) n = refl
-      still (layer.Str b) n = refl
-      still (layer.File b) n = refl
-      still (layer.List b) n = refl
-      still (layer.Pair a b) n = refl
-      still (layer.Map b) n = refl
-      still (layer.Struct a b) n = refl
-
-  -- Absent, or not
-  absent_or : (l : Value-F Value) → (l ≡ layer.Absent) ⊎ (is_absent l ≡ false)
-  absent_or layer.Absent = inl refl
-  absent_or (layer.Bool b) = inr refl
-  absent_or (layer.Int b) = inr refl
-  absent_or (layer.Str b) = inr refl
-  absent_or (layer.File b) = inr refl
-  absent_or (layer.List b) = inr refl
-  absent_or (layer.Pair a b) = inr refl
-  absent_or (layer.Map b) = inr refl
-  absent_or (layer.Struct a b) = inr refl
+  at_bare l t n h = sym (takes_plain structs l t (tests_absent structs l n)) ∙ h
 
   any_differs : (x : Value) (y : Value-F (Known Differs)) → out-Value x ≡ plain Differs y → Differs x
   any_differs x y is z t u a h i e f =

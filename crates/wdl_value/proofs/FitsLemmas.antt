@@ -1,5 +1,5 @@
 -- What it says of a value that a type takes it.
-use Rattle.std.proofs.Common.{◌≡◌, Bool, true, false, ◌&&◌, ◌||◌, List, [], ◌∷◌, ap, refl}
+use Rattle.std.proofs.Common.{◌⊎◌, inl, inr, ◌≡◌, Bool, true, false, ◌&&◌, ◌||◌, List, [], ◌∷◌, ap, refl}
 use Rattle.std.proofs.lemmas.Bool.{false≢true, and_parts}
 use Rattle.wdl_value.specs.declared.value.Value.{Value, Value-F, out-Value, map-Value, fold_out-Value}
 use Rattle.wdl_value.specs.declared.value.Value.TheOpen as layer
@@ -9,6 +9,18 @@ use Rattle.wdl_value.specs.declared.ty.Ty.{Ty, out-Ty}
 use Rattle.wdl_value.specs.declared.ty.Ty.TheOpen as type
 use Rattle.wdl_value.specs.Bare.{bare, is_optional}
 use Rattle.wdl_value.specs.Fits.{Structs, Test, takes_at, takes_step, takes, takes_all, takes_list, takes_rows, is_absent, is_int}
+
+-- Absent, or not
+pub absent_or : (l : Value-F Value) → (l ≡ layer.Absent) ⊎ (is_absent l ≡ false)
+absent_or layer.Absent = inl refl
+absent_or (layer.Bool b) = inr refl
+absent_or (layer.Int b) = inr refl
+absent_or (layer.Str b) = inr refl
+absent_or (layer.File b) = inr refl
+absent_or (layer.List b) = inr refl
+absent_or (layer.Pair a b) = inr refl
+absent_or (layer.Map b) = inr refl
+absent_or (layer.Struct a b) = inr refl
 
 module _ (structs : Structs) where
   -- a layer of the value, with its tests
@@ -62,3 +74,14 @@ module _ (structs : Structs) where
   -- what is not Absent is taken by the type without its question marks
   pub takes_plain : (l : Value-F Value) (t : Ty) → is_absent (tests l) ≡ false → takes_step structs (tests l) t ≡ takes_at structs (tests l) (out-Ty (bare t))
   takes_plain l t n = ap (λ b. b && is_optional (out-Ty t) || takes_at structs (tests l) (out-Ty (bare t))) n
+
+  pub tests_absent : (l : Value-F Value) → is_absent l ≡ false → is_absent (tests l) ≡ false
+  tests_absent layer.Absent n = n
+  tests_absent (layer.Bool b) n = refl
+  tests_absent (layer.Int b) n = refl
+  tests_absent (layer.Str b) n = refl
+  tests_absent (layer.File b) n = refl
+  tests_absent (layer.List b) n = refl
+  tests_absent (layer.Pair a b) n = refl
+  tests_absent (layer.Map b) n = refl
+  tests_absent (layer.Struct a b) n = refl

@@ -1,9 +1,8 @@
-pub mod PlainLemmas
-mod ValueTextLemmas
-pub mod PlaceLemmas
+pub mod ValueTextLemmas
 pub mod ValueLayers
 pub mod SameTypeLemmas
 pub mod SameValueLemmas
 pub mod FitsLemmas
 pub mod CastTakes
 pub mod CastParts
+pub mod FitsForms

@@ -4,9 +4,9 @@ use Rattle.std.specs.Fmt.{signed_decimal}
 use mir.Val.{SFits}
 use mir.Syntax.{w64}
 use Rattle.std.proofs.lemmas.Bool.Decides.{nat_tests}
-use Rattle.wdl_value.specs.Plain.{has_nul}
+use Rattle.wdl_base.specs.Plain.{has_nul}
 use Rattle.wdl_value.specs.Fits.{is_int}
-use Rattle.wdl_value.proofs.PlainLemmas.{decimal_is_plain}
+use Rattle.wdl_base.proofs.PlainLemmas.{decimal_is_plain}
 
 pub is_int-fits : (n : ℤ) → SFits w64 n → is_int n ≡ true
 unfolding is_int

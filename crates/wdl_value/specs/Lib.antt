@@ -1,9 +1,3 @@
-pub mod Plain
-pub mod Names
-pub mod Bodies
-pub mod Answers
-pub mod Places
-pub mod Same
 pub mod SameType
 pub mod Bare
 pub mod Recur
@@ -15,7 +9,6 @@ pub mod Fits
 pub mod Coerces
 pub mod Cast
 pub mod CastOut
-pub mod PlaceReading
 pub mod RecurType
 pub mod Kinds
 pub mod Join
@@ -23,3 +16,13 @@ pub mod OperatorTypes
 pub mod FunctionTypes
 pub mod Tables
 pub mod Laws
+pub mod Outcome
+pub mod Limits
+pub mod Parts
+pub mod Operate
+pub mod Functions
+pub mod Files
+pub mod Reads
+pub mod Paths
+pub mod Apply
+pub mod Written

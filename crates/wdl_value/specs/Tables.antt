@@ -1,9 +1,9 @@
 -- Tables of answers, and journals.
 use Rattle.std.specs.Prelude.{ℕ, Bool, true, false, not, ◌&&◌, ◌||◌, ◌==◌, List, [], ◌∷◌, Option, Some, None, if◌then◌else◌, map}
-use Rattle.wdl_value.specs.declared.answer.Answer.{Answer}
-use Rattle.wdl_value.specs.declared.entry.Entry.{Entry}
-use Rattle.wdl_value.specs.declared.place.Segment.{Segment}
-use Rattle.wdl_value.specs.Same.{same_place}
+use Rattle.wdl_base.specs.declared.answer.Answer.{Answer}
+use Rattle.wdl_base.specs.declared.entry.Entry.{Entry}
+use Rattle.wdl_base.specs.declared.place.Segment.{Segment}
+use Rattle.wdl_base.specs.Same.{same_place}
 
 -- what a command answered at a place and an attempt
 pub record Row : Type 0 where

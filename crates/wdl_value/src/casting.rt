@@ -6,12 +6,12 @@ ghost use Rattle.wdl_value.specs.Cast.{Gives};
 ghost use Rattle.wdl_value.specs.declared.casting.CastFault.TheVariants.{NoMemory as OutOfMemory};
 
 use crate::bare::bare_type;
-use crate::error::NoMemory;
 use crate::ty::Ty;
 use crate::value::{MapRow, Value};
 use crate::value_text::{bool_text, int_text};
 use sqlite_items::{Boxed, Items};
 use std::alloc::{AllocError, Global};
+use wdl_base::NoMemory;
 
 /// Why a value has no cast.
 #[derive(Clone, Copy, Debug, PartialEq, Eq)]

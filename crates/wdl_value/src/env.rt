@@ -1,6 +1,6 @@
-use crate::name::Key;
 use crate::value::Value;
 use sqlite_items::Items;
+use wdl_base::Key;
 
 /// A name with its value.
 #[derive(Debug, Drop)]

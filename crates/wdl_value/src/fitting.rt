@@ -7,10 +7,10 @@ ghost use Rattle.wdl_value.specs.declared.ty.Ty.{out-Ty};
 
 use crate::bare::{bare_type, is_optional};
 use crate::keyed::keyed;
-use crate::name::Name;
 use crate::ty::{Member, StructDef, Structs, Ty};
 use crate::value::{Field, MapRow, Value};
 use sqlite_items::Items;
+use wdl_base::Name;
 
 /// Whether the value fits the type, where struct names are those of `structs` (OpenWDL 1.1, "Types"). It takes no
 /// memory. Its time is linear in the value, but quadratic in the rows of one map, whose keys must be distinct.

@@ -1,7 +1,6 @@
 //! Laws of the definitions, which say nothing of code.
 
 ghost use Rattle.wdl_value.specs.Laws.{CastsFit, SameTypesAreEqual, SameValuesAreEqual};
-ghost use Rattle.wdl_value.specs.PlaceReading.{PlacesAreRead};
 
 /// The test of types says exactly that they are equal.
 pub fn same_types_are_equal()
@@ -17,9 +16,4 @@ pub fn same_values_are_equal()
 /// an item is asked for.
 pub fn casts_fit()
     ensures law { CastsFit }
-{}
-
-/// Places with one text are equal: `place_of` gives the one place of a text.
-pub fn places_are_read()
-    ensures law { PlacesAreRead }
 {}

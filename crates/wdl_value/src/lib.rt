@@ -1,65 +1,42 @@
-//! Types, values, places and jobs of WDL: plain data, which contracts see as texts, numbers and lists.
+//! Types and values of WDL: plain data, which contracts see as texts, numbers and lists. The texts, names, places and jobs
+//! of `wdl_base` are given on.
 #![tactic(auto)]
 
-mod answer;
 mod bare;
-mod body;
 mod casting;
-mod entry;
 mod env;
 mod equality;
-mod error;
-mod fault;
 mod fitting;
 mod keyed;
 mod laws;
+mod limits;
 mod measure;
-mod name;
 mod operator;
-mod place;
-mod place_reading;
-mod request;
-mod reserved;
-mod same;
-mod span;
-mod step;
-mod steps;
-mod template;
 #[cfg(test)]
 mod tests;
-mod text;
 mod ty;
 mod typing;
 mod value;
 mod value_text;
 
-pub use answer::Answer;
 pub use bare::{bare_type, is_optional};
-pub use body::{Body, Laid, Seen};
 pub use casting::{CastFault, cast};
-pub use entry::{Entry, Source};
 pub use env::{Bind, Env};
 pub use equality::same_value;
-pub use error::{AnswerFault, NameFault, NoMemory, TextFault};
-pub use fault::{EvalCode, Fault, Why};
 pub use fitting::fits;
 pub use keyed::{distinct_keys, has_key};
-pub use laws::{casts_fit, places_are_read, same_types_are_equal, same_values_are_equal};
+pub use laws::{casts_fit, same_types_are_equal, same_values_are_equal};
+pub use limits::{ITEM_LIMIT, SIZE_LIMIT, is_within_limits};
 pub use measure::size;
-pub use name::{Key, Name, is_identifier};
 pub use operator::{Func, Op};
-pub use place::{Place, Segment, copy_place, place_text};
-pub use place_reading::{PlaceFault, place_of};
-pub use request::Request;
-pub use reserved::{RESERVED, is_reserved};
-pub use same::{same_place, same_request};
-pub use span::Span;
 pub use sqlite_items::{Boxed, Items};
-pub use step::{Counts, Step};
-pub use steps::Steps;
-pub use template::{Part, Template};
-pub use text::{Text, holds_nul};
 pub use ty::{Member, StructDef, Structs, Ty};
 pub use typing::{FuncTyping, OpTyping};
 pub use value::{Field, MapRow, Value, copy_values};
 pub use value_text::text_of;
+pub use wdl_base::{
+    Answer, AnswerFault, BODY_LIMIT, Body, Counts, Entry, EvalCode, Fault, Key, Laid, Name,
+    NameFault, NoMemory, Part, Place, PlaceFault, RESERVED, Request, Seen, Segment, Source, Span,
+    Step, Steps, Template, Text, TextFault, Why, copy_place, holds_nul, is_identifier, is_reserved,
+    place_of, place_text, places_are_read, same_place, same_request,
+};

@@ -1,10 +1,8 @@
 ghost use Rattle.std.specs.Prelude.{◌≡◌, IfOk};
 
-use crate::error::NoMemory;
-use crate::name::Name;
-use crate::text::Text;
 use sqlite_items::{Boxed, Items};
 use std::alloc::Global;
+use wdl_base::{Name, NoMemory, Text};
 
 /// A row of a map.
 #[derive(Debug, Drop)]

@@ -2,10 +2,9 @@ ghost use Rattle.std.specs.Prelude.{◌≡◌, true, IfOk};
 ghost use Rattle.std.specs.Fmt.{signed_decimal};
 ghost use Rattle.wdl_value.specs.ValueText as spec;
 
-use crate::error::NoMemory;
-use crate::text::Text;
 use crate::value::Value;
 use std::alloc::Global;
+use wdl_base::{NoMemory, Text};
 
 /// `true` or `false`.
 pub fn bool_text(alloc: Global, b: bool) -> Result<Text, NoMemory>

@@ -1,7 +1,7 @@
 -- From a run to its work, and from the work to the status Write.
-use Rattle.std.proofs.Common.{◌≡◌, ◌⊎◌, ◌≤◌, ◌+◌, ◌++◌, inl, inr, ℕ, List, [], ap, sym, subst, ◌∙◌, codes}
-use Rattle.wdl_value.specs.declared.request.Request.{Request}
-use Rattle.wdl_value.specs.declared.answer.Answer.{Answer}
+use Rattle.std.proofs.Common.{◌≡◌, ◌≤◌, ◌+◌, ◌++◌, inl, inr, ℕ, List, ap, sym, subst, ◌∙◌, codes}
+use Rattle.wdl_base.specs.declared.request.Request.{Request}
+use Rattle.wdl_base.specs.declared.answer.Answer.{Answer}
 use Rattle.report_text.specs.declared.status.Status.{Status}
 use Rattle.report_text.specs.declared.status.Status.TheVariants as status
 use Rattle.thin_path.specs.declared.document.Document.{Document}

@@ -1,12 +1,12 @@
 -- What each status says of the words, of the file that they name, and of the run.
-use Rattle.std.specs.Prelude.{◌≡◌, ◌⊎◌, ◌≤◌, ◌+◌, ℕ, List, [], ◌∷◌, ◌++◌, Option, Some, None, Result, Ok, Err, ⊤, codes, string_bytes, String, Contains}
+use Rattle.std.specs.Prelude.{◌≡◌, ◌⊎◌, ◌≤◌, ◌+◌, ℕ, List, [], ◌∷◌, ◌++◌, Option, Some, None, Result, Ok, Err, ⊤, codes, String, Contains}
 use Rattle.std.specs.declared.alloc.Global.{Global}
-use Rattle.wdl_value.specs.declared.request.Request.{Request}
-use Rattle.wdl_value.specs.declared.answer.Answer.{Answer}
-use Rattle.wdl_value.specs.declared.entry.Entry.{Entry}
-use Rattle.wdl_value.specs.declared.fault.Fault.{Fault}
-use Rattle.wdl_value.specs.declared.step.Step.{Step}
-use Rattle.wdl_value.specs.declared.step.Step.TheVariants as step
+use Rattle.wdl_base.specs.declared.request.Request.{Request}
+use Rattle.wdl_base.specs.declared.answer.Answer.{Answer}
+use Rattle.wdl_base.specs.declared.entry.Entry.{Entry}
+use Rattle.wdl_base.specs.declared.fault.Fault.{Fault}
+use Rattle.wdl_base.specs.declared.step.Step.{Step}
+use Rattle.wdl_base.specs.declared.step.Step.TheVariants as step
 use Rattle.report_text.specs.declared.status.Status.{Status}
 use Rattle.report_text.specs.declared.status.Status.TheVariants as status
 use Rattle.wdl_port.specs.Files.{IsFile}
@@ -15,7 +15,7 @@ use Rattle.thin_path.specs.declared.run.End.{End}
 use Rattle.thin_path.specs.declared.run.End.TheVariants as end
 use Rattle.thin_path.specs.Sound.{read_document}
 use Rattle.thin_path.specs.Words.{wants}
-use Rattle.thin_path.specs.Flow.{Place, Flow, flow, IsClean, cost}
+use Rattle.thin_path.specs.Flow.{Place, flow, IsClean, cost}
 use Rattle.thin_path.specs.Runs.{Fed, IsRefused, steps_of}
 use Rattle.thin_path.specs.Outputs.{outputs_text}
 use Rattle.workflow_cli.specs.declared.ended.Ended.{Ended}

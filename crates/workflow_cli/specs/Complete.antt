@@ -1,6 +1,6 @@
 -- The other way round: which status comes. Each sentence yields to want of memory.
 use Rattle.std.specs.Prelude.{◌≡◌, ◌⊎◌, ℕ, List, [], Some, None, take, Contains}
-use Rattle.wdl_value.specs.declared.request.Request.{Request}
+use Rattle.wdl_base.specs.declared.request.Request.{Request}
 use Rattle.report_text.specs.declared.status.Status.{Status}
 use Rattle.report_text.specs.declared.status.Status.TheVariants as status
 use Rattle.wdl_port.specs.Files.{read_limit}

@@ -1,8 +1,8 @@
 -- How many jobs were taken.
 use Rattle.std.specs.Prelude.{◌≡◌, ℕ, Bool, true, false, List, count_by}
-use Rattle.wdl_value.specs.declared.step.Step.{Step}
-use Rattle.wdl_value.specs.declared.step.Step.TheVariants as step
-use Rattle.wdl_value.specs.declared.step.Counts.{Counts}
+use Rattle.wdl_base.specs.declared.step.Step.{Step}
+use Rattle.wdl_base.specs.declared.step.Step.TheVariants as step
+use Rattle.wdl_base.specs.declared.step.Counts.{Counts}
 
 abbrev pub is_took : Step → Bool
 is_took (step.Took place) = true

@@ -1,7 +1,7 @@
 -- What is written to the output and to the error stream.
 use Rattle.std.specs.Prelude.{◌≡◌, ◌⊎◌, ℕ, List, [], Option, ⊤, take}
-use Rattle.wdl_value.specs.declared.request.Request.{Request}
-use Rattle.wdl_value.specs.declared.answer.Answer.{Answer}
+use Rattle.wdl_base.specs.declared.request.Request.{Request}
+use Rattle.wdl_base.specs.declared.answer.Answer.{Answer}
 use Rattle.report_text.specs.declared.status.Status.{Status}
 use Rattle.report_text.specs.declared.status.Status.TheVariants as status
 use Rattle.report_text.specs.Lines.{line_of, HasPath}

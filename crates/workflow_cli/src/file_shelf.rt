@@ -1,4 +1,4 @@
-ghost use Rattle.std.specs.Prelude.{None, ⊤};
+ghost use Rattle.std.specs.Prelude.{◌≡◌, None, ⊤};
 
 use sqlite_items::Items;
 use std::alloc::Global;
@@ -6,16 +6,20 @@ use std::fs::{File, Files};
 use std::io::Read;
 use wdl_port::{ReadFault, Shelf, read_limit};
 
-/// The files of the system. It tells nothing of their content, may refuse each of them, and counts each fault.
+/// The files of the system. It tells nothing of their content, may refuse each of them, and counts each error other than
+/// want of memory. A file is read up to 1,048,577 bytes.
 #[derive(Drop)]
 pub struct FileShelf<R> {
     rt: R,
-    faults: u64,
+    /// How often it has failed.
+    pub faults: u64,
 }
 
 impl<R> FileShelf<R> {
     /// A shelf without faults. It takes no memory.
-    pub fn new(rt: R) -> FileShelf<R> {
+    pub fn new(rt: R) -> FileShelf<R>
+        ensures { result.faults ≡ 0 }
+    {
         FileShelf { rt, faults: 0 }
     }
 }

@@ -1,18 +1,21 @@
-ghost use Rattle.std.specs.Prelude.{None};
+ghost use Rattle.std.specs.Prelude.{◌≡◌, None};
 
 use std::io::Write;
 use wdl_port::{Sink, WriteFault};
 
-/// A stream. It tells nothing of what it holds, and counts each fault.
+/// A stream. It tells nothing of what it holds, and counts each error: of the stream, and that it took nothing.
 #[derive(Drop)]
 pub struct StreamSink<W> {
     writer: W,
-    faults: u64,
+    /// How often it has failed.
+    pub faults: u64,
 }
 
 impl<W> StreamSink<W> {
     /// A sink without faults. It takes no memory.
-    pub fn new(writer: W) -> StreamSink<W> {
+    pub fn new(writer: W) -> StreamSink<W>
+        ensures { result.faults ≡ 0 }
+    {
         StreamSink { writer, faults: 0 }
     }
 }

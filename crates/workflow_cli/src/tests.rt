@@ -264,11 +264,13 @@ fn real_files_and_streams(rt: HostRuntime) -> Result<(), Fail> {
     let mut shelf = FileShelf::new(&rt);
     assert_eq!(rt; shelf.read(alloc, "long")?.len(), 1_048_577);
     assert_eq!(rt; shelf.read(alloc, "missing").err(), Some(ReadFault::Failed));
+    assert_eq!(rt; shelf.faults, 1);
     let mut sink = StreamSink::new(fs::File::create(&rt, "written")?);
     assert_eq!(rt; sink.write(b"")?, 0);
     assert_eq!(rt; sink.write(b"text")?, 4);
     assert_eq!(rt; fs::read_to_string(&rt, "written")?.as_str(), "text");
     let mut closed = StreamSink::new(fs::File::open(&rt, "written")?);
     assert!(rt; closed.write(b"text").is_err());
+    assert_eq!(rt; closed.faults, 1);
     Ok(())
 }

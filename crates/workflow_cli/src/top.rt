@@ -1,6 +1,6 @@
 ghost use Rattle.std.specs.Prelude.{◌≡◌, ◌⊎◌, None, List, ℕ};
 ghost use Rattle.wdl_port.specs.Causes.{Rose};
-ghost use Rattle.wdl_value.specs.declared.fault.Fault.{Fault as FaultOf};
+ghost use Rattle.wdl_base.specs.declared.fault.Fault.{Fault as FaultOf};
 ghost use Rattle.report_text.specs.declared.status.Status.TheVariants as status;
 ghost use Rattle.thin_path.specs.Flow.{Place as PlaceOf};
 ghost use Rattle.thin_path.specs.Words.{wants};

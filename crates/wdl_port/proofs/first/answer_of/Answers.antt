@@ -1,5 +1,5 @@
 use Rattle.std.proofs.Common.{◌≡◌, sym, arith, None, Some}
-use Rattle.wdl_value.specs.Places.{place_text}
+use Rattle.wdl_base.specs.Places.{place_text}
 use Rattle.wdl_port.specs.Table.{first_at}
 use Rattle.wdl_port.proofs.TableLemmas.{no_row, from_row}
 use Rattle.wdl_port.proofs.first.answer_of.Goals as goal

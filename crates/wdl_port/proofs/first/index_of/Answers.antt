@@ -1,7 +1,7 @@
 use Rattle.std.proofs.Common.{◌≡◌, ◌-◌, Some, cond, string_bytes, arith, rules, sym, ap, ◌∙◌}
 use Rattle.std.specs.BTreeMap.{get_by_text}
 use Rattle.std.specs.Str.{bytes_eq}
-use Rattle.wdl_value.specs.Places.{place_text}
+use Rattle.wdl_base.specs.Places.{place_text}
 use Rattle.std.proofs.lemmas.Map.Text.{btree_map_updates_text}
 use Rattle.wdl_port.proofs.TableLemmas.{earlier}
 use Rattle.wdl_port.proofs.first.index_of.Goals as goal

@@ -1,0 +1,6 @@
+pub mod NulLemmas
+pub mod TextLemmas
+pub mod RowLemmas
+pub mod ListLemmas
+pub mod AnswerLemmas
+pub mod MigrationLemmas

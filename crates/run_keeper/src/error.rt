@@ -1,0 +1,46 @@
+ghost use Rattle.std.specs.Prelude.{◌≡◌};
+ghost use Rattle.run_keeper.specs.declared.error.RowFault.TheVariants.{NotARow as NoRow, NoMemory as OutOfMemory};
+ghost use Rattle.run_keeper.specs.declared.error.MigrateFault.TheVariants.{NoMemory as NoRoom};
+
+use std::alloc::AllocError;
+use wdl_value::NoMemory;
+
+/// Why a string gives no entry.
+#[derive(Clone, Copy, Debug, PartialEq, Eq)]
+pub enum RowFault {
+    /// It is no row's text.
+    NotARow,
+    NoMemory,
+}
+
+/// Why a list of strings is not brought to the last version.
+#[derive(Clone, Copy, Debug, PartialEq, Eq)]
+pub enum MigrateFault {
+    /// The string of that number, counted from 0, is the first that is no row's text.
+    NotARow { index: u32 },
+    NoMemory,
+}
+
+impl From<NoMemory> for RowFault {
+    ghost from_gives = { λ _ e. e ≡ OutOfMemory };
+
+    fn from(_e: NoMemory) -> RowFault {
+        RowFault::NoMemory
+    }
+}
+
+impl From<AllocError> for RowFault {
+    ghost from_gives = { λ _ e. e ≡ OutOfMemory };
+
+    fn from(_e: AllocError) -> RowFault {
+        RowFault::NoMemory
+    }
+}
+
+impl From<AllocError> for MigrateFault {
+    ghost from_gives = { λ _ e. e ≡ NoRoom };
+
+    fn from(_e: AllocError) -> MigrateFault {
+        MigrateFault::NoMemory
+    }
+}

@@ -1,0 +1,17 @@
+//! The rows of a journal: an entry as a line of JSON, and back.
+#![tactic(auto)]
+
+mod error;
+mod list;
+mod member;
+mod migration;
+mod part;
+mod read;
+#[cfg(test)]
+mod tests;
+mod write;
+
+pub use error::{MigrateFault, RowFault};
+pub use migration::migrate;
+pub use read::entry_of;
+pub use write::row_text;

@@ -1,0 +1,55 @@
+ghost use Rattle.std.specs.Prelude.{◌≡◌, List, map};
+ghost use Rattle.std.specs.List.{AllByRecursion};
+ghost use Rattle.serde_json.specs.View.{view, items_of, items_view};
+ghost use Rattle.wdl_base.specs.declared.body.Laid.{Laid as LaidOf};
+ghost use Rattle.wdl_base.specs.declared.body.Seen.{Seen as SeenOf};
+ghost use Rattle.run_keeper.specs.Entries.{IsSeen, IsLaid};
+ghost use Rattle.run_keeper.specs.Reads.{Gives, Recovers};
+ghost use Rattle.run_keeper.specs.RowText.{list_data, seen_data, laid_data};
+
+use crate::error::RowFault;
+use crate::part::{laid_of, seen_of};
+use serde_json::Value;
+use sqlite_items::Items;
+use std::alloc::Global;
+use wdl_value::{Laid, Seen};
+
+fn seen_items(alloc: Global, values: &[Value]) -> Result<Items<Seen>, RowFault>
+    ensures { (xs : List SeenOf) → AllByRecursion IsSeen xs → items_view values.now ≡ items_of (map seen_data xs) → Gives result xs }
+{
+    let mut all = Items::new(alloc);
+    for value in values {
+        all.push(seen_of(alloc, value)?)?;
+    }
+    Ok(all)
+}
+
+fn laid_items(alloc: Global, values: &[Value]) -> Result<Items<Laid>, RowFault>
+    ensures { (xs : List LaidOf) → AllByRecursion IsLaid xs → items_view values.now ≡ items_of (map laid_data xs) → Gives result xs }
+{
+    let mut all = Items::new(alloc);
+    for value in values {
+        all.push(laid_of(alloc, value)?)?;
+    }
+    Ok(all)
+}
+
+/// The files of an answer.
+pub(crate) fn seen_list(alloc: Global, value: &Value) -> Result<Items<Seen>, RowFault>
+    ensures { Recovers (list_data seen_data) (AllByRecursion IsSeen) (view value.now) result }
+{
+    match value.as_array() {
+        Some(values) => seen_items(alloc, values.as_slice()),
+        None => Err(RowFault::NotARow),
+    }
+}
+
+/// The files that were laid down.
+pub(crate) fn laid_list(alloc: Global, value: &Value) -> Result<Items<Laid>, RowFault>
+    ensures { Recovers (list_data laid_data) (AllByRecursion IsLaid) (view value.now) result }
+{
+    match value.as_array() {
+        Some(values) => laid_items(alloc, values.as_slice()),
+        None => Err(RowFault::NotARow),
+    }
+}

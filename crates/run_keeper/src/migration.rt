@@ -1,0 +1,40 @@
+ghost use Rattle.std.specs.Prelude.{◌≡◌, ◌<◌, ◌^◌, ℕ, length, IfOk, IsErrOf, Err};
+ghost use Rattle.run_keeper.specs.Reads.{AreRenewed, IsFirstBad, IsNoRow, IsRenewed};
+ghost use Rattle.run_keeper.specs.declared.error.RowFault.TheVariants.{NotARow};
+ghost use Rattle.run_keeper.specs.declared.error.MigrateFault.TheVariants.{NotARow as BadRow};
+
+use crate::error::{MigrateFault, RowFault};
+use crate::read::entry_of;
+use crate::write::row_text;
+use sqlite_items::Items;
+use std::alloc::Global;
+use wdl_value::Text;
+
+/// The row's text in version 2 of the entry of a row's text.
+fn renewed(alloc: Global, row: &Text) -> Result<Text, RowFault>
+    ensures row { IfOk result (IsRenewed row.now) }
+    ensures refused { IsErrOf result NotARow → IsNoRow row.now }
+{
+    let entry = entry_of(alloc, row.as_str())?;
+    Ok(row_text(alloc, &entry)?)
+}
+
+/// Each row's text, replaced by the version 2 text of its entry, in order. It is `NotARow` exactly where a text is no
+/// row's, with the number of the first such.
+pub fn migrate(alloc: Global, rows: &[Text]) -> Result<Items<Text>, MigrateFault>
+    requires { length rows.now < 2 ^ 32 }
+    ensures value { IfOk result (AreRenewed rows.now) }
+    ensures refused { (index : ℕ) → result ≡ Err (BadRow index) → IsFirstBad index rows.now }
+{
+    let mut all = Items::new(alloc);
+    let mut index: u32 = 0;
+    for row in rows {
+        match renewed(alloc, row) {
+            Ok(text) => all.push(text)?,
+            Err(RowFault::NotARow) => return Err(MigrateFault::NotARow { index }),
+            Err(RowFault::NoMemory) => return Err(MigrateFault::NoMemory),
+        }
+        index += 1;
+    }
+    Ok(all)
+}

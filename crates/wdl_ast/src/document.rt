@@ -1,0 +1,58 @@
+use crate::leaf::{Ident, PlainString};
+use crate::task::TaskSection;
+use crate::type_tree::TypeTree;
+use crate::workflow::{Renaming, Workflow};
+use sqlite_items::Items;
+use wdl_value::Span;
+
+/// A document of version 1.1, with its sections in the order of the text (OpenWDL 1.1, "WDL documents").
+#[derive(Debug, Drop)]
+pub struct Document {
+    pub version: Span,
+    pub number: Span,
+    pub sections: Items<Section>,
+}
+
+/// A section of a document.
+#[derive(Debug, Drop)]
+pub enum Section {
+    Import(Import),
+    Struct(StructSection),
+    Task(TaskSection),
+    Workflow(Workflow),
+}
+
+/// `import "uri" as name alias A as B`.
+#[derive(Debug, Drop)]
+pub struct Import {
+    pub keyword: Span,
+    pub uri: PlainString,
+    pub namespace: Option<Renaming>,
+    pub aliases: Items<Alias>,
+}
+
+/// `alias from as to`.
+#[derive(Debug, Drop)]
+pub struct Alias {
+    pub keyword: Span,
+    pub from: Ident,
+    pub as_word: Span,
+    pub to: Ident,
+}
+
+/// `struct Name { Type member .. }`.
+#[derive(Debug, Drop)]
+pub struct StructSection {
+    pub keyword: Span,
+    pub name: Ident,
+    pub opening: Span,
+    pub members: Items<StructMember>,
+    pub closing: Span,
+}
+
+/// `Type name` in a struct.
+#[derive(Debug, Drop)]
+pub struct StructMember {
+    pub ty: TypeTree,
+    pub name: Ident,
+}

@@ -1,0 +1,122 @@
+use crate::expr::Expr;
+use crate::leaf::{Ident, ListItem};
+use crate::meta::MetaSection;
+use crate::section::{Assigned, Declaration, InputSection, OutputSection};
+use sqlite_items::Items;
+use wdl_value::Span;
+
+/// A workflow, with its sections and statements in the order of the text (OpenWDL 1.1, "Workflow definition").
+#[derive(Debug, Drop)]
+pub struct Workflow {
+    pub keyword: Span,
+    pub name: Ident,
+    pub opening: Span,
+    pub elements: Items<WorkflowElement>,
+    pub closing: Span,
+}
+
+/// A section of a workflow, or a statement.
+#[derive(Debug, Drop)]
+pub enum WorkflowElement {
+    Input(InputSection),
+    Output(OutputSection),
+    Meta(MetaSection),
+    ParameterMeta(MetaSection),
+    Statement(Statement),
+}
+
+/// A statement of a workflow's body.
+#[derive(Debug, Drop)]
+pub enum Statement {
+    Declaration(Declaration),
+    Call(Call),
+    Scatter(Scatter<Statement>),
+    Conditional(Conditional<Statement>),
+}
+
+/// `scatter (item in over) { .. }`.
+#[derive(Debug, Drop)]
+pub struct Scatter<S> {
+    pub keyword: Span,
+    pub opening_paren: Span,
+    pub item: Ident,
+    pub in_word: Span,
+    pub over: Expr,
+    pub closing_paren: Span,
+    pub opening: Span,
+    pub body: Items<S>,
+    pub closing: Span,
+}
+
+/// `if (condition) { .. }`.
+#[derive(Debug, Drop)]
+pub struct Conditional<S> {
+    pub keyword: Span,
+    pub opening_paren: Span,
+    pub condition: Expr,
+    pub closing_paren: Span,
+    pub opening: Span,
+    pub body: Items<S>,
+    pub closing: Span,
+}
+
+/// `call target as alias after name { input: .. }`.
+#[derive(Debug, Drop)]
+pub struct Call {
+    pub keyword: Span,
+    pub target: CallTarget,
+    pub alias: Option<Renaming>,
+    pub after: Items<After>,
+    pub body: Option<CallBody>,
+}
+
+/// `name`, or `namespace.name`.
+#[derive(Debug, Drop)]
+pub struct CallTarget {
+    pub first: Ident,
+    pub second: Option<TargetMember>,
+}
+
+/// `.name` behind a namespace.
+#[derive(Debug, Drop)]
+pub struct TargetMember {
+    pub dot: Span,
+    pub name: Ident,
+}
+
+/// `as name`.
+#[derive(Debug, Drop)]
+pub struct Renaming {
+    pub as_word: Span,
+    pub name: Ident,
+}
+
+/// `after name`.
+#[derive(Debug, Drop)]
+pub struct After {
+    pub keyword: Span,
+    pub name: Ident,
+}
+
+/// `{ .. }` of a call.
+#[derive(Debug, Drop)]
+pub struct CallBody {
+    pub opening: Span,
+    pub inputs: Option<CallInputs>,
+    pub closing: Span,
+}
+
+/// `input: ..` of a call.
+#[derive(Debug, Drop)]
+pub struct CallInputs {
+    pub keyword: Span,
+    pub colon: Span,
+    pub arguments: Items<ListItem<Argument>>,
+}
+
+/// `name = expr`, or `name` alone.
+#[derive(Debug, Drop)]
+pub struct Argument {
+    pub name: Ident,
+    pub value: Option<Assigned>,
+}

@@ -1,0 +1,20 @@
+//! Cuts the text of a WDL 1.1 document into tokens.
+#![tactic(auto)]
+
+mod chars;
+mod classes;
+mod code;
+mod escapes;
+mod fault;
+mod gaps;
+mod marks;
+mod numbers;
+mod open;
+#[cfg(test)]
+mod tests;
+mod text;
+mod tokens;
+
+pub use code::MAX_WORD;
+pub use fault::LexFault;
+pub use tokens::{MAX_DOCUMENT, lex, one_reading_of_texts};

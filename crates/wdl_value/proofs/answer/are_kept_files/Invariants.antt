@@ -1,6 +1,0 @@
-use Rattle.std.proofs.Common.{◌≡◌, drop}
-use Rattle.wdl_value.specs.Answers.{are_files}
-use Rattle.wdl_value.proofs.answer.are_kept_files.Given as goal
-
-abbrev pub invariant-loop-file : goal.invariant-loop-file
-invariant-loop-file l = are_files (drop l.file-index l.files) ≡ are_files l.files

@@ -1,5 +1,0 @@
-use Rattle.wdl_value.proofs.PlaceLemmas.{same_place}
-use Rattle.wdl_value.proofs.laws.places_are_read.Goals as goal
-
-pub returns : goal.returns
-returns c = record { law = same_place }

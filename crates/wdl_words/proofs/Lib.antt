@@ -1,0 +1,4 @@
+pub mod Numbers
+pub mod ReadLaws
+pub mod Found
+pub mod Limits

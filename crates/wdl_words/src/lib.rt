@@ -1,0 +1,15 @@
+//! The words of the command line, and what they ask for.
+#![tactic(auto)]
+
+mod commands;
+mod error;
+mod reading;
+mod values;
+mod wants;
+
+pub use error::WordFault;
+pub use reading::read_words;
+pub use wants::Wants;
+
+#[cfg(test)]
+mod tests;

@@ -1,0 +1,108 @@
+ghost use Rattle.std.specs.Prelude.{◌≡◌, map, string_bytes, Some, None, IfOk, IsErrOf};
+ghost use Rattle.clap.specs.Words.{found_of, rows_of};
+ghost use Rattle.wdl_words.specs.Words as spec;
+ghost use Rattle.wdl_words.specs.Faults.{Reads};
+ghost use Rattle.wdl_words.specs.declared.error.WordFault.TheVariants.{Usage};
+
+use crate::commands::{operand_in, run_matches, value_of};
+use crate::error::WordFault;
+use crate::values::{file_of, number_within, optional_file, root_of, workers_of};
+use crate::wants::Wants;
+use clap::ArgMatches;
+use std::alloc::Global;
+use wdl_value::{Text, holds_nul};
+
+fn run_of<'a>(alloc: Global, matches: &ArgMatches<'a>) -> Result<Wants, WordFault>
+    ensures { Reads (spec.run_of (rows_of (found_of matches.now))) result }
+{
+    let file = value_of(matches, "file").ok_or(WordFault::Usage)?;
+    Ok(Wants::Run {
+        file: file_of(alloc, file)?,
+        inputs: optional_file(alloc, value_of(matches, "inputs"))?,
+        workers: workers_of(value_of(matches, "workers"))?,
+        root: root_of(alloc, value_of(matches, "root"))?,
+        journal: optional_file(alloc, value_of(matches, "journal"))?,
+    })
+}
+
+#[tactic(auto, unfolding(crate::specs::Words::run_in))]
+fn run_in(alloc: Global, words: &[String]) -> Result<Wants, WordFault>
+    ensures { Reads (spec.run_in (map string_bytes words.now)) result }
+{
+    let matches = run_matches(alloc, words)?;
+    run_of(alloc, &matches)
+}
+
+fn file_in(alloc: Global, command: &str, words: &[String]) -> Result<Text, WordFault>
+    ensures { Reads (spec.file_in command.now (map string_bytes words.now)) result }
+{
+    file_of(alloc, operand_in(alloc, command, "file", words)?)
+}
+
+fn load_in(alloc: Global, words: &[String]) -> Result<u32, WordFault>
+    ensures { Reads (spec.load_in (map string_bytes words.now)) result }
+{
+    number_within(1, 10_000, operand_in(alloc, "load", "number", words)?).ok_or(WordFault::Usage)
+}
+
+fn wants_by(alloc: Global, command: &str, words: &[String]) -> Result<Wants, WordFault>
+    ensures { Reads (spec.wants_by command.now (map string_bytes words.now)) result }
+{
+    match command {
+        "run" => run_in(alloc, words),
+        "check" => Ok(Wants::Check {
+            file: file_in(alloc, command, words)?,
+        }),
+        "cwl" => Ok(Wants::Cwl {
+            file: file_in(alloc, command, words)?,
+        }),
+        "load" => Ok(Wants::Load {
+            number: load_in(alloc, words)?,
+        }),
+        "bundle" => Ok(Wants::Bundle {
+            file: file_in(alloc, command, words)?,
+        }),
+        _ => Err(WordFault::Usage),
+    }
+}
+
+fn some_nul(words: &[String]) -> bool
+    ensures { result ≡ spec.some_nul (map string_bytes words.now) }
+{
+    for word in words {
+        if holds_nul(word.as_bytes()) {
+            return true;
+        }
+    }
+    false
+}
+
+#[tactic(auto, unfolding(crate::specs::Words::named_by_first))]
+fn named_by_first(alloc: Global, words: &[String]) -> Result<Wants, WordFault>
+    ensures { Reads (spec.named_by_first (map string_bytes words.now)) result }
+{
+    match words {
+        [command, ..] => wants_by(alloc, command.as_str(), words),
+        [] => Err(WordFault::Usage),
+    }
+}
+
+/// What the words of the command line, after the program's own name, ask for: `Usage` exactly where they have no
+/// reading.
+///
+/// The words are `run [--inputs FILE] [--workers N] [--root DIR] [--journal FILE] FILE`, `check FILE`, `cwl FILE`,
+/// `load N` or `bundle FILE`. Each option takes one value, as a word of its own or after `=`, and stands at most
+/// once. N is one or more decimal digits, for 1 to 64 workers (4 where it is left out) or 1 to 10,000 calls. DIR
+/// begins with `/`, has at most 512 bytes and is `/tmp/wdl-run` where it is left out. No word holds NUL, no FILE is
+/// empty, and a word that asks for help has no reading.
+#[tactic(auto, using(crate::proofs::ReadLaws::read_value, crate::proofs::ReadLaws::within, crate::proofs::ReadLaws::read_usage))]
+pub fn read_words(alloc: Global, words: &[String]) -> Result<Wants, WordFault>
+    ensures value { IfOk result (λ asked. spec.wants (map string_bytes words.now) ≡ Some asked) }
+    ensures limits { IfOk result spec.IsWithinLimits }
+    ensures usage { IsErrOf result Usage → spec.wants (map string_bytes words.now) ≡ None }
+{
+    if some_nul(words) {
+        return Err(WordFault::Usage);
+    }
+    named_by_first(alloc, words)
+}

@@ -1,0 +1,35 @@
+use wdl_value::Text;
+
+/// What the words of the command line ask for.
+#[derive(Debug, Drop)]
+pub enum Wants {
+    /// Run the workflow of a document.
+    Run {
+        /// The document's path, not empty.
+        file: Text,
+        /// The path of the inputs, not empty.
+        inputs: Option<Text>,
+        /// How many jobs may run at once, 1 to 64.
+        workers: u32,
+        /// The directory below which jobs get their own directories: it begins with `/` and has at most 512 bytes.
+        root: Text,
+        /// The path of the journal, not empty.
+        journal: Option<Text>,
+    },
+    /// Check a document.
+    Check {
+        file: Text,
+    },
+    /// Translate a document to CWL.
+    Cwl {
+        file: Text,
+    },
+    /// Make and run a workflow of that many calls, 1 to 10,000.
+    Load {
+        number: u32,
+    },
+    /// Write a document and its imports as one.
+    Bundle {
+        file: Text,
+    },
+}
