@@ -8,8 +8,9 @@ if [ ! -x "$program" ] || newer; then
   PATH="/opt/rattle/bin:$PATH"
   export PATH
   command -v rt >/dev/null 2>&1 || { echo "wdl: the Rattle toolchain is not installed: rt is not on the path" >&2; exit 1; }
-  (cd "$top/crates/wdl" && rt run >"$top/crates/wdl/build.log" 2>&1 </dev/null)
-  [ -x "$program" ] || { echo "wdl: it was not built; see crates/wdl/build.log" >&2; exit 1; }
+  mkdir -p "$top/crates/wdl/out"
+  (cd "$top/crates/wdl" && rt run >"$top/crates/wdl/out/build.log" 2>&1 </dev/null)
+  [ -x "$program" ] || { echo "wdl: it was not built; see crates/wdl/out/build.log" >&2; exit 1; }
   touch "$program"
 fi
 exec "$program" "$@"
