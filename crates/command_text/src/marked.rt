@@ -33,6 +33,7 @@ impl Marked {
         Ok(())
     }
 
+    /// The text that the parts join to: literals as written, each placeholder's text marked as such.
     pub fn new(alloc: Global, parts: &[Part]) -> Result<Marked, NoMemory>
         ensures text { IfOk result (λ m. string_bytes m.text ≡ spec.marked parts.now) }
         ensures holes { IfOk result (λ m. m.holes.items ≡ spec.holes parts.now) }

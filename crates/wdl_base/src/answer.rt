@@ -147,6 +147,7 @@ impl Answer {
         Err(AnswerFault::NotAnAnswer)
     }
 
+    /// A copy of the answer, with its files.
     pub fn copy(&self, alloc: Global) -> Result<Answer, NoMemory>
         ensures { IfOk result (λ a. a ≡ self.now) }
     {

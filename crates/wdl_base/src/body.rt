@@ -52,6 +52,7 @@ impl Body {
         }
     }
 
+    /// A copy of the value.
     pub fn copy(&self, alloc: Global) -> Result<Body, NoMemory>
         ensures { IfOk result (λ b. b ≡ self.now) }
     {
@@ -63,6 +64,7 @@ impl Body {
 }
 
 impl Seen {
+    /// A copy of the value.
     pub fn copy(&self, alloc: Global) -> Result<Seen, NoMemory>
         ensures { IfOk result (λ s. s ≡ self.now) }
     {
@@ -74,6 +76,7 @@ impl Seen {
 }
 
 impl Laid {
+    /// A copy of the value.
     pub fn copy(&self, alloc: Global) -> Result<Laid, NoMemory>
         ensures { IfOk result (λ l. l ≡ self.now) }
     {

@@ -21,6 +21,7 @@ pub struct Entry {
 }
 
 impl Entry {
+    /// A copy of the entry.
     pub fn copy(&self, alloc: Global) -> Result<Entry, NoMemory>
         ensures { IfOk result (λ e. e ≡ self.now) }
     {

@@ -42,6 +42,7 @@ pub struct Fault {
 }
 
 impl Fault {
+    /// A copy of the fault.
     pub fn copy(&self, alloc: Global) -> Result<Fault, NoMemory>
         ensures { IfOk result (λ f. f ≡ self.now) }
     {

@@ -65,6 +65,7 @@ impl Name {
         Err(NameFault::NotAName)
     }
 
+    /// The name as a string.
     pub fn as_str(&self) -> &str
         ensures value { result.now ≡ self.now }
         ensures named { is_name result.now ≡ true }
@@ -73,6 +74,7 @@ impl Name {
         self.text.as_str()
     }
 
+    /// A copy of the value.
     pub fn copy(&self, alloc: Global) -> Result<Name, NoMemory>
         ensures { IfOk result (λ n. n ≡ self.now) }
     {
@@ -81,6 +83,7 @@ impl Name {
         })
     }
 
+    /// Whether both are the same name.
     pub fn same(&self, other: &Name) -> bool
         ensures { result ≡ bytes_eq self.now other.now }
     {
@@ -110,6 +113,7 @@ pub struct Key {
 }
 
 impl Key {
+    /// A copy of the value.
     pub fn copy(&self, alloc: Global) -> Result<Key, NoMemory>
         ensures { IfOk result (λ k. k ≡ self.now) }
     {

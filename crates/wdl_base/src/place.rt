@@ -22,6 +22,7 @@ pub enum Segment {
 pub type Place = Items<Segment>;
 
 impl Segment {
+    /// A copy of the segment.
     pub fn copy(&self, alloc: Global) -> Result<Segment, NoMemory>
         ensures { IfOk result (λ s. s ≡ self.now) }
     {
@@ -34,6 +35,7 @@ impl Segment {
     }
 }
 
+/// A copy of the place.
 pub fn copy_place(alloc: Global, place: &Place) -> Result<Place, NoMemory>
     ensures { IfOk result (λ p. p ≡ place.now) }
 {

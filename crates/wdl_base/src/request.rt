@@ -29,6 +29,7 @@ fn copy_laid(alloc: Global, files: &[Laid]) -> Result<Items<Laid>, NoMemory>
 }
 
 impl Request {
+    /// A copy of the request.
     pub fn copy(&self, alloc: Global) -> Result<Request, NoMemory>
         ensures { IfOk result (λ r. r ≡ self.now) }
     {

@@ -71,6 +71,7 @@ impl Text {
         Text { text }
     }
 
+    /// The text without bytes.
     pub fn empty(alloc: Global) -> Text
         ensures { result ≡ [] }
     {
@@ -79,6 +80,7 @@ impl Text {
         }
     }
 
+    /// The text as a string, which holds no NUL.
     pub fn as_str(&self) -> &str
         ensures value { result.now ≡ self.now }
         ensures plain { has_nul result.now ≡ false }
@@ -86,6 +88,7 @@ impl Text {
         self.text.as_str()
     }
 
+    /// A copy of the text.
     pub fn copy(&self, alloc: Global) -> Result<Text, NoMemory>
         ensures { IfOk result (λ t. t ≡ self.now) }
     {
@@ -94,6 +97,7 @@ impl Text {
         })
     }
 
+    /// Whether both texts have the same bytes.
     pub fn same(&self, other: &Text) -> bool
         ensures { result ≡ bytes_eq self.now other.now }
     {

@@ -7,12 +7,14 @@ ghost use Rattle.wdl_lex.specs.Reading.Code.{rest};
 ghost use Rattle.wdl_lex.specs.Reading.Code.{char_len};
 ghost use Rattle.wdl_lex.specs.Reading.Numbers.{digits_len};
 
+/// A space, a tab, a carriage return or a line feed.
 pub fn is_blank(b: u8) -> bool
     ensures { result ≡ spec.is_blank b }
 {
     b == b' ' || b == b'\t' || b == b'\r' || b == b'\n'
 }
 
+/// A letter of ASCII.
 #[tactic(auto, unfolding(wdl_ast::specs::Spelled::Classes::is_letter))]
 pub fn is_letter(b: u8) -> bool
     ensures { result ≡ spec.is_letter b }
@@ -20,6 +22,7 @@ pub fn is_letter(b: u8) -> bool
     b.is_ascii_alphabetic()
 }
 
+/// A letter or a digit of ASCII, or an underscore.
 #[tactic(auto, unfolding(wdl_ast::specs::Spelled::Classes::is_word_byte))]
 pub fn is_word_byte(b: u8) -> bool
     ensures { result ≡ spec.is_word_byte b }
@@ -47,6 +50,7 @@ pub fn first(z: &[u8]) -> u8
     }
 }
 
+/// The second byte, and 0 where there is none.
 pub fn second(z: &[u8]) -> u8
     ensures { result ≡ spec.first (rest z.now) }
 {
@@ -56,6 +60,7 @@ pub fn second(z: &[u8]) -> u8
     }
 }
 
+/// The third byte, and 0 where there is none.
 pub fn third(z: &[u8]) -> u8
     ensures { result ≡ spec.first (rest (rest z.now)) }
 {

@@ -46,6 +46,7 @@ fn inside_of(kind: &Kind) -> Option<Inside>
 }
 
 impl Open {
+    /// Nothing open.
     pub fn new(alloc: Global) -> Open
         ensures { result ≡ [] }
     {

@@ -7,30 +7,35 @@ ghost use Rattle.wdl_value.specs.FunctionTypes as table;
 
 use wdl_value::Ty;
 
+/// Boolean.
 pub fn is_bool(t: &Ty) -> bool
     ensures { result ≡ spec.is_bool t.now }
 {
     matches!(t, Ty::Bool)
 }
 
+/// Int.
 pub fn is_int(t: &Ty) -> bool
     ensures { result ≡ spec.is_int t.now }
 {
     matches!(t, Ty::Int)
 }
 
+/// String.
 pub fn is_str(t: &Ty) -> bool
     ensures { result ≡ spec.is_str t.now }
 {
     matches!(t, Ty::Str)
 }
 
+/// The type of `None` alone.
 pub fn is_absent(t: &Ty) -> bool
     ensures { result ≡ spec.is_absent t.now }
 {
     matches!(t, Ty::Absent)
 }
 
+/// The type of the items of `[]`.
 pub fn is_empty(t: &Ty) -> bool
     ensures { result ≡ spec.is_empty t.now }
 {

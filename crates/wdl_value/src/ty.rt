@@ -52,6 +52,7 @@ impl Ty {
         }
     }
 
+    /// A copy of the type, in time linear in its size.
     pub fn copy(&self, alloc: Global) -> Result<Ty, NoMemory>
         ensures { IfOk result (λ t. t ≡ self.now) }
     {

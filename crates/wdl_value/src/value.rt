@@ -36,6 +36,7 @@ pub enum Value {
 }
 
 impl Value {
+    /// A copy of the value, in time linear in its size.
     #[cycle(copy)]
     pub fn copy(&self, alloc: Global) -> Result<Value, NoMemory>
         ensures { IfOk result (λ c. c ≡ self.now) }

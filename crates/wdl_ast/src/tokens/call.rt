@@ -9,6 +9,7 @@ use crate::tokens::section::push_assigned;
 use crate::workflow::{After, Argument, Call, CallBody, CallInputs, CallTarget, Renaming};
 use wdl_value::NoMemory;
 
+/// Adds the tokens of `as NAME`, if it is there.
 pub fn push_renaming(out: &mut TokenList, renaming: &Option<Renaming>) -> Result<(), NoMemory>
     ensures { OnOk result (out.new ≡ out.old ++ spec.maybe spec.renaming_words renaming.now) }
 {
@@ -81,6 +82,7 @@ fn push_body(out: &mut TokenList, body: &Option<CallBody>) -> Result<(), NoMemor
     }
 }
 
+/// Adds the tokens of a call.
 pub fn push_call(out: &mut TokenList, call: &Call) -> Result<(), NoMemory>
     ensures { OnOk result (out.new ≡ out.old ++ spec.call_words call.now) }
 {

@@ -41,6 +41,7 @@ pub fn unary_mark(operator: UnaryOperator) -> Mark
     }
 }
 
+/// Adds the tokens of an expression.
 #[cycle(words)]
 #[tactic(auto, using(crate::proofs::WordLaws::equations))]
 pub fn push_expr(out: &mut TokenList, expr: &Expr) -> Result<(), NoMemory>
@@ -241,6 +242,7 @@ fn push_members(
     Ok(())
 }
 
+/// Adds the tokens of the parts of a string or a command.
 #[cycle(words)]
 #[tactic(auto, using(crate::proofs::WordLaws::equations))]
 pub fn push_parts(out: &mut TokenList, parts: &[StringPart<Expr>]) -> Result<(), NoMemory>

@@ -26,6 +26,7 @@ impl Model for TokenList {
 }
 
 impl TokenList {
+    /// A list without tokens.
     pub fn new(alloc: Global) -> TokenList
         ensures { result ≡ [] }
     {
@@ -35,6 +36,7 @@ impl TokenList {
         }
     }
 
+    /// The tokens, in their order.
     pub fn into_items(self) -> Items<Token>
         ensures { result ≡ self }
     {
@@ -42,6 +44,7 @@ impl TokenList {
         tokens
     }
 
+    /// Adds a token at its span.
     pub fn push(&mut self, kind: Kind, span: Span) -> Result<(), NoMemory>
         ensures { OnOk result (self.new ≡ self.old ++ spec.at kind span ∷ []) }
     {
@@ -49,6 +52,7 @@ impl TokenList {
         Ok(())
     }
 
+    /// Adds a mark.
     pub fn mark(&mut self, mark: Mark, span: Span) -> Result<(), NoMemory>
         ensures { OnOk result (self.new ≡ self.old ++ spec.marked mark span ∷ []) }
     {
@@ -74,6 +78,7 @@ impl TokenList {
         self.push(Kind::Word(text), span)
     }
 
+    /// Adds a name.
     pub fn ident(&mut self, ident: &Ident) -> Result<(), NoMemory>
         ensures { OnOk result (self.new ≡ self.old ++ spec.ident ident.now ∷ []) }
     {
@@ -81,6 +86,7 @@ impl TokenList {
         self.push(Kind::Word(text), ident.span)
     }
 
+    /// Adds a word.
     pub fn word(&mut self, word: &Word) -> Result<(), NoMemory>
         ensures { OnOk result (self.new ≡ self.old ++ spec.word word.now ∷ []) }
     {
@@ -88,6 +94,7 @@ impl TokenList {
         self.push(Kind::Word(text), word.span)
     }
 
+    /// Adds a number with a fraction or an exponent, as it was written.
     pub fn fraction(&mut self, text: &Text, span: Span) -> Result<(), NoMemory>
         ensures { OnOk result (self.new ≡ self.old ++ spec.at (Kind.Frac text.now) span ∷ []) }
     {
@@ -95,6 +102,7 @@ impl TokenList {
         self.push(Kind::Frac(text), span)
     }
 
+    /// Adds a run of characters.
     pub fn chars(&mut self, chars: &Chars) -> Result<(), NoMemory>
         ensures { OnOk result (self.new ≡ self.old ++ spec.chars chars.now ∷ []) }
     {
@@ -111,6 +119,7 @@ impl TokenList {
         }
     }
 
+    /// Adds a string without placeholders, with its quotes.
     pub fn plain_string(&mut self, string: &PlainString) -> Result<(), NoMemory>
         ensures { OnOk result (self.new ≡ self.old ++ spec.plain_words string.now) }
     {

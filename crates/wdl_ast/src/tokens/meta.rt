@@ -78,6 +78,7 @@ fn push_meta_items(out: &mut TokenList, items: &[ListItem<MetaValue>]) -> Result
     Ok(())
 }
 
+/// Adds the tokens of the members of an object of metadata.
 #[cycle(words)]
 #[tactic(auto, using(crate::proofs::WordLaws::meta_equations))]
 pub fn push_metadata(

@@ -11,6 +11,7 @@ use crate::tokens::meta::push_metadata;
 use crate::tokens::type_tree::push_type;
 use wdl_value::NoMemory;
 
+/// Adds the tokens of a declaration with its expression.
 pub fn push_declaration(out: &mut TokenList, declaration: &Declaration) -> Result<(), NoMemory>
     ensures { OnOk result (out.new ≡ out.old ++ spec.declaration_words declaration.now) }
 {
@@ -20,6 +21,7 @@ pub fn push_declaration(out: &mut TokenList, declaration: &Declaration) -> Resul
     push_expr(out, &declaration.value)
 }
 
+/// Adds the tokens of `= EXPR`, if it is there.
 pub fn push_assigned(out: &mut TokenList, assigned: &Option<Assigned>) -> Result<(), NoMemory>
     ensures { OnOk result (out.new ≡ out.old ++ spec.maybe spec.assigned_words assigned.now) }
 {
@@ -49,6 +51,7 @@ fn push_input_list(out: &mut TokenList, inputs: &[InputDeclaration]) -> Result<(
     Ok(())
 }
 
+/// Adds the tokens of an input section.
 pub fn push_inputs(out: &mut TokenList, section: &InputSection) -> Result<(), NoMemory>
     ensures { OnOk result (out.new ≡ out.old ++ spec.inputs_words section.now) }
 {
@@ -67,6 +70,7 @@ fn push_output_list(out: &mut TokenList, outputs: &[Declaration]) -> Result<(), 
     Ok(())
 }
 
+/// Adds the tokens of an output section.
 pub fn push_outputs(out: &mut TokenList, section: &OutputSection) -> Result<(), NoMemory>
     ensures { OnOk result (out.new ≡ out.old ++ spec.outputs_words section.now) }
 {
@@ -76,6 +80,7 @@ pub fn push_outputs(out: &mut TokenList, section: &OutputSection) -> Result<(), 
     out.mark(Mark::CloseBrace, section.closing)
 }
 
+/// Adds the tokens of a section of metadata under its word.
 pub fn push_meta_section(
     out: &mut TokenList,
     word: &str,

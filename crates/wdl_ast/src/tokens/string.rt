@@ -16,6 +16,7 @@ fn push_option(out: &mut TokenList, word: &str, option: &PlaceholderOption) -> R
     out.plain_string(&option.value)
 }
 
+/// Adds the tokens of a placeholder's options.
 pub fn push_options(out: &mut TokenList, options: &PlaceholderOptions) -> Result<(), NoMemory>
     ensures { OnOk result (out.new ≡ out.old ++ spec.options_words options.now) }
 {

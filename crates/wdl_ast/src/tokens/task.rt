@@ -64,6 +64,7 @@ fn push_elements(out: &mut TokenList, elements: &[TaskElement]) -> Result<(), No
     Ok(())
 }
 
+/// Adds the tokens of a task.
 pub fn push_task(out: &mut TokenList, task: &TaskSection) -> Result<(), NoMemory>
     ensures { OnOk result (out.new ≡ out.old ++ spec.task_words task.now) }
 {

@@ -15,6 +15,7 @@ fn push_questions(out: &mut TokenList, questions: &[Span]) -> Result<(), NoMemor
     Ok(())
 }
 
+/// Adds the tokens of a type.
 #[cycle(words)]
 #[tactic(auto, using(crate::proofs::WordLaws::type_equations))]
 pub fn push_type(out: &mut TokenList, tree: &TypeTree) -> Result<(), NoMemory>

@@ -84,6 +84,7 @@ fn push_elements(out: &mut TokenList, elements: &[WorkflowElement]) -> Result<()
     Ok(())
 }
 
+/// Adds the tokens of a workflow.
 pub fn push_workflow(out: &mut TokenList, workflow: &Workflow) -> Result<(), NoMemory>
     ensures { OnOk result (out.new ≡ out.old ++ spec.workflow_words workflow.now) }
 {
