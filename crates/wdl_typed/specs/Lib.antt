@@ -1,0 +1,3 @@
+pub mod Evaluation
+pub mod Scope
+pub mod Typing

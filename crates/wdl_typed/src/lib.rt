@@ -3,8 +3,10 @@
 
 mod expr;
 mod flow;
+mod scope;
 mod task;
 
 pub use expr::{Choice, TExpr, TField, THole, TPair, TPart};
 pub use flow::{FlowDef, Statement, TCall, TIf, TScatter, Target};
+pub use scope::Bound;
 pub use task::{TCodes, TDecl, TInput, TaskDef};
