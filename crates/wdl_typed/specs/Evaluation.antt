@@ -157,9 +157,9 @@ separated sep (value.List xs) = then_ (texts_met xs) (λ ss. Ok (join_by (λ s. 
 separated sep x = wrong
 
 abbrev pub one_of_two : List ℕ → List ℕ → Value-F Value → Met (List ℕ)
-one_of_two yes no (value.Bool b) = Ok (if b then yes else no)
-one_of_two yes no value.Absent = Ok []
-one_of_two yes no x = wrong
+one_of_two s t (value.Bool b) = Ok (if b then s else t)
+one_of_two s t value.Absent = Ok []
+one_of_two s t x = wrong
 
 abbrev pub or_default : List ℕ → Value-F Value → Met (List ℕ)
 or_default text value.Absent = Ok text
@@ -169,7 +169,7 @@ or_default text x = text_met x
 abbrev pub hole_text : Choice → Value-F Value → Met (List ℕ)
 hole_text choice.Plain x = or_default [] x
 hole_text (choice.Sep s) x = separated s x
-hole_text (choice.Both yes no) x = one_of_two yes no x
+hole_text (choice.Both s t) x = one_of_two s t x
 hole_text (choice.Default s) x = or_default s x
 
 abbrev pub strung : List (TPart (Met Value)) → Met (List ℕ)

@@ -1,3 +1,9 @@
+pub mod Bodies
+pub mod Declarations
 pub mod Evaluation
+pub mod Kept
+pub mod KnownTypes
+pub mod Lists
+pub mod Order
 pub mod Scope
 pub mod Typing

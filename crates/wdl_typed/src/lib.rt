@@ -1,11 +1,13 @@
 //! Typed trees: what the checker makes of a library, and what the runner and the translator read.
 #![tactic(auto)]
 
+mod checked;
 mod expr;
 mod flow;
 mod scope;
 mod task;
 
+pub use checked::{Checked, CheckedParts};
 pub use expr::{Choice, TExpr, TField, THole, TPair, TPart};
 pub use flow::{FlowDef, Statement, TCall, TIf, TScatter, Target};
 pub use scope::Bound;
