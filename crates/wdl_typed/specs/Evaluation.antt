@@ -1,17 +1,15 @@
 -- The value of a typed expression (OpenWDL 1.1, "Expressions"): operands from left to right, the first code being the
 -- result; `&&`, `||` and `if` evaluate only what they need; each node's value keeps the limits of values.
-use Rattle.std.specs.Prelude.{ℕ, ℤ, pos, negsuc, Bool, true, false, not, ◌&&◌, ◌||◌, List, [], ◌∷◌, ◌++◌, Option, Some, None, Result, Ok, Err, if◌then◌else◌, map, slice_get, codes}
+use Rattle.std.specs.Prelude.{ℕ, ℤ, pos, negsuc, true, false, not, List, [], ◌∷◌, ◌++◌, Option, Some, None, Result, Ok, Err, if◌then◌else◌, slice_get, codes}
 use Rattle.std.specs.List.{join_by}
 use Rattle.std.specs.Str.{bytes_eq}
 use Rattle.wdl_base.specs.declared.answer.Answer.{Answer}
 use Rattle.wdl_base.specs.declared.fault.EvalCode.{EvalCode}
 use Rattle.wdl_base.specs.declared.fault.EvalCode.TheVariants.{EmptyArray, IndexOut, KeyMissing, RepeatedKey}
-use Rattle.wdl_base.specs.declared.name.Key.{Key}
 use Rattle.wdl_value.specs.declared.casting.CastFault.{CastFault}
 use Rattle.wdl_value.specs.declared.env.Bind.{Bind}
 use Rattle.wdl_value.specs.declared.operator.Op.{Op}
 use Rattle.wdl_value.specs.declared.operator.Op.TheVariants as op
-use Rattle.wdl_value.specs.declared.ty.Ty.{Ty}
 use Rattle.wdl_value.specs.declared.value.Field.{Field}
 use Rattle.wdl_value.specs.declared.value.MapRow.{MapRow}
 use Rattle.wdl_value.specs.declared.value.Value.{Value, Value-F, out-Value}
@@ -156,10 +154,11 @@ abbrev pub separated : List ℕ → Value-F Value → Met (List ℕ)
 separated sep (value.List xs) = then_ (texts_met xs) (λ ss. Ok (join_by (λ s. s) sep ss))
 separated sep x = wrong
 
+-- the first text for true, the second one for false
 abbrev pub one_of_two : List ℕ → List ℕ → Value-F Value → Met (List ℕ)
-one_of_two s t (value.Bool b) = Ok (if b then s else t)
-one_of_two s t value.Absent = Ok []
-one_of_two s t x = wrong
+one_of_two first second (value.Bool b) = Ok (if b then first else second)
+one_of_two first second value.Absent = Ok []
+one_of_two first second x = wrong
 
 abbrev pub or_default : List ℕ → Value-F Value → Met (List ℕ)
 or_default text value.Absent = Ok text
@@ -169,7 +168,7 @@ or_default text x = text_met x
 abbrev pub hole_text : Choice → Value-F Value → Met (List ℕ)
 hole_text choice.Plain x = or_default [] x
 hole_text (choice.Sep s) x = separated s x
-hole_text (choice.Both s t) x = one_of_two s t x
+hole_text (choice.Both first second) x = one_of_two first second x
 hole_text (choice.Default s) x = or_default s x
 
 abbrev pub strung : List (TPart (Met Value)) → Met (List ℕ)

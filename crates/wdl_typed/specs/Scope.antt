@@ -5,7 +5,6 @@ use Rattle.wdl_base.specs.declared.name.Key.{Key}
 use Rattle.wdl_value.specs.declared.env.Bind.{Bind}
 use Rattle.wdl_value.specs.declared.ty.Ty.{Ty}
 use Rattle.wdl_value.specs.declared.value.Value.{Value}
-use Rattle.wdl_typed.specs.declared.expr.Choice.{Choice}
 use Rattle.wdl_typed.specs.declared.expr.TExpr.{TExpr, TExpr-F, fold-TExpr}
 use Rattle.wdl_typed.specs.declared.expr.TExpr.TheOpen as layer
 use Rattle.wdl_typed.specs.declared.expr.TField.{TField}

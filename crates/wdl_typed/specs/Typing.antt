@@ -144,7 +144,7 @@ scalar_items t = false
 abbrev pub hole_takes : Choice → Ty → Bool
 hole_takes choice.Plain t = is_absent t || is_scalar (bare t)
 hole_takes (choice.Sep s) t = scalar_items (out-Ty t)
-hole_takes (choice.Both s u) t = is_bool (bare t)
+hole_takes (choice.Both first second) t = is_bool (bare t)
 hole_takes (choice.Default s) t = is_scalar (bare t)
 
 abbrev pub takes_some : Choice → Option Ty → Bool
