@@ -3,7 +3,6 @@
 use Rattle.std.specs.Prelude.{ℕ, zero, suc, Bool, true, false, not, ◌&&◌, ◌||◌, List, [], ◌∷◌, ◌++◌, Option, Some, None, option_and_then, if◌then◌else◌, map, slice_get}
 use Rattle.std.specs.List.{list_all}
 use Rattle.std.specs.Str.{bytes_eq}
-use Rattle.wdl_base.specs.declared.name.Key.{Key}
 use Rattle.wdl_value.specs.declared.ty.Ty.{Ty, Ty-F, out-Ty}
 use Rattle.wdl_value.specs.declared.ty.Ty.TheVariants as ty
 use Rattle.wdl_value.specs.declared.ty.Ty.TheOpen as type
@@ -22,7 +21,7 @@ use Rattle.wdl_typed.specs.declared.scope.Bound.{Bound}
 use Rattle.wdl_typed.specs.declared.task.TDecl.{TDecl}
 use Rattle.wdl_typed.specs.declared.task.TInput.{TInput}
 use Rattle.wdl_typed.specs.declared.task.TaskDef.{TaskDef}
-use Rattle.wdl_typed.specs.Declarations.{bound, decl_names, decls_typed, in_body, input_names, inputs_bound, inputs_typed}
+use Rattle.wdl_typed.specs.Declarations.{bound, in_body}
 use Rattle.wdl_typed.specs.KnownTypes.{is_some, is_written}
 use Rattle.wdl_typed.specs.Lists.{are_counted, are_distinct, has_name}
 use Rattle.wdl_typed.specs.Typing.{is_type}
@@ -103,9 +102,9 @@ call_gives name outputs = record { names = map (output_bound name) outputs; call
 abbrev pub call_by : Structs → TCall → Seen → Signature → Option Seen
 call_by structs c seen s =
     if args_typed structs seen.names s.inputs c.args
-        && are_distinct (arg_names c.args)
-        && all_given s.inputs (arg_names c.args)
-        && all_seen seen.calls c.after
+    && are_distinct (arg_names c.args)
+    && all_given s.inputs (arg_names c.args)
+    && all_seen seen.calls c.after
     then Some (call_gives c.name s.outputs) else None
 
 abbrev pub call_step : Library → TCall → Giving

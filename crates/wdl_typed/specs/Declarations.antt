@@ -1,13 +1,12 @@
 -- Which inputs, declarations, outputs and tasks are well typed (OpenWDL 1.1, "Task Definition"). The lists of a task are in
 -- dependency order: each expression sees those of its own list that stand before it.
-use Rattle.std.specs.Prelude.{ℕ, Bool, true, false, not, ◌&&◌, ◌||◌, List, [], ◌∷◌, ◌++◌, Option, Some, None, option_and_then, if◌then◌else◌, map}
+use Rattle.std.specs.Prelude.{ℕ, Bool, true, false, ◌&&◌, List, [], ◌∷◌, ◌++◌, Option, Some, None, option_and_then, if◌then◌else◌, map}
 use Rattle.wdl_base.specs.declared.name.Key.{Key}
 use Rattle.wdl_value.specs.declared.ty.Ty.{Ty}
 use Rattle.wdl_value.specs.declared.ty.Ty.TheVariants as ty
 use Rattle.wdl_value.specs.Coerces.{coerces}
 use Rattle.wdl_value.specs.Fits.{Structs}
 use Rattle.wdl_value.specs.FunctionTypes.{function_type, writes}
-use Rattle.wdl_value.specs.SameType.{same_type}
 use Rattle.wdl_typed.specs.declared.expr.Choice.{Choice}
 use Rattle.wdl_typed.specs.declared.expr.Choice.TheVariants as choice
 use Rattle.wdl_typed.specs.declared.expr.TExpr.{TExpr, TExpr-F, fold-TExpr, map-TExpr}

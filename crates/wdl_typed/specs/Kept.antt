@@ -1,7 +1,6 @@
 -- What a checked form keeps.
-use Rattle.std.specs.Prelude.{ℕ, Bool, true, false, not, ◌&&◌, ◌||◌, ◌+◌, ◌^◌, nat_lt, List, [], ◌∷◌, ◌++◌, Option, Some, None, length, map}
+use Rattle.std.specs.Prelude.{ℕ, Bool, true, false, ◌&&◌, ◌+◌, ◌^◌, nat_lt, List, [], ◌∷◌, ◌++◌, Option, Some, None, length, map}
 use Rattle.std.specs.List.{list_all}
-use Rattle.wdl_value.specs.declared.ty.StructDef.{StructDef}
 use Rattle.wdl_value.specs.Fits.{Structs}
 use Rattle.wdl_typed.specs.declared.flow.FlowDef.{FlowDef}
 use Rattle.wdl_typed.specs.declared.flow.Statement.{Statement, Statement-F, fold-Statement}

@@ -1,9 +1,9 @@
 -- Structs, and the types that a document writes.
-use Rattle.std.specs.Prelude.{ℕ, zero, suc, Bool, true, false, not, ◌&&◌, ◌||◌, List, [], ◌∷◌, ◌++◌, Option, Some, None, map}
+use Rattle.std.specs.Prelude.{ℕ, zero, suc, Bool, true, false, not, ◌&&◌, List, [], ◌∷◌, ◌++◌, Option, Some, None, map}
 use Rattle.std.specs.List.{list_all}
 use Rattle.wdl_value.specs.declared.ty.Member.{Member}
 use Rattle.wdl_value.specs.declared.ty.StructDef.{StructDef}
-use Rattle.wdl_value.specs.declared.ty.Ty.{Ty, Ty-F, out-Ty, fold-Ty}
+use Rattle.wdl_value.specs.declared.ty.Ty.{Ty, Ty-F, fold-Ty}
 use Rattle.wdl_value.specs.declared.ty.Ty.TheOpen as type
 use Rattle.wdl_value.specs.Fits.{Structs, members_of}
 use Rattle.wdl_typed.specs.Lists.{are_distinct}
