@@ -1,5 +1,5 @@
 -- The parameters and the result of each function (OpenWDL 1.1, "Standard Library").
-use Rattle.std.specs.Prelude.{Bool, false, ◌&&◌, ◌||◌, List, [], ◌∷◌, Option, Some, None, option_and_then, if◌then◌else◌}
+use Rattle.std.specs.Prelude.{Bool, true, false, ◌&&◌, ◌||◌, List, [], ◌∷◌, Option, Some, None, option_and_then, if◌then◌else◌}
 use Rattle.wdl_value.specs.declared.operator.Func.{Func}
 use Rattle.wdl_value.specs.declared.operator.Func.TheVariants as func
 use Rattle.wdl_value.specs.declared.ty.Ty.{Ty, Ty-F, out-Ty}
@@ -202,3 +202,23 @@ function_type f [] = nullary_type f
 function_type f (t ∷ []) = unary_type f t
 function_type f (t ∷ (u ∷ [])) = binary_type f t u
 function_type f (t ∷ (u ∷ (w ∷ more))) = None
+
+-- the functions that write files
+abbrev pub writes : Func → Bool
+writes func.WriteLines = true
+writes func.WriteTsv = true
+writes func.WriteMap = true
+writes f = false
+
+-- the functions that see what the command of a job left
+abbrev pub reads : Func → Bool
+reads func.Stdout = true
+reads func.Stderr = true
+reads func.Glob = true
+reads func.ReadString = true
+reads func.ReadLines = true
+reads func.ReadInt = true
+reads func.ReadBoolean = true
+reads func.ReadTsv = true
+reads func.ReadMap = true
+reads f = false
