@@ -1,5 +1,5 @@
 -- Templates of commands: the dedent rule, and what a filled template is.
-use Rattle.std.specs.Prelude.{ℕ, zero, suc, ◌<◌, ◌==◌, ◌||◌, ◌&&◌, Bool, true, false, not, List, [], ◌∷◌, ◌++◌, length, map, drop, take, reverse, slice_index_or, nat_lt, if◌then◌else◌}
+use Rattle.std.specs.Prelude.{ℕ, zero, suc, ◌<◌, ◌==◌, ◌||◌, Bool, not, List, [], ◌∷◌, ◌++◌, length, map, drop, take, reverse, slice_index_or, if◌then◌else◌}
 use Rattle.std.specs.List.{All, common_prefix_len, filter, join_with_byte, fold, list_all, prefix_len, slice_split}
 use Rattle.wdl_base.specs.declared.template.Part.{Part}
 use Rattle.wdl_base.specs.declared.template.Part.TheVariants.{Chars, Hole}

@@ -1,5 +1,5 @@
 -- The limits of a value: a list or a map has at most 100,000 items or rows, and its size is at most 4,194,304.
-use Rattle.std.specs.Prelude.{ℕ, Bool, true, false, ◌&&◌, nat_le, List, [], ◌∷◌, length, map, Ok, Err, if◌then◌else◌}
+use Rattle.std.specs.Prelude.{Bool, true, ◌&&◌, nat_le, List, [], ◌∷◌, length, map, Ok, Err, if◌then◌else◌}
 use Rattle.wdl_base.specs.declared.fault.EvalCode.TheVariants.{TooLarge}
 use Rattle.wdl_value.specs.declared.value.Value.{Value, Value-F, fold-Value}
 use Rattle.wdl_value.specs.declared.value.Value.TheOpen as layer

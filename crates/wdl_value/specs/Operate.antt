@@ -1,5 +1,5 @@
 -- The values of operators (OpenWDL 1.1, "Expressions").
-use Rattle.std.specs.Prelude.{◌++◌, Bool, true, false, not, ◌&&◌, ◌||◌, Ok, Err, if◌then◌else◌, ℤ, pos, negsuc, ◌==◌, ◌+ℤ◌, ◌-ℤ◌, ◌*ℤ◌, neg_ℤ, int_div, int_rem, int_lt}
+use Rattle.std.specs.Prelude.{◌++◌, Bool, false, not, ◌&&◌, ◌||◌, Ok, Err, if◌then◌else◌, ℤ, pos, negsuc, ◌==◌, ◌+ℤ◌, ◌-ℤ◌, ◌*ℤ◌, neg_ℤ, int_div, int_rem, int_lt}
 use Rattle.std.specs.Cmp.Lexicographic.{slice_cmp}
 use Rattle.std.specs.Ordering.{is_lt, nat_cmp}
 use Rattle.wdl_base.specs.declared.fault.EvalCode.TheVariants.{Overflow, ZeroDivisor}

@@ -1,6 +1,6 @@
 -- The values of the functions on paths (OpenWDL 1.1, "Standard Library"). Texts are bytes; 47 is a slash, 46 a point,
 -- 42 a star and 63 a question mark.
-use Rattle.std.specs.Prelude.{ℕ, ◌-◌, ◌==◌, Bool, true, false, not, ◌&&◌, ◌||◌, List, [], ◌∷◌, ◌++◌, length, take, drop, Option, Some, None, Ok, Err, if◌then◌else◌, codes}
+use Rattle.std.specs.Prelude.{ℕ, ◌-◌, ◌==◌, Bool, true, false, ◌&&◌, ◌||◌, List, [], ◌∷◌, ◌++◌, length, take, drop, Option, Some, None, Ok, if◌then◌else◌, codes}
 use Rattle.std.specs.List.{slice_split, list_any}
 use Rattle.std.specs.Str.{chars, bytes_eq}
 use Rattle.wdl_base.specs.declared.answer.Answer.{Answer}
