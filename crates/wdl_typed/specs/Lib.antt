@@ -1,9 +1,12 @@
 pub mod Bodies
 pub mod Declarations
 pub mod Evaluation
+pub mod Flow
+pub mod Journal
 pub mod Kept
 pub mod KnownTypes
 pub mod Lists
 pub mod Order
+pub mod Requests
 pub mod Scope
 pub mod Typing

@@ -1,0 +1,353 @@
+-- What a task asks to be run, and what an answer tells (OpenWDL 1.1, "Task Definition").
+use Rattle.std.specs.Prelude.{ℕ, zero, suc, ◌+◌, ◌==◌, nat_lt, nat_le, ℤ, pos, negsuc, Bool, true, false, not, ◌&&◌, ◌||◌, List, [], ◌∷◌, ◌++◌, Option, Some, None, Result, Ok, Err, if◌then◌else◌, length, map, codes, decimal}
+use Rattle.wdl_base.specs.declared.answer.Answer.{Answer}
+use Rattle.wdl_base.specs.declared.body.Body.{Body}
+use Rattle.wdl_base.specs.declared.body.Laid.{Laid}
+use Rattle.wdl_base.specs.declared.fault.EvalCode.{EvalCode}
+use Rattle.wdl_base.specs.declared.fault.EvalCode.TheVariants.{FileMissing, RepeatedKey, TooLarge}
+use Rattle.wdl_base.specs.declared.fault.Why.{Why}
+use Rattle.wdl_base.specs.declared.fault.Why.TheVariants.{Code, Status}
+use Rattle.wdl_base.specs.declared.place.Segment.{Segment}
+use Rattle.wdl_base.specs.declared.request.Request.{Request}
+use Rattle.wdl_base.specs.Places.{place_text}
+use Rattle.wdl_value.specs.declared.env.Bind.{Bind}
+use Rattle.wdl_value.specs.declared.operator.Func.{Func}
+use Rattle.wdl_value.specs.declared.ty.Member.{Member}
+use Rattle.wdl_value.specs.declared.ty.Ty.{Ty, Ty-F, out-Ty}
+use Rattle.wdl_value.specs.declared.ty.Ty.TheOpen as type
+use Rattle.wdl_value.specs.declared.value.Field.{Field}
+use Rattle.wdl_value.specs.declared.value.MapRow.{MapRow}
+use Rattle.wdl_value.specs.declared.value.Value.{Value, Value-F, fold-Value, out-Value}
+use Rattle.wdl_value.specs.declared.value.Value.TheVariants as v
+use Rattle.wdl_value.specs.declared.value.Value.TheOpen as value
+use Rattle.wdl_value.specs.Bare.{bare, is_optional}
+use Rattle.wdl_value.specs.Files.{begins_at_root, left_body, local_name, stripped}
+use Rattle.wdl_value.specs.Fits.{Structs, members_of}
+use Rattle.wdl_value.specs.FunctionTypes.{writes}
+use Rattle.wdl_value.specs.Keyed.{has_key}
+use Rattle.wdl_value.specs.Outcome.{Outcome, and_then}
+use Rattle.wdl_value.specs.Parts.{int_in, items_in}
+use Rattle.wdl_value.specs.Written.{written, written_name}
+use Rattle.wdl_typed.specs.declared.expr.TExpr.{TExpr, TExpr-F, fold-TExpr, map-TExpr}
+use Rattle.wdl_typed.specs.declared.expr.TExpr.TheOpen as layer
+use Rattle.wdl_typed.specs.declared.expr.TPart.{TPart}
+use Rattle.wdl_typed.specs.declared.expr.TPart.TheVariants as part
+use Rattle.wdl_typed.specs.declared.task.TCodes.{TCodes}
+use Rattle.wdl_typed.specs.declared.task.TCodes.TheVariants as status
+use Rattle.wdl_typed.specs.declared.task.TDecl.{TDecl}
+use Rattle.wdl_typed.specs.declared.task.TInput.{TInput}
+use Rattle.wdl_typed.specs.declared.task.TaskDef.{TaskDef}
+use Rattle.wdl_typed.specs.Declarations.{plain_key}
+use Rattle.wdl_typed.specs.Evaluation.{Met, Setting, from_cast, hole_text, met, settled, then_, value_of, value_step, wrong}
+use Rattle.wdl_typed.specs.KnownTypes.{is_some}
+use Rattle.wdl_typed.specs.Scope.{lookup}
+use Rattle.wdl_value.specs.Cast.{cast}
+
+-- ---- faults
+
+-- the name of what failed, and why
+pub record Failing : Type 0 where
+  pub name : List ℕ
+  pub why : Why
+
+abbrev pub Tried : Type 0 → Type 0
+Tried A = Result A Failing
+
+abbrev pub tried : {A B : Type 0} → Tried A → (A → Tried B) → Tried B
+tried (Ok a) f = f a
+tried (Err e) f = Err e
+
+abbrev pub named : {A : Type 0} → List ℕ → Outcome A → Tried A
+named name (Ok a) = Ok a
+named name (Err c) = Err (record { name = name; why = Code c })
+
+-- ---- evaluation before the command has run
+
+-- No file is there, and no directory is named.
+abbrev pub before : List Bind → Setting
+before env = record { env = env; dir = []; answer = None }
+
+abbrev pub bind : List ℕ → Value → Bind
+bind name x = record { key = plain_key name; value = x }
+
+abbrev pub default_value : List Bind → Option TExpr → Outcome Value
+default_value env None = Ok v.Absent
+default_value env (Some e) = value_of (before env) e
+
+-- An input that was left out takes its default, or is undefined.
+abbrev pub with_inputs : List TInput → List Bind → Tried (List Bind)
+with_inputs [] env = Ok env
+with_inputs (i ∷ is) env =
+    if is_some (lookup env (plain_key i.name)) then with_inputs is env
+    else tried (named i.name (default_value env i.value)) (λ x. with_inputs is (env ++ bind i.name x ∷ []))
+
+-- ---- functions that write files
+
+-- a call of a function that writes a file: what it is to write, and the types to which its value is cast
+pub record Writing : Type 0 where
+  pub func : Func
+  pub argument : Met Value
+  pub casts : List Ty
+
+-- an expression's value, and the call that it is where it is one of a function that writes a file, casts aside
+pub record Placing : Type 0 where
+  pub plain : Met Value
+  pub write : Option Writing
+
+abbrev pub plain_of : Placing → Met Value
+plain_of p = p.plain
+
+abbrev pub first_of : List (Met Value) → Met Value
+first_of [] = wrong
+first_of (r ∷ rs) = r
+
+abbrev pub cast_last : Ty → Option Writing → Option Writing
+cast_last t None = None
+cast_last t (Some w) = Some (record { func = w.func; argument = w.argument; casts = w.casts ++ t ∷ [] })
+
+abbrev pub writing_step : TExpr-F Placing → Option Writing
+writing_step (layer.Apply f ps) =
+    if writes f then Some (record { func = f; argument = first_of (map plain_of ps); casts = [] }) else None
+writing_step (layer.Cast p t) = cast_last t p.write
+writing_step y = None
+
+abbrev pub placing_step : Setting → TExpr-F Placing → Placing
+placing_step s y = record { plain = value_step s (map-TExpr Placing (Met Value) plain_of y); write = writing_step y }
+
+abbrev pub placing : List Bind → TExpr → Placing
+placing env = fold-TExpr Placing (placing_step (before env))
+
+abbrev pub laid_size : List Laid → ℕ
+laid_size [] = 0
+laid_size (f ∷ fs) = length f.name + length f.body + laid_size fs
+
+-- at most 65,536 bytes
+abbrev pub within : ℕ → Bool
+within n = nat_le n 65536
+
+abbrev pub cast_all : List Ty → Met Value → Met Value
+cast_all [] r = r
+cast_all (t ∷ ts) r = cast_all ts (then_ r (λ x. from_cast (cast x t)))
+
+-- a value, and the files laid down so far
+pub record Laying : Type 0 where
+  pub value : Value
+  pub files : List Laid
+
+-- The writes of a task are numbered from 0 in the order in which they are evaluated.
+abbrev pub next_file : Func → Value → List Laid → Laid
+next_file f x files = record { name = written_name (length files); body = written f x }
+
+abbrev pub as_laying : List Laid → Outcome Value → Outcome Laying
+as_laying files r = and_then r (λ x. Ok (record { value = x; files = files }))
+
+abbrev pub laid_as : Writing → List ℕ → List Laid → Outcome Laying
+laid_as w name files = if within (laid_size files) then as_laying files (settled (cast_all w.casts (Ok (v.File name)))) else Err TooLarge
+
+abbrev pub lay : Writing → List Laid → Value → Outcome Laying
+lay w files x = laid_as w (written_name (length files)) (files ++ next_file w.func x files ∷ [])
+
+abbrev pub placed : List Laid → Met Value → Option Writing → Outcome Laying
+placed files plain None = as_laying files (settled plain)
+placed files plain (Some w) = and_then (settled w.argument) (lay w files)
+
+-- the value of an expression that may be, as a whole, a call of a function that writes a file
+abbrev pub placed_value : List Bind → List Laid → TExpr → Outcome Laying
+placed_value env files e = placed files (placing env e).plain (placing env e).write
+
+-- ---- private declarations, attributes, the command
+
+-- the names' values, and the files laid down so far
+pub record Prepared : Type 0 where
+  pub env : List Bind
+  pub files : List Laid
+
+abbrev pub with_private : TDecl → Prepared → Laying → Prepared
+with_private d p l = record { env = p.env ++ bind d.name l.value ∷ []; files = l.files }
+
+abbrev pub with_privates : List TDecl → Prepared → Tried Prepared
+with_privates [] p = Ok p
+with_privates (d ∷ ds) p = tried (named d.name (placed_value p.env p.files d.value)) (λ l. with_privates ds (with_private d p l))
+
+-- the statuses of success: 0 alone, any, or those of a list
+pub record Successes : Type 0 where
+  pub any : Bool
+  pub only : List ℤ
+
+abbrev pub zero_alone : Successes
+zero_alone = record { any = false; only = pos 0 ∷ [] }
+
+abbrev pub any_status : Successes
+any_status = record { any = true; only = [] }
+
+abbrev pub only_these : List ℤ → Successes
+only_these ns = record { any = false; only = ns }
+
+abbrev pub codes_met : List Bind → TCodes → Outcome Successes
+codes_met env status.Zero = Ok zero_alone
+codes_met env status.Any = Ok any_status
+codes_met env (status.One e) = and_then (value_of (before env) e) (λ x. Ok (only_these (int_in x ∷ [])))
+codes_met env (status.Many e) = and_then (value_of (before env) e) (λ x. Ok (only_these (map int_in (items_in x))))
+
+abbrev pub is_number : ℕ → ℤ → Bool
+is_number n (pos m) = m == n
+is_number n (negsuc m) = false
+
+abbrev pub is_among : ℕ → List ℤ → Bool
+is_among n [] = false
+is_among n (z ∷ zs) = is_number n z || is_among n zs
+
+abbrev pub is_success : Successes → ℕ → Bool
+is_success s n = s.any || is_among n s.only
+
+-- 0 to 100
+abbrev pub retries_in : ℤ → Outcome ℕ
+retries_in (pos n) = if nat_le n 100 then Ok n else Err TooLarge
+retries_in (negsuc n) = Err TooLarge
+
+abbrev pub retries_met : List Bind → Option TExpr → Outcome ℕ
+retries_met env None = Ok 0
+retries_met env (Some e) = and_then (value_of (before env) e) (λ x. retries_in (int_in x))
+
+-- a text, and the files laid down so far
+pub record Filled : Type 0 where
+  pub text : List ℕ
+  pub files : List Laid
+
+abbrev pub settled_text : Met (List ℕ) → Outcome (List ℕ)
+settled_text (Ok s) = Ok s
+settled_text (Err (Some c)) = Err c
+settled_text (Err None) = Ok []
+
+-- each placeholder from left to right
+abbrev pub filled : List Bind → List (TPart TExpr) → Filled → Outcome Filled
+filled env [] f = Ok f
+filled env (part.Chars s ∷ parts) f = filled env parts (record { text = f.text ++ s; files = f.files })
+filled env (part.Hole h ∷ parts) f =
+    and_then (placed_value env f.files h.expr) (λ l.
+    and_then (settled_text (hole_text h.choice (out-Value l.value))) (λ s.
+    filled env parts (record { text = f.text ++ s; files = l.files })))
+
+abbrev pub command_within : Filled → Outcome Filled
+command_within f = if within (length f.text + laid_size f.files) then Ok f else Err TooLarge
+
+abbrev pub command_met : List Bind → List (TPart TExpr) → List Laid → Outcome Filled
+command_met env parts files = and_then (filled env parts (record { text = []; files = files })) command_within
+
+-- ---- requests
+
+-- what all attempts of a call have in common
+pub record Asked : Type 0 where
+  pub env : List Bind
+  pub codes : Successes
+  pub retries : ℕ
+  pub command : List ℕ
+  pub files : List Laid
+
+abbrev pub asked_with : TaskDef → Prepared → Tried Asked
+asked_with t p =
+    tried (named (codes "returnCodes") (codes_met p.env t.codes)) (λ s.
+    tried (named (codes "maxRetries") (retries_met p.env t.retries)) (λ n.
+    tried (named (codes "command") (command_met p.env t.command p.files)) (λ f.
+    Ok (record { env = p.env; codes = s; retries = n; command = f.text; files = f.files }))))
+
+-- left-out inputs, private declarations, `returnCodes`, `maxRetries`, the command, in this order
+abbrev pub asks : TaskDef → List Bind → Tried Asked
+asks t given =
+    tried (with_inputs t.inputs given) (λ env.
+    tried (with_privates t.privates (record { env = env; files = [] })) (asked_with t))
+
+abbrev pub retry_text : ℕ → List ℕ
+retry_text zero = []
+retry_text (suc n) = codes "-retry-" ++ decimal (suc n)
+
+-- the directory of an attempt
+abbrev pub job_dir : List ℕ → List Segment → ℕ → List ℕ
+job_dir site place attempt = site ++ 47 ∷ (place_text place ++ retry_text attempt)
+
+abbrev pub request : List ℕ → List Segment → ℕ → Asked → Request
+request site place attempt a =
+    record { place = place; attempt = attempt; dir = job_dir site place attempt; command = a.command; files = a.files }
+
+-- ---- landing
+
+-- how a value is landed, by its type
+abbrev pub Lander : Type 0
+Lander = Ty → Outcome Value
+
+abbrev pub land_all : List Lander → Ty → Outcome (List Value)
+land_all [] t = Ok []
+land_all (f ∷ fs) t = and_then (f t) (λ x. and_then (land_all fs t) (λ xs. Ok (x ∷ xs)))
+
+abbrev pub map_row : Value → Value → MapRow Value
+map_row k x = record { key = k; value = x }
+
+-- No landed key stands in two rows.
+abbrev pub land_rows : List (MapRow Lander) → Ty → Ty → List (MapRow Value) → Outcome (List (MapRow Value))
+land_rows [] t u done = Ok done
+land_rows (r ∷ rows) t u done =
+    and_then (r.key t) (λ k.
+    if has_key k done then Err RepeatedKey else and_then (r.value u) (λ x. land_rows rows t u (done ++ map_row k x ∷ [])))
+
+abbrev pub land_fields : List (Field Lander) → List Member → Outcome (List (Field Value))
+land_fields [] ms = Ok []
+land_fields (f ∷ fs) [] = Ok []
+land_fields (f ∷ fs) (m ∷ ms) =
+    and_then (f.value m.ty) (λ x. and_then (land_fields fs ms) (λ xs. Ok (record { name = f.name; value = x } ∷ xs)))
+
+abbrev pub land_members : List (Field Lander) → Option (List Member) → Outcome (List (Field Value))
+land_members fs None = Ok []
+land_members fs (Some ms) = land_fields fs ms
+
+-- A path from the root that is not in the directory of the job.
+abbrev pub is_outside : List ℕ → List ℕ → Bool
+is_outside dir path = begins_at_root path && not (is_some (stripped (dir ++ 47 ∷ []) path))
+
+-- A file that is not there is undefined where it may be.
+abbrev pub missing_file : Bool → Outcome Value
+missing_file true = Ok v.Absent
+missing_file false = Err FileMissing
+
+abbrev pub landed_file : List ℕ → Answer → List ℕ → Bool → Outcome Value
+landed_file dir answer path may_be_absent =
+    if is_outside dir path then Ok (v.File path)
+    else (if is_some (left_body answer (local_name dir path)) then Ok (v.File (dir ++ 47 ∷ local_name dir path)) else missing_file may_be_absent)
+
+abbrev pub land_at : Structs → List ℕ → Answer → Value-F Lander → Bool → Ty-F Ty → Outcome Value
+land_at structs dir answer (value.Bool b) absent t = Ok (v.Bool b)
+land_at structs dir answer (value.Int n) absent t = Ok (v.Int n)
+land_at structs dir answer (value.Str s) absent t = Ok (v.Str s)
+land_at structs dir answer (value.File path) absent t = landed_file dir answer path absent
+land_at structs dir answer (value.List fs) absent (type.Array t some) = and_then (land_all fs t) (λ xs. Ok (v.List xs))
+land_at structs dir answer (value.Pair f g) absent (type.Pair t u) = and_then (f t) (λ x. and_then (g u) (λ y. Ok (v.Pair x y)))
+land_at structs dir answer (value.Map rows) absent (type.Map t u) = and_then (land_rows rows t u []) (λ xs. Ok (v.Map xs))
+land_at structs dir answer (value.Struct name fs) absent t = and_then (land_members fs (members_of structs name)) (λ xs. Ok (v.Struct name xs))
+land_at structs dir answer x absent t = Ok v.Absent
+
+-- A file of the job's own becomes a path in its directory, where it is there.
+abbrev pub landed : Structs → List ℕ → Answer → Value → Ty → Outcome Value
+landed structs dir answer =
+    fold-Value Lander (λ x t. land_at structs dir answer x (is_optional (out-Ty t)) (out-Ty (bare t)))
+
+-- ---- answers
+
+abbrev pub after : List Bind → List ℕ → Answer → Setting
+after env dir answer = record { env = env; dir = dir; answer = Some answer }
+
+abbrev pub output_met : Structs → List ℕ → Answer → List Bind → TDecl → Outcome Value
+output_met structs dir answer env d = and_then (value_of (after env dir answer) d.value) (λ x. landed structs dir answer x d.ty)
+
+-- Each output sees those before it, landed.
+abbrev pub outputs_met : Structs → List ℕ → Answer → List Bind → List TDecl → Tried (List Bind)
+outputs_met structs dir answer env [] = Ok []
+outputs_met structs dir answer env (d ∷ ds) =
+    tried (named d.name (output_met structs dir answer env d)) (λ x.
+    tried (outputs_met structs dir answer (env ++ bind d.name x ∷ []) ds) (λ more. Ok (bind d.name x ∷ more)))
+
+abbrev pub bad_status : ℕ → Failing
+bad_status n = record { name = codes "status"; why = Status n }
+
+-- the outputs, where the status is a success
+abbrev pub tells : Structs → TaskDef → Asked → List ℕ → Answer → Tried (List Bind)
+tells structs t a dir answer =
+    if is_success a.codes answer.status then outputs_met structs dir answer a.env t.outputs else Err (bad_status answer.status)
