@@ -1,10 +1,9 @@
 -- What the statements of workflows give over a table of answers (OpenWDL 1.1, "Workflow Definition"): everything is
 -- evaluated from scratch, statement by statement, in dependency order.
-use Rattle.std.specs.Prelude.{ℕ, zero, suc, ◌+◌, nat_lt, Bool, true, false, not, ◌&&◌, ◌||◌, List, [], ◌∷◌, ◌++◌, Option, Some, None, option_and_then, Result, Ok, Err, if◌then◌else◌, length, map, slice_get, codes}
+use Rattle.std.specs.Prelude.{ℕ, zero, suc, ◌+◌, nat_lt, Bool, true, false, ◌&&◌, ◌||◌, List, [], ◌∷◌, ◌++◌, Option, Some, None, option_and_then, Ok, Err, if◌then◌else◌, length, map, slice_get, codes}
 use Rattle.std.specs.List.{list_all}
 use Rattle.std.specs.Str.{bytes_eq}
 use Rattle.wdl_base.specs.declared.answer.Answer.{Answer}
-use Rattle.wdl_base.specs.declared.entry.Entry.{Entry}
 use Rattle.wdl_base.specs.declared.fault.EvalCode.{EvalCode}
 use Rattle.wdl_base.specs.declared.fault.Fault.{Fault}
 use Rattle.wdl_base.specs.declared.fault.Why.TheVariants.{Code}
@@ -15,7 +14,6 @@ use Rattle.wdl_base.specs.declared.request.Request.{Request}
 use Rattle.wdl_value.specs.declared.env.Bind.{Bind}
 use Rattle.wdl_value.specs.declared.value.Value.{Value}
 use Rattle.wdl_value.specs.declared.value.Value.TheVariants as v
-use Rattle.wdl_value.specs.Fits.{Structs}
 use Rattle.wdl_value.specs.Outcome.{Outcome}
 use Rattle.wdl_value.specs.Parts.{bool_in, items_in}
 use Rattle.wdl_value.specs.Tables.{Row, answer_at}
@@ -34,9 +32,8 @@ use Rattle.wdl_typed.specs.Bodies.{Library, Signature, signature}
 use Rattle.wdl_typed.specs.Declarations.{plain_key}
 use Rattle.wdl_typed.specs.Evaluation.{value_of}
 use Rattle.wdl_typed.specs.KnownTypes.{is_some}
-use Rattle.wdl_typed.specs.Lists.{has_name}
 use Rattle.wdl_typed.specs.Requests.{Asked, Failing, Tried, asks, bad_status, before, is_success, job_dir, request, tells, tried}
-use Rattle.wdl_typed.specs.Scope.{lookup, names_of, same_key}
+use Rattle.wdl_typed.specs.Scope.{lookup, names_of}
 
 -- ---- what is known
 

@@ -1,9 +1,7 @@
 -- What a task asks to be run, and what an answer tells (OpenWDL 1.1, "Task Definition").
-use Rattle.std.specs.Prelude.{ℕ, zero, suc, ◌+◌, ◌==◌, nat_lt, nat_le, ℤ, pos, negsuc, Bool, true, false, not, ◌&&◌, ◌||◌, List, [], ◌∷◌, ◌++◌, Option, Some, None, Result, Ok, Err, if◌then◌else◌, length, map, codes, decimal}
+use Rattle.std.specs.Prelude.{ℕ, zero, suc, ◌+◌, ◌==◌, nat_le, ℤ, pos, negsuc, Bool, true, false, not, ◌&&◌, ◌||◌, List, [], ◌∷◌, ◌++◌, Option, Some, None, Result, Ok, Err, if◌then◌else◌, length, map, codes, decimal}
 use Rattle.wdl_base.specs.declared.answer.Answer.{Answer}
-use Rattle.wdl_base.specs.declared.body.Body.{Body}
 use Rattle.wdl_base.specs.declared.body.Laid.{Laid}
-use Rattle.wdl_base.specs.declared.fault.EvalCode.{EvalCode}
 use Rattle.wdl_base.specs.declared.fault.EvalCode.TheVariants.{FileMissing, RepeatedKey, TooLarge}
 use Rattle.wdl_base.specs.declared.fault.Why.{Why}
 use Rattle.wdl_base.specs.declared.fault.Why.TheVariants.{Code, Status}
@@ -38,7 +36,7 @@ use Rattle.wdl_typed.specs.declared.task.TDecl.{TDecl}
 use Rattle.wdl_typed.specs.declared.task.TInput.{TInput}
 use Rattle.wdl_typed.specs.declared.task.TaskDef.{TaskDef}
 use Rattle.wdl_typed.specs.Declarations.{plain_key}
-use Rattle.wdl_typed.specs.Evaluation.{Met, Setting, from_cast, hole_text, met, settled, then_, value_of, value_step, wrong}
+use Rattle.wdl_typed.specs.Evaluation.{Met, Setting, from_cast, hole_text, settled, then_, value_of, value_step, wrong}
 use Rattle.wdl_typed.specs.KnownTypes.{is_some}
 use Rattle.wdl_typed.specs.Scope.{lookup}
 use Rattle.wdl_value.specs.Cast.{cast}
