@@ -5,6 +5,8 @@ mod coercion;
 mod function;
 mod joining;
 mod kind;
+#[cfg(test)]
+mod notation;
 mod operator;
 #[cfg(test)]
 mod tests;

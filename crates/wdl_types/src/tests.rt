@@ -1,315 +1,256 @@
+use crate::notation::{are, types};
 use crate::{coerces, function_type, join, operator_type};
-use sqlite_items::{Boxed, Items};
 use std::alloc::Global;
 use std::test::Fail;
-use wdl_value::{Func, FuncTyping, NoMemory, Op, OpTyping, Ty};
+use wdl_value::{Func, Op, Ty};
 
-fn option(alloc: Global, inner: Ty) -> Result<Ty, NoMemory> {
-    Ok(Ty::Opt(Boxed::new(alloc, inner)?))
-}
-
-fn array(alloc: Global, item: Ty, some: bool) -> Result<Ty, NoMemory> {
-    Ok(Ty::Array {
-        item: Boxed::new(alloc, item)?,
-        some,
-    })
-}
-
-fn map(alloc: Global, key: Ty, value: Ty) -> Result<Ty, NoMemory> {
-    Ok(Ty::Map {
-        key: Boxed::new(alloc, key)?,
-        value: Boxed::new(alloc, value)?,
-    })
-}
-
-fn pair(alloc: Global, left: Ty, right: Ty) -> Result<Ty, NoMemory> {
-    Ok(Ty::Pair {
-        left: Boxed::new(alloc, left)?,
-        right: Boxed::new(alloc, right)?,
-    })
-}
-
-/// `Array[Int]`, with `+` or without.
-fn ints(alloc: Global, some: bool) -> Result<Ty, NoMemory> {
-    array(alloc, Ty::Int, some)
-}
-
-/// `Array[Array[Int]]`, with `+` at both places or at none.
-fn rows(alloc: Global, some: bool) -> Result<Ty, NoMemory> {
-    let row = ints(alloc, some)?;
-    array(alloc, row, some)
-}
-
-fn texts(alloc: Global) -> Result<Ty, NoMemory> {
-    array(alloc, Ty::Str, false)
-}
-
-/// `Array[Pair[String, Int]]`.
-fn pairs(alloc: Global) -> Result<Ty, NoMemory> {
-    let item = pair(alloc, Ty::Str, Ty::Int)?;
-    array(alloc, item, false)
-}
-
-fn coerces_to(t: Ty, u: Ty) -> bool {
-    coerces(&t, &u)
+/// Whether each pair of types between bars coerces, or not.
+fn all_coerce(alloc: Global, cases: &str, expected: bool) -> Result<bool, Fail> {
+    for case in cases.split('|') {
+        match types(alloc, case)?.as_slice() {
+            [t, u] if coerces(t, u) == expected => {}
+            _ => return Ok(false),
+        }
+    }
+    Ok(true)
 }
 
 #[test]
 fn types_coerce_by_the_table(rt: HostRuntime) -> Result<(), Fail> {
     let alloc = rt.alloc();
-    assert!(rt; coerces_to(ints(alloc, true)?, texts(alloc)?));
-    assert!(rt; coerces_to(Ty::Int, option(alloc, Ty::Str)?));
-    assert!(rt; coerces_to(Ty::Absent, option(alloc, Ty::Int)?));
-    assert!(rt; coerces_to(Ty::Empty, Ty::Bool));
-    assert!(rt;
-        coerces_to(
-            map(alloc, Ty::Int, Ty::Str)?,
-            map(alloc, Ty::Str, Ty::File)?
-        )
-    );
-    assert!(rt; !coerces_to(map(alloc, Ty::Str, Ty::Str)?, map(alloc, Ty::Int, Ty::Str)?));
-    assert!(rt; !coerces_to(option(alloc, Ty::Int)?, Ty::Int));
-    assert!(rt; !coerces_to(Ty::Str, Ty::Int));
+    let accepted = "Int Int|empty Bool|none Int ?|none none|Int Str ?|Int ? Str ?|File Str|Bool Str|Int Str|Str File|Int []+ Str []|Int [] Int []+|Int Str {} Str File {}|Int Str () Str File ()";
+    assert!(rt; all_coerce(alloc, accepted, true)?);
+    let refused = "Int ? Int|none Int|Str Int|Int Bool|File Int|Str Str {} Int Str {}|Int [] Int|Int Int []|Str Int () Int Int ()|Int empty";
+    assert!(rt; all_coerce(alloc, refused, false)?);
     Ok(())
 }
 
-/// Whether two types join to this one, whichever comes first.
-fn joins(alloc: Global, t: Ty, u: Ty, joined: Ty) -> Result<bool, NoMemory> {
-    match (join(alloc, &t, &u)?, join(alloc, &u, &t)?) {
-        (Some(there), Some(back)) => Ok(there.same(&joined) && back.same(&joined)),
-        _ => Ok(false),
+/// Whether each pair of types between bars has the join right of `=`, whichever comes first.
+fn all_join(alloc: Global, cases: &str) -> Result<bool, Fail> {
+    for case in cases.split('|') {
+        let Some((pair, joined)) = case.split_once(" = ") else {
+            return Ok(false);
+        };
+        match types(alloc, pair)?.as_slice() {
+            [t, u] if joins(alloc, t, u, joined)? && joins(alloc, u, t, joined)? => {}
+            _ => return Ok(false),
+        }
     }
+    Ok(true)
 }
 
-/// Whether two types have no join.
-fn parts(alloc: Global, t: Ty, u: Ty) -> Result<bool, NoMemory> {
-    Ok(join(alloc, &t, &u)?.is_none())
+/// Whether two types have the join that is written so; `no` stands for none.
+fn joins(alloc: Global, t: &Ty, u: &Ty, expected: &str) -> Result<bool, Fail> {
+    match join(alloc, t, u)? {
+        Some(joined) => are(alloc, &[joined], expected),
+        None => Ok(expected == "no"),
+    }
 }
 
 #[test]
 fn types_join_by_the_table(rt: HostRuntime) -> Result<(), Fail> {
     let alloc = rt.alloc();
-    assert!(rt; joins(alloc, Ty::Str, Ty::File, Ty::Str)?);
-    assert!(rt; joins(alloc, Ty::Empty, Ty::Int, Ty::Int)?);
-    assert!(rt; joins(alloc, Ty::Absent, Ty::Int, option(alloc, Ty::Int)?)?);
-    assert!(rt;
-        joins(
-            alloc,
-            Ty::Int,
-            option(alloc, Ty::Int)?,
-            option(alloc, Ty::Int)?
-        )?
-    );
-    assert!(rt;
-        joins(
-            alloc,
-            ints(alloc, true)?,
-            ints(alloc, false)?,
-            ints(alloc, false)?
-        )?
-    );
-    assert!(rt; joins(alloc, pairs(alloc)?, pairs(alloc)?, pairs(alloc)?)?);
-    assert!(rt; parts(alloc, Ty::Int, Ty::Str)?);
-    assert!(rt; parts(alloc, ints(alloc, true)?, Ty::Int)?);
+    let cases = "Str File = Str|empty Int = Int|none Int = Int ?|none Int ? = Int ?|none none = none|Int Int ? = Int ?|Str ? File ? = Str ?|Int []+ Int [] = Int []|Int []+ Int []+ = Int []+|Str [] File []+ = Str []|Str Int () File Int () = Str Int ()|Str Int {} Str empty {} = Str Int {}|Int Str = no|Bool Int = no|Int []+ Int = no|Str Int () Str Bool () = no|Int ? Str = no";
+    assert!(rt; all_join(alloc, cases)?);
     Ok(())
 }
 
-/// Whether operands of the types give a result of this type.
+/// Whether each pair of operands between bars has the row right of `=`: the types of both operands and the result, or `no`.
+fn all_operate(alloc: Global, op: Op, placeholder: bool, cases: &str) -> Result<bool, Fail> {
+    for case in cases.split('|') {
+        let Some((operands, row)) = case.split_once(" = ") else {
+            return Ok(false);
+        };
+        match types(alloc, operands)?.as_slice() {
+            [t, u] if operates(alloc, op, t, u, placeholder, row)? => {}
+            _ => return Ok(false),
+        }
+    }
+    Ok(true)
+}
+
 fn operates(
     alloc: Global,
     op: Op,
-    left: Ty,
-    right: Ty,
+    t: &Ty,
+    u: &Ty,
     placeholder: bool,
-    gives: Ty,
-) -> Result<bool, NoMemory> {
-    match operator_type(alloc, op, &left, &right, placeholder)? {
-        Some(OpTyping { result, .. }) => Ok(result.same(&gives)),
-        None => Ok(false),
+    expected: &str,
+) -> Result<bool, Fail> {
+    match operator_type(alloc, op, t, u, placeholder)? {
+        Some(row) => are(alloc, &[row.left, row.right, row.result], expected),
+        None => Ok(expected == "no"),
     }
-}
-
-/// Whether an operator has no row for operands of the types.
-fn refuses(
-    alloc: Global,
-    op: Op,
-    left: Ty,
-    right: Ty,
-    placeholder: bool,
-) -> Result<bool, NoMemory> {
-    Ok(operator_type(alloc, op, &left, &right, placeholder)?.is_none())
 }
 
 #[test]
 fn operators_are_typed_by_the_table(rt: HostRuntime) -> Result<(), Fail> {
     let alloc = rt.alloc();
-    assert!(rt; operates(alloc, Op::Mul, Ty::Int, Ty::Int, false, Ty::Int)?);
-    assert!(rt; operates(alloc, Op::Add, Ty::Int, Ty::File, false, Ty::Str)?);
-    assert!(rt; operates(alloc, Op::Lt, Ty::Str, Ty::Str, false, Ty::Bool)?);
-    assert!(rt; operates(alloc, Op::Eq, Ty::Absent, Ty::Int, false, Ty::Bool)?);
-    assert!(rt; operates(alloc, Op::Or, Ty::Bool, Ty::Bool, false, Ty::Bool)?);
-    assert!(rt; refuses(alloc, Op::Lt, Ty::File, Ty::File, false)?);
-    assert!(rt; refuses(alloc, Op::Eq, Ty::Int, Ty::Str, false)?);
-    assert!(rt; refuses(alloc, Op::Eq, Ty::Empty, Ty::Str, false)?);
+    for (op, cases) in [
+        (
+            Op::Mul,
+            "Int Int = Int Int Int|Int Str = no|Int ? Int = no|empty Int = no",
+        ),
+        (Op::Div, "Int Int = Int Int Int|Bool Int = no"),
+        (Op::Rem, "Int Int = Int Int Int|Int File = no"),
+        (Op::Sub, "Int Int = Int Int Int|Str Str = no"),
+        (
+            Op::Add,
+            "Int Int = Int Int Int|Str Str = Str Str Str|Int File = Int File Str|File Bool = File Bool Str|Bool Int = no|Str ? Str = no|Str none = no|Str Str [] = no",
+        ),
+        (
+            Op::Lt,
+            "Int Int = Int Int Bool|Bool Bool = Bool Bool Bool|Str Str = Str Str Bool|File File = no|Int Str = no",
+        ),
+        (Op::Ge, "Str Str = Str Str Bool|Str File = no"),
+        (
+            Op::Eq,
+            "Int Int = Int Int Bool|none Int = Int ? Int ? Bool|Str File = Str Str Bool|Int []+ Int [] = Int [] Int [] Bool|Int Str = no|empty Str = no",
+        ),
+        (Op::Ne, "Bool Bool = Bool Bool Bool|Bool Str = no"),
+        (Op::And, "Bool Bool = Bool Bool Bool|Bool Int = no"),
+        (Op::Or, "Bool Bool = Bool Bool Bool|Bool ? Bool = no"),
+    ] {
+        assert!(rt; all_operate(alloc, op, false, cases)?, "{op:?}");
+    }
     Ok(())
 }
 
 #[test]
 fn plus_takes_undefined_operands_in_a_placeholder_alone(rt: HostRuntime) -> Result<(), Fail> {
     let alloc = rt.alloc();
-    let gives = option(alloc, Ty::Str)?;
-    assert!(rt;
-        operates(
-            alloc,
-            Op::Add,
-            option(alloc, Ty::Int)?,
-            Ty::Str,
-            true,
-            gives
-        )?
-    );
-    let gives = option(alloc, Ty::Str)?;
-    assert!(rt; operates(alloc, Op::AddMaybe, Ty::Absent, Ty::Int, true, gives)?);
-    assert!(rt; refuses(alloc, Op::Add, option(alloc, Ty::Int)?, Ty::Str, false)?);
-    assert!(rt; refuses(alloc, Op::Add, option(alloc, Ty::Int)?, Ty::Int, true)?);
+    let cases = "Int ? Str = Int ? Str Str ?|Str none = Str none Str ?|none Int = none Int Str ?|Int ? Int = no|Int ? Int ? = no|Str [] none = no";
+    assert!(rt; all_operate(alloc, Op::AddMaybe, true, cases)?);
+    assert!(rt; all_operate(alloc, Op::Add, true, cases)?);
+    assert!(rt; all_operate(alloc, Op::Add, true, "Str Int = Str Int Str|Int Int = Int Int Int")?);
+    assert!(rt; all_operate(alloc, Op::Add, false, "Int ? Str = no|Str none = no")?);
     Ok(())
 }
 
-/// Whether a function of one argument gives a result of this type.
-fn applies(alloc: Global, f: Func, arg: Ty, gives: Ty) -> Result<bool, NoMemory> {
-    let mut args = Items::new(alloc);
-    args.push(arg)?;
-    match function_type(alloc, f, args.as_slice())? {
-        Some(FuncTyping { result, .. }) => Ok(result.same(&gives)),
-        None => Ok(false),
+/// Whether each list of arguments between bars has the row right of `=`: the types of the parameters and the result, or `no`.
+fn all_apply(alloc: Global, f: Func, cases: &str) -> Result<bool, Fail> {
+    for case in cases.split('|') {
+        let Some((args, row)) = case.split_once(" = ") else {
+            return Ok(false);
+        };
+        if !applies(alloc, f, types(alloc, args)?.as_slice(), row)? {
+            return Ok(false);
+        }
     }
+    Ok(true)
+}
+
+fn applies(alloc: Global, f: Func, args: &[Ty], expected: &str) -> Result<bool, Fail> {
+    let Some(row) = function_type(alloc, f, args)? else {
+        return Ok(expected == "no");
+    };
+    let Some((params, result)) = expected.split_once(" : ") else {
+        return Ok(false);
+    };
+    Ok(are(alloc, row.args.as_slice(), params)? && are(alloc, &[row.result], result)?)
 }
 
 #[test]
-fn functions_of_lists_are_typed_by_the_table(rt: HostRuntime) -> Result<(), Fail> {
+fn functions_of_numbers_and_lists_are_typed_by_the_table(rt: HostRuntime) -> Result<(), Fail> {
     let alloc = rt.alloc();
-    assert!(rt; applies(alloc, Func::Length, ints(alloc, true)?, Ty::Int)?);
-    assert!(rt;
-        applies(
-            alloc,
+    for (f, cases) in [
+        (
+            Func::Min,
+            "Int Int = Int Int : Int|Int = no|Int Str = no|Int Int Int = no",
+        ),
+        (Func::Max, "Int Int = Int Int : Int|Int ? Int = no"),
+        (
+            Func::Length,
+            "Int []+ = Int [] : Int|empty [] = empty [] : Int|empty = empty [] : Int|Int = no",
+        ),
+        (Func::Range, "Int = Int : Int []|Str = no"),
+        (
             Func::Transpose,
-            rows(alloc, true)?,
-            rows(alloc, false)?
-        )?
-    );
-    assert!(rt;
-        applies(
-            alloc,
-            Func::Flatten,
-            rows(alloc, true)?,
-            ints(alloc, false)?
-        )?
-    );
-    assert!(rt; applies(alloc, Func::Quote, ints(alloc, true)?, texts(alloc)?)?);
-    assert!(rt; applies(alloc, Func::SelectFirst, ints(alloc, true)?, Ty::Int)?);
-    assert!(rt;
-        applies(
-            alloc,
-            Func::SelectAll,
-            ints(alloc, true)?,
-            ints(alloc, false)?
-        )?
-    );
-    assert!(rt; !applies(alloc, Func::Quote, pairs(alloc)?, texts(alloc)?)?);
+            "Int []+ []+ = Int [] [] : Int [] []|Int [] = no|empty [] = empty [] [] : empty [] []",
+        ),
+        (
+            Func::Cross,
+            "Str [] Int []+ = Str [] Int [] : Str Int () []|Int Int [] = no",
+        ),
+        (Func::Zip, "Str []+ Int [] = Str [] Int [] : Str Int () []"),
+        (
+            Func::Unzip,
+            "Str Int () []+ = Str Int () [] : Str [] Int [] ()|Int [] = no",
+        ),
+        (Func::Flatten, "Int []+ [] = Int [] [] : Int []|Int [] = no"),
+        (
+            Func::SelectFirst,
+            "Int ? [] = Int ? [] : Int|Int []+ = Int ? [] : Int|none [] = empty ? [] : empty",
+        ),
+        (Func::SelectAll, "Int ? []+ = Int ? [] : Int []|Int = no"),
+        (
+            Func::Defined,
+            "none = none : Bool|Int ? = Int ? : Bool|Int = Int : Bool",
+        ),
+    ] {
+        assert!(rt; all_apply(alloc, f, cases)?, "{f:?}");
+    }
     Ok(())
 }
 
 #[test]
-fn functions_of_maps_are_typed_by_the_table(rt: HostRuntime) -> Result<(), Fail> {
+fn functions_of_texts_and_maps_are_typed_by_the_table(rt: HostRuntime) -> Result<(), Fail> {
     let alloc = rt.alloc();
-    let parts = pair(alloc, texts(alloc)?, ints(alloc, false)?)?;
-    assert!(rt; applies(alloc, Func::Unzip, pairs(alloc)?, parts)?);
-    assert!(rt;
-        applies(
-            alloc,
-            Func::AsMap,
-            pairs(alloc)?,
-            map(alloc, Ty::Str, Ty::Int)?
-        )?
-    );
-    assert!(rt;
-        applies(
-            alloc,
+    for (f, cases) in [
+        (
+            Func::Prefix,
+            "Int Int []+ = Str Int [] : Str []|Str Int [] [] = no",
+        ),
+        (Func::Suffix, "Str File [] = Str File [] : Str []"),
+        (Func::Quote, "Int []+ = Int [] : Str []|Str Int () [] = no"),
+        (Func::Squote, "Bool [] = Bool [] : Str []|Int ? [] = no"),
+        (Func::Sep, "Str Int [] = Str Int [] : Str|Int [] Str = no"),
+        (
             Func::AsPairs,
-            map(alloc, Ty::Str, Ty::Int)?,
-            pairs(alloc)?
-        )?
-    );
-    assert!(rt;
-        applies(
-            alloc,
+            "Str Int {} = Str Int {} : Str Int () []|Int [] = no",
+        ),
+        (
+            Func::AsMap,
+            "Str Int () [] = Str Int () [] : Str Int {}|Str [] Int () [] = no",
+        ),
+        (
             Func::Keys,
-            map(alloc, Ty::Str, Ty::Int)?,
-            texts(alloc)?
-        )?
-    );
-    let grouped = map(alloc, Ty::Str, ints(alloc, false)?)?;
-    assert!(rt; applies(alloc, Func::CollectByKey, pairs(alloc)?, grouped)?);
-    assert!(rt;
-        applies(
-            alloc,
-            Func::Keys,
-            Ty::Empty,
-            array(alloc, Ty::Empty, false)?
-        )?
-    );
+            "Str Int {} = Str Int {} : Str []|empty = empty empty {} : empty []",
+        ),
+        (
+            Func::CollectByKey,
+            "Str Int () []+ = Str Int () [] : Str Int [] {}|Int ? Int () [] = no",
+        ),
+        (
+            Func::Basename,
+            "File = Str : Str|File Str = Str Str : Str|Int [] = no",
+        ),
+    ] {
+        assert!(rt; all_apply(alloc, f, cases)?, "{f:?}");
+    }
     Ok(())
 }
 
 #[test]
 fn functions_of_files_are_typed_by_the_table(rt: HostRuntime) -> Result<(), Fail> {
     let alloc = rt.alloc();
-    assert!(rt; applies(alloc, Func::ReadMap, Ty::Str, map(alloc, Ty::Str, Ty::Str)?)?);
-    assert!(rt; applies(alloc, Func::WriteTsv, rows(alloc, true)?, Ty::File)?);
-    assert!(rt; applies(alloc, Func::Defined, Ty::Absent, Ty::Bool)?);
-    assert!(rt; !applies(alloc, Func::Min, Ty::Int, Ty::Int)?);
-    Ok(())
-}
-
-/// Whether a function of two arguments gives a result of this type.
-fn applies_to_two(
-    alloc: Global,
-    f: Func,
-    first: Ty,
-    second: Ty,
-    gives: Ty,
-) -> Result<bool, NoMemory> {
-    let mut args = Items::new(alloc);
-    args.push(first)?;
-    args.push(second)?;
-    match function_type(alloc, f, args.as_slice())? {
-        Some(FuncTyping { result, .. }) => Ok(result.same(&gives)),
-        None => Ok(false),
+    for (f, cases) in [
+        (Func::Glob, "Str = Str : File []|Int [] = no"),
+        (Func::ReadString, "File = File : Str|Int = no"),
+        (Func::ReadLines, "Str = File : Str []"),
+        (Func::ReadInt, "File = File : Int"),
+        (Func::ReadBoolean, "File = File : Bool"),
+        (Func::ReadTsv, "File = File : Str [] []"),
+        (Func::ReadMap, "Str = File : Str Str {}"),
+        (Func::WriteLines, "Int []+ = Str [] : File|Int = no"),
+        (Func::WriteTsv, "Int [] [] = Str [] [] : File"),
+        (Func::WriteMap, "Int Bool {} = Str Str {} : File"),
+    ] {
+        assert!(rt; all_apply(alloc, f, cases)?, "{f:?}");
     }
-}
-
-#[test]
-fn functions_of_two_are_typed_by_the_table(rt: HostRuntime) -> Result<(), Fail> {
-    let alloc = rt.alloc();
-    assert!(rt; applies_to_two(alloc, Func::Min, Ty::Int, Ty::Int, Ty::Int)?);
-    assert!(rt;
-        applies_to_two(
-            alloc,
-            Func::Zip,
-            texts(alloc)?,
-            ints(alloc, true)?,
-            pairs(alloc)?
-        )?
-    );
-    assert!(rt;
-        applies_to_two(
-            alloc,
-            Func::Prefix,
-            Ty::Int,
-            ints(alloc, true)?,
-            texts(alloc)?
-        )?
-    );
-    assert!(rt; applies_to_two(alloc, Func::Basename, Ty::File, Ty::Str, Ty::Str)?);
+    for f in [Func::Stdout, Func::Stderr] {
+        assert!(rt; function_type(alloc, f, &[])?.is_some(), "{f:?}");
+        assert!(rt; all_apply(alloc, f, "Int = no")?, "{f:?}");
+    }
     Ok(())
 }
