@@ -18,9 +18,11 @@ fn all_coerce(alloc: Global, cases: &str, expected: bool) -> Result<bool, Fail> 
 #[test]
 fn types_coerce_by_the_table(rt: HostRuntime) -> Result<(), Fail> {
     let alloc = rt.alloc();
-    let accepted = "Int Int|empty Bool|none Int ?|none none|Int Str ?|Int ? Str ?|File Str|Bool Str|Int Str|Str File|Int []+ Str []|Int [] Int []+|Int Str {} Str File {}|Int Str () Str File ()";
+    let accepted =
+        "Int Int|empty Bool|none Int ?|none none|Int Str ?|Int ? Str ?|File Str|Bool Str|Int Str|Str File|Int []+ Str []|Int [] Int []+|Int Str {} Str File {}|Int Str () Str File ()";
     assert!(rt; all_coerce(alloc, accepted, true)?);
-    let refused = "Int ? Int|none Int|Str Int|Int Bool|File Int|Str Str {} Int Str {}|Int [] Int|Int Int []|Str Int () Int Int ()|Int empty";
+    let refused =
+        "Int ? Int|none Int|Str Int|Int Bool|File Int|Str Str {} Int Str {}|Int [] Int|Int Int []|Str Int () Int Int ()|Int empty";
     assert!(rt; all_coerce(alloc, refused, false)?);
     Ok(())
 }
@@ -50,7 +52,8 @@ fn joins(alloc: Global, t: &Ty, u: &Ty, expected: &str) -> Result<bool, Fail> {
 #[test]
 fn types_join_by_the_table(rt: HostRuntime) -> Result<(), Fail> {
     let alloc = rt.alloc();
-    let cases = "Str File = Str|empty Int = Int|none Int = Int ?|none Int ? = Int ?|none none = none|Int Int ? = Int ?|Str ? File ? = Str ?|Int []+ Int [] = Int []|Int []+ Int []+ = Int []+|Str [] File []+ = Str []|Str Int () File Int () = Str Int ()|Str Int {} Str empty {} = Str Int {}|Int Str = no|Bool Int = no|Int []+ Int = no|Str Int () Str Bool () = no|Int ? Str = no";
+    let cases =
+        "Str File = Str|empty Int = Int|none Int = Int ?|none Int ? = Int ?|none none = none|Int Int ? = Int ?|Str ? File ? = Str ?|Int []+ Int [] = Int []|Int []+ Int []+ = Int []+|Str [] File []+ = Str []|Str Int () File Int () = Str Int ()|Str Int {} Str empty {} = Str Int {}|Int Str = no|Bool Int = no|Int []+ Int = no|Str Int () Str Bool () = no|Int ? Str = no";
     assert!(rt; all_join(alloc, cases)?);
     Ok(())
 }
@@ -119,10 +122,18 @@ fn operators_are_typed_by_the_table(rt: HostRuntime) -> Result<(), Fail> {
 #[test]
 fn plus_takes_undefined_operands_in_a_placeholder_alone(rt: HostRuntime) -> Result<(), Fail> {
     let alloc = rt.alloc();
-    let cases = "Int ? Str = Int ? Str Str ?|Str none = Str none Str ?|none Int = none Int Str ?|Int ? Int = no|Int ? Int ? = no|Str [] none = no";
+    let cases =
+        "Int ? Str = Int ? Str Str ?|Str none = Str none Str ?|none Int = none Int Str ?|Int ? Int = no|Int ? Int ? = no|Str [] none = no";
     assert!(rt; all_operate(alloc, Op::AddMaybe, true, cases)?);
     assert!(rt; all_operate(alloc, Op::Add, true, cases)?);
-    assert!(rt; all_operate(alloc, Op::Add, true, "Str Int = Str Int Str|Int Int = Int Int Int")?);
+    assert!(rt;
+        all_operate(
+            alloc,
+            Op::Add,
+            true,
+            "Str Int = Str Int Str|Int Int = Int Int Int"
+        )?
+    );
     assert!(rt; all_operate(alloc, Op::Add, false, "Int ? Str = no|Str none = no")?);
     Ok(())
 }
