@@ -82,14 +82,14 @@ nothing = record { names = []; calls = []; jobs = []; faults = []; waits = []; c
 
 abbrev pub together : Flowing → Flowing → Flowing
 together f g =
-    record
-      { names = f.names ++ g.names
-      ; calls = f.calls ++ g.calls
-      ; jobs = f.jobs ++ g.jobs
-      ; faults = f.faults ++ g.faults
-      ; waits = f.waits ++ g.waits
-      ; count = f.count + g.count
-      }
+    record {
+      names = f.names ++ g.names;
+      calls = f.calls ++ g.calls;
+      jobs = f.jobs ++ g.jobs;
+      faults = f.faults ++ g.faults;
+      waits = f.waits ++ g.waits;
+      count = f.count + g.count;
+    }
 
 -- what a statement sees: names, calls, and the place of its body's instance
 pub record Sight : Type 0 where
@@ -236,7 +236,7 @@ attempts r n place t call a zero attempt =
     with_jobs (request r.site place attempt a ∷ []) (attempted r n place t call a attempt true (missing n) (answer_at r.table place attempt))
 attempts r n place t call a (suc left) attempt =
     with_jobs (request r.site place attempt a ∷ [])
-        (attempted r n place t call a attempt false (attempts r n place t call a left (attempt + 1)) (answer_at r.table place attempt))
+    (attempted r n place t call a attempt false (attempts r n place t call a left (attempt + 1)) (answer_at r.table place attempt))
 
 abbrev pub asked : Run → Names → List Segment → TaskDef → List ℕ → Tried Asked → Flowing
 asked r n place t call (Ok a) = attempts r n place t call a a.retries 0
@@ -261,14 +261,14 @@ is_clean f = is_empty f.faults && is_empty f.waits
 
 abbrev pub flow_ended : List ℕ → List TDecl → Flowing → Flowing
 flow_ended call outs f =
-    record
-      { names = map (output_of f.names call) outs
-      ; calls = record { call = call; ended = is_clean f } ∷ []
-      ; jobs = f.jobs
-      ; faults = f.faults
-      ; waits = f.waits
-      ; count = f.count
-      }
+    record {
+      names = map (output_of f.names call) outs;
+      calls = record { call = call; ended = is_clean f } ∷ [];
+      jobs = f.jobs;
+      faults = f.faults;
+      waits = f.waits;
+      count = f.count;
+    }
 
 abbrev pub task_called : Run → Names → List Segment → List ℕ → List Bind → Option TaskDef → Flowing
 task_called r n place call args None = missing n
