@@ -1,0 +1,4 @@
+pub mod Back
+pub mod Lines
+pub mod Within
+pub mod Written

@@ -1,0 +1,5 @@
+pub mod Gives
+pub mod Glob
+pub mod Groups
+pub mod Laws
+pub mod Trims

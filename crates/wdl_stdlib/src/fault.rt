@@ -1,0 +1,36 @@
+ghost use Rattle.std.specs.Prelude.{◌≡◌};
+ghost use Rattle.wdl_stdlib.specs.declared.fault.EvalFault.TheVariants.{NoMemory as OutOfMemory};
+
+use std::alloc::{AllocError, AllocFailed};
+use wdl_value::{EvalCode, NoMemory};
+
+/// Why an evaluation gives no value: one of the codes 501 to 516, or want of memory.
+#[derive(Clone, Copy, Debug, PartialEq, Eq)]
+pub enum EvalFault {
+    Code(EvalCode),
+    NoMemory,
+}
+
+impl From<NoMemory> for EvalFault {
+    ghost from_gives = { λ _ e. e ≡ OutOfMemory };
+
+    fn from(_e: NoMemory) -> EvalFault {
+        EvalFault::NoMemory
+    }
+}
+
+impl From<AllocError> for EvalFault {
+    ghost from_gives = { λ _ e. e ≡ OutOfMemory };
+
+    fn from(_e: AllocError) -> EvalFault {
+        EvalFault::NoMemory
+    }
+}
+
+impl<T: Drop> From<AllocFailed<T>> for EvalFault {
+    ghost from_gives = { λ _ e. e ≡ OutOfMemory };
+
+    fn from(_e: AllocFailed<T>) -> EvalFault {
+        EvalFault::NoMemory
+    }
+}
