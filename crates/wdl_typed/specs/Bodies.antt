@@ -241,7 +241,7 @@ is_decl y = false
 
 -- At most that many blocks and calls stand on each path through the statement and the workflows that it calls. Workflows
 -- that call each other in a circle have a path that is longer.
-pub nests : List FlowDef → ℕ → Statement-F Statement → Bool
+unfoldable pub nests : List FlowDef → ℕ → Statement-F Statement → Bool
 nests flows zero y = is_decl y
 nests flows (suc n) y = nests_at (list_all (λ (s : Statement). nests flows n (out-Statement s))) flows y
 

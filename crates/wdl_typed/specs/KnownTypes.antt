@@ -63,7 +63,7 @@ some_structs None = []
 some_structs (Some ms) = members_structs ms
 
 -- A struct's members lead through at most that many structs, itself among them; a circle leads through more.
-pub is_shallow : ℕ → Structs → List ℕ → Bool
+unfoldable pub is_shallow : ℕ → Structs → List ℕ → Bool
 is_shallow zero structs name = false
 is_shallow (suc n) structs name = list_all (is_shallow n structs) (some_structs (members_of structs name))
 
