@@ -3,75 +3,87 @@ use std::test::Fail;
 use wdl_files::{WrittenFault, written_name, written_text};
 use wdl_value::{Func, Items, MapRow, Text, Value};
 
-fn str(alloc: Global, s: &str) -> Result<Value, Fail> {
-    Ok(Value::Str(Text::new(alloc, s)?))
-}
-
-fn strs(alloc: Global, texts: &[&str]) -> Result<Value, Fail> {
+/// The texts between commas, in a list.
+fn texts(alloc: Global, line: &str) -> Result<Value, Fail> {
     let mut items = Items::new(alloc);
-    for s in texts {
-        items.push(str(alloc, s)?)?;
+    if line.is_empty() {
+        return Ok(Value::List(items));
+    }
+    for text in line.split(',') {
+        items.push(Value::Str(Text::new(alloc, text)?))?;
     }
     Ok(Value::List(items))
 }
 
-fn writes(alloc: Global, f: Func, v: &Value, expected: &str) -> bool {
-    match written_text(alloc, f, v) {
+/// A list of such lists, between semicolons.
+fn rows(alloc: Global, lines: &str) -> Result<Value, Fail> {
+    let mut rows = Items::new(alloc);
+    for line in lines.split(';') {
+        rows.push(texts(alloc, line)?)?;
+    }
+    Ok(Value::List(rows))
+}
+
+fn entry(alloc: Global, key: &str, value: &str) -> Result<MapRow<Value>, Fail> {
+    let key = Value::Str(Text::new(alloc, key)?);
+    let value = Value::Str(Text::new(alloc, value)?);
+    Ok(MapRow { key, value })
+}
+
+/// A map of the keys before commas, between semicolons.
+fn entries(alloc: Global, lines: &str) -> Result<Value, Fail> {
+    let mut rows = Items::new(alloc);
+    for line in lines.split(';') {
+        if let Some((key, value)) = line.split_once(',') {
+            rows.push(entry(alloc, key, value)?)?;
+        }
+    }
+    Ok(Value::Map(rows))
+}
+
+fn writes(alloc: Global, f: Func, v: Value, expected: &str) -> bool {
+    match written_text(alloc, f, &v) {
         Ok(text) => text.as_str() == expected,
         Err(_) => false,
     }
 }
 
-fn is_too_large(alloc: Global, v: &Value) -> bool {
-    match written_text(alloc, Func::WriteLines, v) {
+fn is_too_large(alloc: Global, v: Value) -> bool {
+    match written_text(alloc, Func::WriteLines, &v) {
         Err(fault) => fault == WrittenFault::TooLarge,
         Ok(_) => false,
     }
 }
 
 #[test]
-fn files_are_written(rt: HostRuntime) -> Result<(), Fail> {
+fn lists_are_written_as_lines(rt: HostRuntime) -> Result<(), Fail> {
     let alloc = rt.alloc();
-    for (texts, expected) in [
-        (&["a", "b"][..], "a\nb\n"),
-        (&["", "b\r"], "\nb\r\n"),
-        (&[], ""),
-    ] {
-        let v = strs(alloc, texts)?;
+    for (line, expected) in [("a,b", "a\nb\n"), (",b\r", "\nb\r\n"), ("", "")] {
         assert!(rt;
-            writes(alloc, Func::WriteLines, &v, expected),
-            "{expected:?}"
+            writes(alloc, Func::WriteLines, texts(alloc, line)?, expected),
+            "{line:?}"
         );
     }
-    let rows = Value::List(Items::from_vec(vec![in alloc;
-        strs(alloc, &["a", "", "c"])?,
-        strs(alloc, &[])?,
-        strs(alloc, &["d"])?,
-    ]?));
-    assert!(rt; writes(alloc, Func::WriteTsv, &rows, "a\t\tc\n\nd\n"));
-    let map = Value::Map(Items::from_vec(vec![in alloc;
-        MapRow {
-            key: str(alloc, "k")?,
-            value: str(alloc, "x y")?
-        },
-        MapRow {
-            key: str(alloc, "")?,
-            value: str(alloc, "")?
-        },
-    ]?));
-    assert!(rt; writes(alloc, Func::WriteMap, &map, "k\tx y\n\t\n"));
+    Ok(())
+}
+
+#[test]
+fn tables_and_maps_are_written_with_tabs(rt: HostRuntime) -> Result<(), Fail> {
+    let alloc = rt.alloc();
+    let table = rows(alloc, "a,,c;;d")?;
+    assert!(rt; writes(alloc, Func::WriteTsv, table, "a\t\tc\n\nd\n"));
+    let map = entries(alloc, "k,x y;,")?;
+    assert!(rt; writes(alloc, Func::WriteMap, map, "k\tx y\n\t\n"));
     Ok(())
 }
 
 #[test]
 fn long_files_are_refused(rt: HostRuntime) -> Result<(), Fail> {
     let alloc = rt.alloc();
-    let most = "abcde".repeat(alloc, 13_107)?;
-    let v = strs(alloc, &[most.as_str()])?;
-    assert!(rt; most.len() == 65_535);
-    assert!(rt; !is_too_large(alloc, &v));
-    let v = strs(alloc, &[most.as_str(), ""])?;
-    assert!(rt; is_too_large(alloc, &v));
+    let mut most = "abcde".repeat(alloc, 13_107)?;
+    assert!(rt; !is_too_large(alloc, texts(alloc, most.as_str())?));
+    most.push('f')?;
+    assert!(rt; is_too_large(alloc, texts(alloc, most.as_str())?));
     Ok(())
 }
 

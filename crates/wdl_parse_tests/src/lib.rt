@@ -1,6 +1,0 @@
-//! Tests of the readers of tokens. They stand in a crate of their own, since the gate proves a crate once more for the
-//! tests in it.
-#![tactic(auto)]
-
-#[cfg(test)]
-mod expr;
