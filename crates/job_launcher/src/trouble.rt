@@ -1,3 +1,8 @@
+ghost use Rattle.std.specs.Prelude.{◌≡◌, ◌↔◌};
+ghost use Rattle.job_launcher.specs.declared.trouble.Trouble.TheVariants.{NoMemory as OutOfMemory};
+ghost use Rattle.wdl_base.specs.declared.error.TextFault.TheVariants.{NoMemory as TextNoMemory};
+ghost use Rattle.wdl_port.specs.declared.fault.LaunchFault.TheVariants.{NoMemory as LaunchNoMemory};
+
 use std::alloc::{AllocError, AllocFailed};
 use std::io::{Error, ErrorKind};
 use wdl_port::LaunchFault;
@@ -20,6 +25,8 @@ impl From<Error> for Trouble {
 }
 
 impl From<TextFault> for Trouble {
+    ghost from_gives = { λ e t. (t ≡ OutOfMemory) ↔ (e ≡ TextNoMemory) };
+
     fn from(e: TextFault) -> Trouble {
         match e {
             TextFault::Nul => Trouble::Refused,
@@ -29,24 +36,32 @@ impl From<TextFault> for Trouble {
 }
 
 impl From<NoMemory> for Trouble {
+    ghost from_gives = { λ _ t. t ≡ OutOfMemory };
+
     fn from(_e: NoMemory) -> Trouble {
         Trouble::NoMemory
     }
 }
 
 impl From<AllocError> for Trouble {
+    ghost from_gives = { λ _ t. t ≡ OutOfMemory };
+
     fn from(_e: AllocError) -> Trouble {
         Trouble::NoMemory
     }
 }
 
 impl<T: Drop> From<AllocFailed<T>> for Trouble {
+    ghost from_gives = { λ _ t. t ≡ OutOfMemory };
+
     fn from(_e: AllocFailed<T>) -> Trouble {
         Trouble::NoMemory
     }
 }
 
 impl From<Trouble> for LaunchFault {
+    ghost from_gives = { λ e t. (t ≡ LaunchNoMemory) ↔ (e ≡ OutOfMemory) };
+
     fn from(e: Trouble) -> LaunchFault {
         match e {
             Trouble::Refused => LaunchFault::Refused,
