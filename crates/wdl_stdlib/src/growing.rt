@@ -18,6 +18,7 @@ pub struct Growing {
 }
 
 impl Growing {
+    /// A list without items.
     pub fn new(alloc: Global) -> Growing
         ensures { result.items ≡ [] }
     {
@@ -45,6 +46,7 @@ impl Growing {
         Ok(Growing { items, bytes })
     }
 
+    /// The list as a value.
     pub fn into_value(self) -> Value
         ensures { result ≡ v.List self.items }
     {

@@ -32,6 +32,7 @@ fn zipped(alloc: Global, xs: &[Value], ys: &[Value]) -> Result<Items<Value>, Eva
     Err(EvalFault::Code(EvalCode::LengthsDiffer))
 }
 
+/// Pairs of the items at equal places; `LengthsDiffer` where the lengths differ.
 pub fn zip(alloc: Global, x: &Value, y: &Value) -> Result<Value, EvalFault>
     ensures { Gives (spec.zip_of x.now y.now) result }
 {
@@ -58,6 +59,7 @@ fn rights(alloc: Global, pairs: &[Value]) -> Result<Items<Value>, NoMemory>
     Ok(items)
 }
 
+/// The list of the left parts and the list of the right parts.
 pub fn unzip(alloc: Global, x: &Value) -> Result<Value, EvalFault>
     ensures { Gives (spec.unzip_of x.now) result }
 {
@@ -77,6 +79,7 @@ fn appended(alloc: Global, mut all: Items<Value>, items: &[Value]) -> Result<Ite
     Ok(all)
 }
 
+/// The items of all lists, in order; it stops at the limit of a value.
 pub fn flatten(alloc: Global, x: &Value) -> Result<Value, EvalFault>
     ensures { Gives (spec.flatten_of x.now) result }
 {
@@ -114,6 +117,7 @@ fn crossed(alloc: Global, xs: &[Value], ys: &[Value]) -> Result<Value, EvalFault
     Ok(pairs.into_value())
 }
 
+/// Each item of the first list with each of the second, row by row; it stops at the limit of a value.
 pub fn cross(alloc: Global, x: &Value, y: &Value) -> Result<Value, EvalFault>
     ensures { Makes (spec.cross_of x.now y.now) result }
 {
@@ -171,6 +175,7 @@ fn columns(alloc: Global, rows: &[Value]) -> Result<Items<Value>, NoMemory>
     Ok(columns)
 }
 
+/// The columns of the rows; `LengthsDiffer` where the rows differ in length.
 pub fn transpose(alloc: Global, x: &Value) -> Result<Value, EvalFault>
     ensures { Gives (spec.transpose_of x.now) result }
 {

@@ -21,6 +21,7 @@ pub fn pair(alloc: Global, left: &Value, right: &Value) -> Result<Value, NoMemor
     Ok(Value::Pair(Boxed::new(alloc, left)?, Boxed::new(alloc, right)?))
 }
 
+/// The rows of a map as pairs, in order.
 pub fn as_pairs(alloc: Global, x: &Value) -> Result<Value, EvalFault>
     ensures { Gives (spec.as_pairs_of x.now) result }
 {
@@ -32,6 +33,7 @@ pub fn as_pairs(alloc: Global, x: &Value) -> Result<Value, EvalFault>
     Ok(Value::List(pairs))
 }
 
+/// The keys of a map, in order.
 pub fn keys(alloc: Global, x: &Value) -> Result<Value, EvalFault>
     ensures { Gives (spec.keys_of x.now) result }
 {
@@ -77,6 +79,7 @@ fn rows_of(alloc: Global, pairs: &[Value]) -> Result<Items<MapRow<Value>>, NoMem
     Ok(rows)
 }
 
+/// The pairs as the rows of a map; `RepeatedKey` where two have one key. Its time is n log n in the pairs.
 pub fn as_map(alloc: Global, x: &Value) -> Result<Value, EvalFault>
     ensures { Gives (spec.as_map_of x.now) result }
 {
@@ -121,6 +124,7 @@ fn collected(
     Ok(rows)
 }
 
+/// The right parts by the left ones, keys by first appearance. Its time is n log n in the pairs.
 pub fn collect_by_key(alloc: Global, x: &Value) -> Result<Value, EvalFault>
     ensures { Gives (spec.collect_by_key_of x.now) result }
 {

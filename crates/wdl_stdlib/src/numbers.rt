@@ -10,18 +10,21 @@ use crate::parts::{int_in, items_in};
 use std::alloc::Global;
 use wdl_value::{EvalCode, ITEM_LIMIT, Items, Value};
 
+/// The smaller of two numbers.
 pub fn least(x: &Value, y: &Value) -> Result<Value, EvalFault>
     ensures { Gives (spec.least x.now y.now) result }
 {
     Ok(Value::Int(int_in(x).min(int_in(y))))
 }
 
+/// The greater of two numbers.
 pub fn greatest(x: &Value, y: &Value) -> Result<Value, EvalFault>
     ensures { Gives (spec.greatest x.now y.now) result }
 {
     Ok(Value::Int(int_in(x).max(int_in(y))))
 }
 
+/// How many items a list has.
 #[tactic(auto, using(crate::proofs::Ints::ints))]
 pub fn length(x: &Value) -> Result<Value, EvalFault>
     ensures { Gives (spec.length_of x.now) result }
@@ -45,6 +48,7 @@ fn numbers_below(alloc: Global, n: usize) -> Result<Value, EvalFault>
     Ok(Value::List(numbers))
 }
 
+/// The numbers from 0 to below this one; `NegativeRange` below 0, and `TooLarge` at once past 100,000.
 pub fn range(alloc: Global, x: &Value) -> Result<Value, EvalFault>
     ensures { Makes (spec.range_of x.now) result }
 {

@@ -9,6 +9,7 @@ use crate::parts::{is_undefined, items_in};
 use std::alloc::Global;
 use wdl_value::{EvalCode, Items, Value};
 
+/// Whether the value is not undefined.
 pub fn is_defined(x: &Value) -> bool
     ensures { result ≡ spec.is_defined x.now }
 {
@@ -26,12 +27,14 @@ fn first_defined(alloc: Global, items: &[Value]) -> Result<Value, EvalFault>
     Err(EvalFault::Code(EvalCode::NothingDefined))
 }
 
+/// The first item that is defined; `NothingDefined` where none is.
 pub fn select_first(alloc: Global, x: &Value) -> Result<Value, EvalFault>
     ensures { Gives (spec.select_first_of x.now) result }
 {
     first_defined(alloc, items_in(x))
 }
 
+/// The items that are defined, in order.
 pub fn select_all(alloc: Global, x: &Value) -> Result<Value, EvalFault>
     ensures { Gives (spec.select_all_of x.now) result }
 {

@@ -8,18 +8,21 @@ ghost use Rattle.wdl_value.specs.ValueText.{text_of as text_in};
 use std::alloc::Global;
 use wdl_value::{MapRow, NoMemory, Text, Value, text_of};
 
+/// Whether the value is an Int.
 pub fn is_number(value: &Value) -> bool
     ensures { result ≡ spec.is_number value.now }
 {
     matches!(value, Value::Int(_))
 }
 
+/// Whether the value is undefined.
 pub fn is_undefined(value: &Value) -> bool
     ensures { result ≡ spec.is_undefined value.now }
 {
     matches!(value, Value::Absent)
 }
 
+/// The Boolean, or false.
 pub fn bool_in(value: &Value) -> bool
     ensures { result ≡ spec.bool_in value.now }
 {
@@ -29,6 +32,7 @@ pub fn bool_in(value: &Value) -> bool
     }
 }
 
+/// The number, or 0.
 pub fn int_in(value: &Value) -> i64
     ensures { result ≡ spec.int_in value.now }
 {
@@ -58,6 +62,7 @@ pub fn rows_in(value: &Value) -> &[MapRow<Value>]
     }
 }
 
+/// The left part of a pair, or the value itself.
 pub fn left_in(value: &Value) -> &Value
     ensures { result.now ≡ spec.left_in value.now }
 {
@@ -67,6 +72,7 @@ pub fn left_in(value: &Value) -> &Value
     }
 }
 
+/// The right part of a pair, or the value itself.
 pub fn right_in(value: &Value) -> &Value
     ensures { result.now ≡ spec.right_in value.now }
 {

@@ -35,6 +35,7 @@ fn without_ending<'a>(name: &'a str, ending: &str) -> &'a str
     }
 }
 
+/// What stands behind the last `/` of a path.
 pub fn basename(alloc: Global, path: &Value) -> Result<Value, EvalFault>
     ensures { Gives (spec.basename_of path.now) result }
 {
@@ -42,6 +43,7 @@ pub fn basename(alloc: Global, path: &Value) -> Result<Value, EvalFault>
     Ok(Value::Str(Text::from_plain(alloc, base_name(path.as_str()))?))
 }
 
+/// The same without the ending, where it ends so.
 pub fn basename_without(alloc: Global, path: &Value, ending: &Value) -> Result<Value, EvalFault>
     ensures { Gives (spec.basename_without path.now ending.now) result }
 {
@@ -62,12 +64,14 @@ pub fn in_directory(alloc: Global, dir: &Text, name: &str) -> Result<Value, NoMe
     Ok(Value::File(path))
 }
 
+/// The path of the standard output in the directory of the job.
 pub fn stdout(alloc: Global, dir: &Text) -> Result<Value, EvalFault>
     ensures { Gives (spec.stdout_of dir.now) result }
 {
     Ok(in_directory(alloc, dir, "_stdout")?)
 }
 
+/// The path of the standard error in the directory of the job.
 pub fn stderr(alloc: Global, dir: &Text) -> Result<Value, EvalFault>
     ensures { Gives (spec.stderr_of dir.now) result }
 {

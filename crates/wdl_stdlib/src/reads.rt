@@ -36,12 +36,14 @@ fn without_line_ends(text: &str) -> &str
     rest
 }
 
+/// The text without the line ends at its end.
 pub fn read_string(alloc: Global, text: &Text) -> Result<Value, EvalFault>
     ensures { Gives (spec.string_read text.now) result }
 {
     Ok(Value::Str(Text::from_plain(alloc, without_line_ends(text.as_str()))?))
 }
 
+/// The lines of a text; a last line without a newline counts unless it is empty.
 pub fn read_lines(alloc: Global, text: &Text) -> Result<Value, EvalFault>
     ensures { Gives (spec.lines_read text.now) result }
 {
@@ -49,6 +51,7 @@ pub fn read_lines(alloc: Global, text: &Text) -> Result<Value, EvalFault>
     Ok(strings(alloc, lines.as_slice())?)
 }
 
+/// The lines of a text, each cut at its tabs.
 pub fn read_tsv(alloc: Global, text: &Text) -> Result<Value, EvalFault>
     ensures { Gives (spec.tsv_read text.now) result }
 {
@@ -113,12 +116,14 @@ fn signed(bytes: &[u8]) -> Result<Value, EvalFault>
     }
 }
 
+/// The number with blank space round it; `NotAnInteger` where the text is none within 64 bits.
 pub fn read_int(text: &Text) -> Result<Value, EvalFault>
     ensures { Gives (spec.int_read text.now) result }
 {
     signed(trimmed(text.as_str().as_bytes()))
 }
 
+/// `true` or `false` in any case, with blank space round it; else `NotABoolean`.
 pub fn read_boolean(text: &Text) -> Result<Value, EvalFault>
     ensures { Gives (spec.boolean_read text.now) result }
 {
@@ -154,6 +159,7 @@ fn pairs_of(alloc: Global, lines: &[Text]) -> Result<Items<Value>, EvalFault>
     Ok(pairs)
 }
 
+/// The two columns of each line as the rows of a map; `NotTwoColumns`, or else `RepeatedKey`.
 pub fn read_map(alloc: Global, text: &Text) -> Result<Value, EvalFault>
     ensures { Gives (spec.map_read text.now) result }
 {

@@ -26,6 +26,7 @@ fn quoted(alloc: Global, mark: u8, item: &Value) -> Result<Value, NoMemory>
     Ok(Value::Str(text))
 }
 
+/// The text of each item between two marks.
 pub fn quote(alloc: Global, mark: u8, x: &Value) -> Result<Value, EvalFault>
     requires ascii { mark < 128 }
     requires plain { 0 < mark }
@@ -48,6 +49,7 @@ fn joined(alloc: Global, first: &Value, second: &Value) -> Result<Value, NoMemor
     Ok(Value::Str(text))
 }
 
+/// The text of each item behind this one; it stops at the limit of a value.
 pub fn prefix(alloc: Global, before: &Value, x: &Value) -> Result<Value, EvalFault>
     ensures { Makes (spec.prefix_of before.now x.now) result }
 {
@@ -59,6 +61,7 @@ pub fn prefix(alloc: Global, before: &Value, x: &Value) -> Result<Value, EvalFau
     Ok(texts.into_value())
 }
 
+/// The text of each item before this one; it stops at the limit of a value.
 pub fn suffix(alloc: Global, after: &Value, x: &Value) -> Result<Value, EvalFault>
     ensures { Makes (spec.suffix_of after.now x.now) result }
 {
@@ -98,6 +101,7 @@ fn separated(alloc: Global, between: &Text, items: &[Value]) -> Result<Value, Ev
     }
 }
 
+/// The texts of the items with this one between them; it stops at the limit of a value.
 pub fn sep(alloc: Global, between: &Value, x: &Value) -> Result<Value, EvalFault>
     ensures { Makes (spec.sep_of between.now x.now) result }
 {
