@@ -10,8 +10,6 @@ mod meta;
 mod section;
 mod string;
 mod task;
-#[cfg(test)]
-mod tests;
 mod token;
 mod tokens;
 mod type_tree;

@@ -26,12 +26,51 @@ pub enum WorkflowElement {
 }
 
 /// A statement of a workflow's body.
-#[derive(Debug, Drop)]
+#[derive(Debug)]
 pub enum Statement {
     Declaration(Declaration),
     Call(Call),
     Scatter(Scatter<Statement>),
     Conditional(Conditional<Statement>),
+}
+
+impl Statement {
+    /// How much text stands between the braces of a block; 0 for any other statement.
+    fn extent(&self) -> u32 {
+        match self {
+            Statement::Declaration(_) | Statement::Call(_) => 0,
+            Statement::Scatter(block) => block.closing.start.saturating_sub(block.opening.end),
+            Statement::Conditional(block) => block.closing.start.saturating_sub(block.opening.end),
+        }
+    }
+}
+
+/// Goes down the widest block of each body in a loop, and lets the others go first: these have at most half of the text
+/// around them, so blocks in one another take no stack beyond the logarithm of their text.
+impl Drop for Statement {
+    fn drop(mut self) {
+        loop {
+            let mut body = match self {
+                Statement::Declaration(_) | Statement::Call(_) => return,
+                Statement::Scatter(Scatter { body, .. }) => body,
+                Statement::Conditional(Conditional { body, .. }) => body,
+            };
+            let Some(mut widest) = body.pop() else {
+                drop(body);
+                return;
+            };
+            while let Some(statement) = body.pop() {
+                if widest.extent() < statement.extent() {
+                    drop(widest);
+                    widest = statement;
+                } else {
+                    drop(statement);
+                }
+            }
+            drop(body);
+            self = widest;
+        }
+    }
 }
 
 /// `scatter (item in over) { .. }`.

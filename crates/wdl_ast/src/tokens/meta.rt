@@ -22,27 +22,15 @@ fn push_meta(out: &mut TokenList, value: &MetaValue) -> Result<(), NoMemory>
     ensures { OnOk result (out.new ≡ out.old ++ spec.meta_words value.now) }
 {
     match value {
-        MetaValue::Null(span) => {
-            out.keyword("null", *span)?;
-            Ok(())
-        }
-        MetaValue::True(span) => {
-            out.keyword("true", *span)?;
-            Ok(())
-        }
-        MetaValue::False(span) => {
-            out.keyword("false", *span)?;
-            Ok(())
-        }
+        MetaValue::Null(span) => out.keyword("null", *span),
+        MetaValue::True(span) => out.keyword("true", *span),
+        MetaValue::False(span) => out.keyword("false", *span),
         MetaValue::Number { minus, number } => {
             out.optional_mark(Mark::Minus, *minus)?;
             push_number(out, number)?;
             Ok(())
         }
-        MetaValue::Str(string) => {
-            out.plain_string(string)?;
-            Ok(())
-        }
+        MetaValue::Str(string) => out.plain_string(string),
         MetaValue::Object {
             opening,
             attributes,

@@ -32,26 +32,11 @@ fn push_base(out: &mut TokenList, base: &BaseType<TypeTree>) -> Result<(), NoMem
     ensures { OnOk result (out.new ≡ out.old ++ spec.base_words spec.type_words base.now) }
 {
     match base {
-        BaseType::Boolean(span) => {
-            out.keyword("Boolean", *span)?;
-            Ok(())
-        }
-        BaseType::Int(span) => {
-            out.keyword("Int", *span)?;
-            Ok(())
-        }
-        BaseType::Str(span) => {
-            out.keyword("String", *span)?;
-            Ok(())
-        }
-        BaseType::File(span) => {
-            out.keyword("File", *span)?;
-            Ok(())
-        }
-        BaseType::Struct(name) => {
-            out.ident(name)?;
-            Ok(())
-        }
+        BaseType::Boolean(span) => out.keyword("Boolean", *span),
+        BaseType::Int(span) => out.keyword("Int", *span),
+        BaseType::Str(span) => out.keyword("String", *span),
+        BaseType::File(span) => out.keyword("File", *span),
+        BaseType::Struct(name) => out.ident(name),
         BaseType::Array {
             word,
             opening,

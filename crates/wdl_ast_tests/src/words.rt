@@ -1,6 +1,6 @@
-use crate::{Document, Ident, Kind, Section, StructSection, tokens_of};
 use sqlite_items::Items;
 use std::test::Fail;
+use wdl_ast::{Document, Ident, Kind, Section, StructSection, tokens_of};
 use wdl_value::{Name, Span};
 
 fn span(start: u32, end: u32) -> Span {
