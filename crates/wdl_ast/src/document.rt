@@ -6,7 +6,7 @@ use sqlite_items::Items;
 use wdl_value::Span;
 
 /// A document of version 1.1, with its sections in the order of the text (OpenWDL 1.1, "WDL documents").
-#[derive(Debug, Drop)]
+#[derive(Drop)]
 pub struct Document {
     pub version: Span,
     pub number: Span,
@@ -14,7 +14,7 @@ pub struct Document {
 }
 
 /// A section of a document.
-#[derive(Debug, Drop)]
+#[derive(Drop)]
 pub enum Section {
     Import(Import),
     Struct(StructSection),
@@ -23,7 +23,7 @@ pub enum Section {
 }
 
 /// `import "uri" as name alias A as B`.
-#[derive(Debug, Drop)]
+#[derive(Drop)]
 pub struct Import {
     pub keyword: Span,
     pub uri: PlainString,
@@ -32,7 +32,7 @@ pub struct Import {
 }
 
 /// `alias from as to`.
-#[derive(Debug, Drop)]
+#[derive(Drop)]
 pub struct Alias {
     pub keyword: Span,
     pub from: Ident,
@@ -41,7 +41,7 @@ pub struct Alias {
 }
 
 /// `struct Name { Type member .. }`.
-#[derive(Debug, Drop)]
+#[derive(Drop)]
 pub struct StructSection {
     pub keyword: Span,
     pub name: Ident,
@@ -51,7 +51,7 @@ pub struct StructSection {
 }
 
 /// `Type name` in a struct.
-#[derive(Debug, Drop)]
+#[derive(Drop)]
 pub struct StructMember {
     pub ty: TypeTree,
     pub name: Ident,

@@ -30,7 +30,7 @@ pub enum UnaryOperator {
 }
 
 /// `key : value` of a map literal.
-#[derive(Debug, Drop)]
+#[derive(Drop)]
 pub struct MapEntry<E> {
     pub key: E,
     pub colon: Span,
@@ -38,7 +38,7 @@ pub struct MapEntry<E> {
 }
 
 /// `name : value` of a struct literal.
-#[derive(Debug, Drop)]
+#[derive(Drop)]
 pub struct MemberEntry<E> {
     pub name: Ident,
     pub colon: Span,
@@ -47,7 +47,7 @@ pub struct MemberEntry<E> {
 
 /// An expression (OpenWDL 1.1, "Expressions"). Binary operators group to the left, so `a - b - c` is a `Binary` whose
 /// left part is a `Binary`. Each word and mark keeps its span, so that the tree determines its tokens.
-#[derive(Debug, Drop)]
+#[derive(Drop)]
 pub enum Expr {
     If {
         keyword: Span,

@@ -2,28 +2,28 @@ use crate::token::Quote;
 use wdl_value::{Name, Span, Text};
 
 /// A name where it stands: a word that is not reserved.
-#[derive(Debug, Drop)]
+#[derive(Drop)]
 pub struct Ident {
     pub name: Name,
     pub span: Span,
 }
 
 /// Any word where it stands, a reserved one too: the key of a `meta`, `parameter_meta` or `runtime` attribute.
-#[derive(Debug, Drop)]
+#[derive(Drop)]
 pub struct Word {
     pub text: Text,
     pub span: Span,
 }
 
 /// Characters of a string or a command where they stand.
-#[derive(Debug, Drop)]
+#[derive(Drop)]
 pub struct Chars {
     pub text: Text,
     pub span: Span,
 }
 
 /// A string without a placeholder. No characters stand between the quotes of an empty one.
-#[derive(Debug, Drop)]
+#[derive(Drop)]
 pub struct PlainString {
     pub quote: Quote,
     pub opening: Span,
@@ -32,14 +32,14 @@ pub struct PlainString {
 }
 
 /// One of a list that commas separate, with the comma behind it.
-#[derive(Debug, Drop)]
+#[derive(Drop)]
 pub struct ListItem<E> {
     pub item: E,
     pub comma: Option<Span>,
 }
 
 /// `key: value` in `meta`, `parameter_meta` and `runtime`, with the optional comma behind it.
-#[derive(Debug, Drop)]
+#[derive(Drop)]
 pub struct Attribute<V> {
     pub key: Word,
     pub colon: Span,

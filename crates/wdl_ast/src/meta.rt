@@ -3,7 +3,7 @@ use sqlite_items::Items;
 use wdl_value::{Span, Text};
 
 /// A value of `meta` and `parameter_meta` (OpenWDL 1.1, "Metadata sections").
-#[derive(Debug, Drop)]
+#[derive(Drop)]
 pub enum MetaValue {
     Null(Span),
     True(Span),
@@ -26,14 +26,14 @@ pub enum MetaValue {
 }
 
 /// A number where it stands; a fraction keeps its spelling.
-#[derive(Debug, Drop)]
+#[derive(Drop)]
 pub enum Number {
     Int { value: i64, span: Span },
     Frac { text: Text, span: Span },
 }
 
 /// A `meta` or `parameter_meta` section.
-#[derive(Debug, Drop)]
+#[derive(Drop)]
 pub struct MetaSection {
     pub keyword: Span,
     pub opening: Span,

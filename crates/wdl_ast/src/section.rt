@@ -5,7 +5,7 @@ use sqlite_items::Items;
 use wdl_value::Span;
 
 /// `Type name = expr`.
-#[derive(Debug, Drop)]
+#[derive(Drop)]
 pub struct Declaration {
     pub ty: TypeTree,
     pub name: Ident,
@@ -14,14 +14,14 @@ pub struct Declaration {
 }
 
 /// `= expr` behind an input or an argument.
-#[derive(Debug, Drop)]
+#[derive(Drop)]
 pub struct Assigned {
     pub assign: Span,
     pub value: Expr,
 }
 
 /// `Type name`, with its default where it has one.
-#[derive(Debug, Drop)]
+#[derive(Drop)]
 pub struct InputDeclaration {
     pub ty: TypeTree,
     pub name: Ident,
@@ -29,7 +29,7 @@ pub struct InputDeclaration {
 }
 
 /// `input { .. }` of a task or a workflow.
-#[derive(Debug, Drop)]
+#[derive(Drop)]
 pub struct InputSection {
     pub keyword: Span,
     pub opening: Span,
@@ -38,7 +38,7 @@ pub struct InputSection {
 }
 
 /// `output { .. }` of a task or a workflow.
-#[derive(Debug, Drop)]
+#[derive(Drop)]
 pub struct OutputSection {
     pub keyword: Span,
     pub opening: Span,

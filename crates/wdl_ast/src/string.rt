@@ -4,7 +4,7 @@ use sqlite_items::Items;
 use wdl_value::Span;
 
 /// A string with its placeholders (OpenWDL 1.1, "Strings").
-#[derive(Debug, Drop)]
+#[derive(Drop)]
 pub struct StringTree<E> {
     pub quote: Quote,
     pub opening: Span,
@@ -13,14 +13,14 @@ pub struct StringTree<E> {
 }
 
 /// A part of a string or a command.
-#[derive(Debug, Drop)]
+#[derive(Drop)]
 pub enum StringPart<E> {
     Chars(Chars),
     Placeholder(Placeholder<E>),
 }
 
 /// `~{ expr }` or `${ expr }`, with its options (OpenWDL 1.1, "Expression placeholders").
-#[derive(Debug, Drop)]
+#[derive(Drop)]
 pub struct Placeholder<E> {
     pub mark: HoleMark,
     pub opening: Span,
@@ -30,7 +30,7 @@ pub struct Placeholder<E> {
 }
 
 /// The options of a placeholder: none, `sep` alone, `default` alone, or `true` and `false` in either order.
-#[derive(Debug, Drop)]
+#[derive(Drop)]
 pub enum PlaceholderOptions {
     Plain,
     Sep(PlaceholderOption),
@@ -40,7 +40,7 @@ pub enum PlaceholderOptions {
 }
 
 /// `= "value"` behind the option's word, whose span is `word`.
-#[derive(Debug, Drop)]
+#[derive(Drop)]
 pub struct PlaceholderOption {
     pub word: Span,
     pub assign: Span,

@@ -8,7 +8,7 @@ use sqlite_items::Items;
 use wdl_value::Span;
 
 /// A task, with its sections and private declarations in the order of the text (OpenWDL 1.1, "Task definition").
-#[derive(Debug, Drop)]
+#[derive(Drop)]
 pub struct TaskSection {
     pub keyword: Span,
     pub name: Ident,
@@ -18,7 +18,7 @@ pub struct TaskSection {
 }
 
 /// A section of a task, or a private declaration.
-#[derive(Debug, Drop)]
+#[derive(Drop)]
 pub enum TaskElement {
     Input(InputSection),
     Output(OutputSection),
@@ -30,7 +30,7 @@ pub enum TaskElement {
 }
 
 /// `runtime { .. }`.
-#[derive(Debug, Drop)]
+#[derive(Drop)]
 pub struct RuntimeSection {
     pub keyword: Span,
     pub opening: Span,
@@ -39,7 +39,7 @@ pub struct RuntimeSection {
 }
 
 /// `command { .. }` or `command <<< .. >>>`.
-#[derive(Debug, Drop)]
+#[derive(Drop)]
 pub struct CommandSection {
     pub keyword: Span,
     pub fence: Fence,

@@ -3,14 +3,14 @@ use sqlite_items::{Boxed, Items};
 use wdl_value::Span;
 
 /// A written type (OpenWDL 1.1, "Types"), with each `?` behind it.
-#[derive(Debug, Drop)]
+#[derive(Drop)]
 pub struct TypeTree {
     pub base: BaseType<TypeTree>,
     pub questions: Items<Span>,
 }
 
 /// A written type without its `?`.
-#[derive(Debug, Drop)]
+#[derive(Drop)]
 pub enum BaseType<T> {
     Boolean(Span),
     Int(Span),

@@ -6,7 +6,7 @@ use sqlite_items::Items;
 use wdl_value::Span;
 
 /// A workflow, with its sections and statements in the order of the text (OpenWDL 1.1, "Workflow definition").
-#[derive(Debug, Drop)]
+#[derive(Drop)]
 pub struct Workflow {
     pub keyword: Span,
     pub name: Ident,
@@ -16,7 +16,7 @@ pub struct Workflow {
 }
 
 /// A section of a workflow, or a statement.
-#[derive(Debug, Drop)]
+#[derive(Drop)]
 pub enum WorkflowElement {
     Input(InputSection),
     Output(OutputSection),
@@ -26,7 +26,6 @@ pub enum WorkflowElement {
 }
 
 /// A statement of a workflow's body.
-#[derive(Debug)]
 pub enum Statement {
     Declaration(Declaration),
     Call(Call),
@@ -74,7 +73,7 @@ impl Drop for Statement {
 }
 
 /// `scatter (item in over) { .. }`.
-#[derive(Debug, Drop)]
+#[derive(Drop)]
 pub struct Scatter<S> {
     pub keyword: Span,
     pub opening_paren: Span,
@@ -88,7 +87,7 @@ pub struct Scatter<S> {
 }
 
 /// `if (condition) { .. }`.
-#[derive(Debug, Drop)]
+#[derive(Drop)]
 pub struct Conditional<S> {
     pub keyword: Span,
     pub opening_paren: Span,
@@ -100,7 +99,7 @@ pub struct Conditional<S> {
 }
 
 /// `call target as alias after name { input: .. }`.
-#[derive(Debug, Drop)]
+#[derive(Drop)]
 pub struct Call {
     pub keyword: Span,
     pub target: CallTarget,
@@ -110,35 +109,35 @@ pub struct Call {
 }
 
 /// `name`, or `namespace.name`.
-#[derive(Debug, Drop)]
+#[derive(Drop)]
 pub struct CallTarget {
     pub first: Ident,
     pub second: Option<TargetMember>,
 }
 
 /// `.name` behind a namespace.
-#[derive(Debug, Drop)]
+#[derive(Drop)]
 pub struct TargetMember {
     pub dot: Span,
     pub name: Ident,
 }
 
 /// `as name`.
-#[derive(Debug, Drop)]
+#[derive(Drop)]
 pub struct Renaming {
     pub as_word: Span,
     pub name: Ident,
 }
 
 /// `after name`.
-#[derive(Debug, Drop)]
+#[derive(Drop)]
 pub struct After {
     pub keyword: Span,
     pub name: Ident,
 }
 
 /// `{ .. }` of a call.
-#[derive(Debug, Drop)]
+#[derive(Drop)]
 pub struct CallBody {
     pub opening: Span,
     pub inputs: Option<CallInputs>,
@@ -146,7 +145,7 @@ pub struct CallBody {
 }
 
 /// `input: ..` of a call.
-#[derive(Debug, Drop)]
+#[derive(Drop)]
 pub struct CallInputs {
     pub keyword: Span,
     pub colon: Span,
@@ -154,7 +153,7 @@ pub struct CallInputs {
 }
 
 /// `name = expr`, or `name` alone.
-#[derive(Debug, Drop)]
+#[derive(Drop)]
 pub struct Argument {
     pub name: Ident,
     pub value: Option<Assigned>,
