@@ -2,7 +2,7 @@ ghost use Rattle.std.specs.Prelude.{◌≡◌, true, pos, string_bytes, IfOk};
 ghost use Rattle.run_keeper.specs.RowText.{IsRowOf};
 ghost use Rattle.wdl_base.specs.Places.{place_text as spec_text};
 ghost use Rattle.wdl_base.specs.declared.entry.Source.TheVariants.{Kept};
-ghost use Rattle.wdl_port.specs.Rows.{rises as spec_rises};
+ghost use Rattle.wdl_port.specs.Rows.{are_kept, rises as spec_rises};
 
 use crate::trouble::Trouble;
 use run_keeper::{entry_of, row_text};
@@ -62,7 +62,10 @@ pub(crate) fn entry_in(alloc: Global, row: &Stored) -> Result<Entry, Trouble>
     }
 }
 
-fn read_all<S: Alter>(alloc: Global, conn: &mut Connection<S>) -> Result<Items<Entry>, Trouble> {
+#[tactic(auto, using(crate::proofs::Kept::kept_push))]
+fn read_all<S: Alter>(alloc: Global, conn: &mut Connection<S>) -> Result<Items<Entry>, Trouble>
+    ensures { IfOk result (λ all. are_kept all ≡ true) }
+{
     let mut rows = query(conn)?;
     let mut all = Items::new(alloc);
     for _ in 0..u64::MAX {
@@ -79,7 +82,8 @@ pub(crate) fn read<S: Alter>(
     alloc: Global,
     conn: &mut Connection<S>,
 ) -> Result<Items<Entry>, Trouble>
-    ensures { IfOk result (λ all. spec_rises all ≡ true) }
+    ensures order { IfOk result (λ all. spec_rises all ≡ true) }
+    ensures sources { IfOk result (λ all. are_kept all ≡ true) }
 {
     let all = read_all(alloc, conn)?;
     if rises(alloc, all.as_slice())? {

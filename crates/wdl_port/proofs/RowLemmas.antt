@@ -1,11 +1,11 @@
 -- Rows go on to rise when one is put among them.
-use Rattle.std.proofs.Common.{◌≡◌, Bool, true, false, List, [], ◌∷◌, ◌++◌, ℕ, ◌<◌, zero, suc, length, get_or, take, drop, drop-cons, slice_set, refl, sym, arith, ◌∙◌, ap}
+use Rattle.std.proofs.Common.{◌≡◌, true, false, List, [], ◌∷◌, ◌++◌, ℕ, ◌<◌, zero, suc, length, get_or, take, drop, drop-cons, slice_set, refl, sym, arith, ◌∙◌, ap}
 use Rattle.std.proofs.lemmas.List.{set_split}
 use Rattle.std.specs.declared.cmp.Ordering.{Ordering}
 use Rattle.std.specs.declared.cmp.Ordering.TheVariants.{Less, Equal, Greater}
 use Rattle.std.specs.Cmp.{IsTotalOrder}
 use Rattle.std.specs.Cmp.Lexicographic.{on_texts}
-use Rattle.std.specs.Ordering.{is_lt, nat_cmp, ordering_reverse}
+use Rattle.std.specs.Ordering.{is_lt, ordering_reverse}
 use Rattle.std.proofs.lemmas.Cmp.{then_total, on_total, nat_cmp_total}
 use Rattle.std.specs.Cmp.Derive.{both_true}
 use Rattle.wdl_base.specs.Places.{place_text}
@@ -121,8 +121,3 @@ past row d (x ∷ rows) (suc i) within r h =
     let inside : i < length rows = grind (arith, within) in
     ap (λ o. placed o row x rows (put_row row rows)) (behind row x (get_or rows i d) (first_under x d rows i inside u more) (ap is_lt h))
     ∙ ap (λ xs. x ∷ xs) (past row d rows i inside more h)
-
--- a row that is before the first of these belongs before it
-pub front : (row : Entry) (rows : List Entry) → is_under row rows ≡ true → put_row row rows ≡ row ∷ rows
-front row [] u = refl
-front row (next ∷ rows) u = ap (λ o. placed o row next rows (put_row row rows)) (less (row_order row next) u)

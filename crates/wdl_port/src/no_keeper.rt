@@ -1,4 +1,5 @@
-ghost use Rattle.std.specs.Prelude.{◌≡◌, [], Some, None, Err, IsErrOf, OnOk};
+ghost use Rattle.std.specs.Prelude.{◌≡◌, [], Some, None, Err, false, IsErrOf, OnOk};
+ghost use Rattle.wdl_base.specs.Plain.{has_nul};
 ghost use Rattle.wdl_port.specs.Causes.{HasCauseOf};
 
 use crate::fault::KeepFault;
@@ -35,6 +36,8 @@ impl Keeper for NoKeeper {
     ghost faults = { λ s. s.faults };
 
     fn start(&mut self, alloc: Global, at: &str) -> Result<(), KeepFault>
+        requires fresh { self.old.path ≡ None }
+        requires plain { has_nul at.now ≡ false }
         ensures fails { OnOk result ⊥ }
         ensures started_too { IsErrOf result KeepFault.Failed → self.new.path ≡ Some at.now }
         ensures not_started { IsErrOf result KeepFault.NoMemory → self.new.path ≡ None }
