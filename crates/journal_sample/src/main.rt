@@ -9,7 +9,7 @@ ghost use Rattle.wdl_base.specs.Plain.{has_nul};
 use keeper_sql::SqlKeeper;
 use run_keeper::row_text;
 use sqlite_items::Items;
-use std::alloc::{AllocError, Global};
+use std::alloc::{AllocError, AllocFailed, Global};
 use std::env;
 use std::io;
 use std::process::ExitCode;
@@ -27,6 +27,12 @@ struct Stopped;
 
 impl From<AllocError> for Stopped {
     fn from(_e: AllocError) -> Stopped {
+        Stopped
+    }
+}
+
+impl<T: Drop> From<AllocFailed<T>> for Stopped {
+    fn from(_e: AllocFailed<T>) -> Stopped {
         Stopped
     }
 }
@@ -126,14 +132,24 @@ fn keep(rt: &HostRuntime, path: &str, count: u32) -> Result<(), Stopped>
     tell(rt, rows.as_slice())
 }
 
+/// The words after the program's name.
+fn words(rt: &HostRuntime) -> Result<Vec<String>, Stopped> {
+    let mut words = Vec::new(rt.alloc());
+    for word in env::args(rt)?.skip(1) {
+        words.push(word)?;
+    }
+    Ok(words)
+}
+
 fn sample(rt: &HostRuntime) -> Result<(), Stopped> {
-    let mut words = env::args(rt)?.skip(1);
-    let Some(path) = words.next() else {
-        return Err(Stopped);
-    };
-    let count = match words.next() {
-        Some(word) => word.as_str().parse::<u32>().map_err(|_| Stopped)?,
-        None => COUNT,
+    let words = words(rt)?;
+    let (path, count) = match words.as_slice() {
+        [path] => (path, COUNT),
+        [path, count] => match count.as_str().parse::<u32>() {
+            Ok(count) => (path, count),
+            Err(_) => return Err(Stopped),
+        },
+        _ => return Err(Stopped),
     };
     let path = Text::new(rt.alloc(), path.as_str())?;
     keep(rt, path.as_str(), count)

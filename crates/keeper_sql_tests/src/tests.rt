@@ -125,6 +125,7 @@ fn entry(alloc: Global, item: u32, status: u8) -> Result<Entry, NoMemory>
 /// Puts an answer of the first entry, and then all entries, the last first.
 fn fill(alloc: Global, keeper: &mut SqlKeeper<'_>) -> Result<(), Want>
     requires { IsSome keeper.old.path }
+    ensures { OnOk result (IsSome keeper.new.path) }
 {
     keeper.put(alloc, &entry(alloc, 0, 3)?)?;
     for i in 0..COUNT {
@@ -230,11 +231,12 @@ const BAD: &str = "bad/j";
 fn counts_faults(alloc: Global, keeper: &mut SqlKeeper<'_>) -> bool
     requires { keeper.old.path ≡ None }
 {
-    let started = keeper.start(alloc, BAD);
-    if !matches!(&started, Err(KeepFault::Failed)) || keeper.faults != 1 {
-        return false;
+    match keeper.start(alloc, BAD) {
+        Err(KeepFault::Failed) => {}
+        _ => return false,
     }
-    matches!(&keeper.rows(alloc), Err(KeepFault::Failed)) && keeper.faults == 2
+    let first = keeper.faults;
+    matches!(&keeper.rows(alloc), Err(KeepFault::Failed)) && first == 1 && keeper.faults == 2
 }
 
 /// Whether the file is refused, and left as it is.
