@@ -10,9 +10,8 @@ use keeper_sql::SqlKeeper;
 use run_keeper::row_text;
 use sqlite_items::Items;
 use std::alloc::{AllocError, AllocFailed, Global};
-use std::env;
-use std::io;
 use std::process::ExitCode;
+use std::{env, io};
 use wdl_port::{KeepFault, Keeper};
 use wdl_value::{
     Answer, Body, Entry, Name, NoMemory, Place, Request, Segment, Source, Text, TextFault,

@@ -1,5 +1,5 @@
 -- One more row of the source Kept.
-use Rattle.std.proofs.Common.{◌≡◌, true, List, [], ◌∷◌, ◌++◌, refl, arith}
+use Rattle.std.proofs.Common.{◌≡◌, true, List, [], ◌∷◌, ◌++◌, arith}
 use Rattle.std.specs.Cmp.Derive.{both_true}
 use Rattle.wdl_base.specs.declared.entry.Entry.{Entry}
 use Rattle.wdl_base.specs.declared.entry.Source.TheVariants.{Kept}
