@@ -127,14 +127,14 @@ fn launch_line(alloc: Global, place: &Place) -> Result<Text, NoMemory>
 
 /// The line of `Status::Write`. It takes no memory.
 pub fn write_line() -> &'static str
-    ensures { result.now ≡ spec.line_of status.Write [] }
+    ensures value { result.now ≡ spec.line_of status.Write [] }
 {
     "cannot write\n"
 }
 
 /// The line of `Status::NoMemory`. It takes no memory.
 pub fn no_memory_line() -> &'static str
-    ensures { result.now ≡ spec.line_of status.NoMemory [] }
+    ensures value { result.now ≡ spec.line_of status.NoMemory [] }
 {
     "no memory\n"
 }
@@ -143,7 +143,7 @@ pub fn no_memory_line() -> &'static str
 /// documents, by their numbers; each span's document has one.
 pub fn line_of(alloc: Global, status: &Status, paths: &Items<Text>) -> Result<Text, NoMemory>
     requires { HasPath status.now paths.now }
-    ensures { IfOk result (λ t. t ≡ spec.line_of status.now paths.now) }
+    ensures value { IfOk result (λ t. t ≡ spec.line_of status.now paths.now) }
 {
     match status {
         Status::Ok => Ok(Text::empty(alloc)),

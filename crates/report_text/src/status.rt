@@ -36,7 +36,7 @@ pub enum Status {
 
 /// The number that the program ends with. It takes no memory.
 pub fn number_of(status: &Status) -> u8
-    ensures { result ≡ spec.number_of status.now }
+    ensures value { result ≡ spec.number_of status.now }
 {
     match status {
         Status::Ok => 0,

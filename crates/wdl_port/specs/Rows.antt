@@ -1,14 +1,14 @@
 -- The rows of a keeper: a list of entries, which strictly rises by the text of the place and then by the attempt.
-use Rattle.std.specs.Prelude.{◌≡◌, ℕ, Bool, true, ◌&&◌, List, [], ◌∷◌, Option, Some}
+use Rattle.std.specs.Prelude.{◌≡◌, Bool, true, false, ◌&&◌, List, [], ◌∷◌, Option, Some}
 use Rattle.std.specs.declared.cmp.Ordering.{Ordering}
 use Rattle.std.specs.declared.cmp.Ordering.TheVariants.{Less, Equal, Greater}
 use Rattle.std.specs.Cmp.Lexicographic.{slice_cmp}
 use Rattle.std.specs.Ordering.{is_lt, nat_cmp, ordering_then}
 use Rattle.std.specs.Option.{option_map}
 use Rattle.wdl_base.specs.Places.{place_text}
-use Rattle.wdl_base.specs.declared.answer.Answer.{Answer}
 use Rattle.wdl_base.specs.declared.entry.Entry.{Entry}
-use Rattle.wdl_base.specs.declared.entry.Source.TheVariants.{Kept}
+use Rattle.wdl_base.specs.declared.entry.Source.{Source}
+use Rattle.wdl_base.specs.declared.entry.Source.TheVariants.{Launched, Kept}
 use Rattle.wdl_base.specs.declared.request.Request.{Request}
 
 -- the order of two requests by the text of the place, and then by the attempt
@@ -28,6 +28,15 @@ is_under row (next ∷ rows) = is_lt (row_order row next)
 abbrev pub rises : List Entry → Bool
 rises [] = true
 rises (row ∷ rows) = is_under row rows && rises rows
+
+abbrev pub is_kept : Source → Bool
+is_kept Launched = false
+is_kept Kept = true
+
+-- each row has the source Kept
+abbrev pub are_kept : List Entry → Bool
+are_kept [] = true
+are_kept (row ∷ rows) = is_kept row.source && are_kept rows
 
 -- the row of an entry
 abbrev pub kept_row : Entry → Entry

@@ -1,6 +1,6 @@
 ghost use Rattle.std.specs.Prelude.{◌≡◌, ℕ, List, Option, Some, None, true, false, IfOk, OnOk, OnErr, IsErrOf, IsSome};
 ghost use Rattle.wdl_port.specs.Causes.{HasCauseOf};
-ghost use Rattle.wdl_port.specs.Rows.{rises, with_entry, ToldRise, AreRows};
+ghost use Rattle.wdl_port.specs.Rows.{are_kept, rises, with_entry, ToldRise, AreRows};
 ghost use Rattle.wdl_base.specs.Plain.{has_nul};
 ghost use Rattle.wdl_base.specs.declared.entry.Entry.{Entry as Row};
 
@@ -41,6 +41,7 @@ pub trait Keeper {
         requires { IsSome (path self.old) }
         ensures told { IfOk result (AreRows (kept self.old)) }
         ensures order { IfOk result (λ all. rises all ≡ true) }
+        ensures sources { IfOk result (λ all. are_kept all ≡ true) }
         ensures rows { kept self.new ≡ kept self.old }
         ensures path { path self.new ≡ path self.old }
         ensures cause { HasCauseOf (faults self.old) (faults self.new) result KeepFault.Failed };

@@ -1,5 +1,5 @@
 ghost use Rattle.std.specs.Prelude.{◌≡◌, [], true, Some, None};
-ghost use Rattle.wdl_port.specs.Rows.{rises};
+ghost use Rattle.wdl_port.specs.Rows.{are_kept, rises};
 
 use crate::fault::KeepFault;
 use crate::keeper::Keeper;
@@ -10,7 +10,7 @@ use std::alloc::Global;
 use wdl_value::{Entry, Text};
 
 /// A journal in memory, which tells its rows. The calls with the listed numbers fail; calls are numbered from 1.
-/// A `put` goes over the rows once.
+/// A `put` looks its place up by halves.
 #[derive(Debug, Drop)]
 pub struct MapKeeper {
     pub rows: Vec<Entry>,
@@ -19,6 +19,7 @@ pub struct MapKeeper {
     pub calls: u64,
     pub faults: u64,
     pub ghost rise: { rises rows.items ≡ true },
+    pub ghost sources: { are_kept rows.items ≡ true },
 }
 
 impl MapKeeper {
@@ -83,7 +84,7 @@ impl Keeper for MapKeeper {
         Ok(copy_rows(alloc, self.rows.as_slice())?)
     }
 
-    #[tactic(auto, using(crate::proofs::RowLemmas::rises_put))]
+    #[tactic(auto, using(crate::proofs::RowLemmas::rises_put, crate::proofs::RowLemmas::kept_put))]
     fn put(&mut self, alloc: Global, entry: &Entry) -> Result<(), KeepFault> {
         self.calls = self.calls.saturating_add(1);
         if is_listed(self.calls, self.fails.as_slice()) {

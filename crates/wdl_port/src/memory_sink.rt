@@ -1,4 +1,8 @@
-ghost use Rattle.std.specs.Prelude.{◌≡◌, [], Some, IfOk};
+ghost use Rattle.std.specs.Prelude.{◌≡◌, ◌+◌, ◌-◌, ◌≤◌, ◌<◌, ◌++◌, [], Some, IfOk, OnErr, length, vec_len, vec_capacity};
+ghost use Rattle.std.specs.Result.{result_ok};
+ghost use Rattle.wdl_port.specs.Causes.{HasCause};
+ghost use Rattle.wdl_port.specs.Memory as spec;
+ghost use Rattle.wdl_port.specs.Told.{grown, taken};
 
 use crate::fault::WriteFault;
 use crate::memory_shelf::is_listed;
@@ -17,6 +21,7 @@ pub struct MemorySink {
     pub fails: Items<u64>,
     pub calls: u64,
     pub faults: u64,
+    pub ghost fits: { vec_len bytes + room ≤ vec_capacity bytes },
 }
 
 impl MemorySink {
@@ -43,7 +48,14 @@ impl Sink for MemorySink {
 
     ghost faults = { λ s. s.faults };
 
-    fn write(&mut self, piece: &[u8]) -> Result<usize, WriteFault> {
+    fn write(&mut self, piece: &[u8]) -> Result<usize, WriteFault>
+        ensures takes { result_ok result ≡ spec.write_takes (length piece.now) self.old.room (spec.is_listed self.new.calls self.old.fails) }
+        ensures bytes { self.new.bytes.items ≡ self.old.bytes.items ++ taken result piece.now }
+        ensures room { self.new.room ≡ self.old.room - length (taken result piece.now) }
+        ensures calls { self.new.calls ≡ spec.counted self.old.calls }
+        ensures fails { self.new.fails ≡ self.old.fails }
+        ensures cause { HasCause self.old.faults self.new.faults result }
+    {
         self.calls = self.calls.saturating_add(1);
         if piece.is_empty() {
             return Ok(0);
@@ -54,10 +66,9 @@ impl Sink for MemorySink {
             return Err(WriteFault);
         }
         // There is room, so this takes no memory.
-        if self.bytes.extend_from_slice(&piece[..count]).is_err() {
-            self.faults = self.faults.saturating_add(1);
-            return Err(WriteFault);
-        }
+        let Ok(()) = self.bytes.extend_from_slice(&piece[..count]) else {
+            unreachable!()
+        };
         self.room -= count;
         Ok(count)
     }

@@ -1,4 +1,4 @@
-ghost use Rattle.std.specs.Prelude.{◌≡◌, IfOk, OnOk, OnErr};
+ghost use Rattle.std.specs.Prelude.{◌≡◌, true, IfOk, OnOk, OnErr};
 ghost use Rattle.std.specs.Cmp.Lexicographic.{slice_cmp};
 ghost use Rattle.std.specs.Ordering.{is_lt, nat_cmp, ordering_then};
 ghost use Rattle.wdl_base.specs.Places.{place_text as spec_text};
@@ -54,23 +54,28 @@ fn order_of(
     )
 }
 
-/// Where the row belongs. It goes over the rows once.
+/// Where the row belongs. It looks at the rows by halves.
 fn spot_of(alloc: Global, row: &Entry, rows: &[Entry]) -> Result<Spot, NoMemory>
+    requires { spec_rises rows.now ≡ true }
     ensures { IfOk result (IsSpot row.now rows.now) }
 {
     let place = place_text(alloc, &row.request.place)?;
-    for i in 0..rows.len() {
-        match order_of(alloc, &place, row.request.attempt, &rows[i].request)? {
-            Ordering::Less => return Ok(Spot::Before(i)),
-            Ordering::Equal => return Ok(Spot::At(i)),
-            Ordering::Greater => {}
+    let mut low = 0;
+    let mut high = rows.len();
+    while low < high {
+        let middle = low + (high - low) / 2;
+        match order_of(alloc, &place, row.request.attempt, &rows[middle].request)? {
+            Ordering::Less => high = middle,
+            Ordering::Equal => return Ok(Spot::At(middle)),
+            Ordering::Greater => low = middle + 1,
         }
     }
-    Ok(Spot::Before(rows.len()))
+    Ok(Spot::Before(low))
 }
 
-/// Puts a row among rows that rise. It goes over them once.
+/// Puts a row among rows that rise.
 pub(crate) fn put_row(alloc: Global, row: Entry, rows: &mut Vec<Entry>) -> Result<(), NoMemory>
+    requires { spec_rises rows.old.items ≡ true }
     ensures ok { OnOk result (rows.new.items ≡ spec_put row rows.old.items) }
     ensures err { OnErr result (rows.new.items ≡ rows.old.items) }
 {

@@ -1,4 +1,4 @@
-ghost use Rattle.std.specs.Prelude.{◌≡◌, ℕ, List, Some, IfOk};
+ghost use Rattle.std.specs.Prelude.{◌≡◌, ℕ, List, IfOk};
 ghost use Rattle.std.specs.BTreeMap.{get_by_text};
 ghost use Rattle.std.proofs.Props.{props};
 ghost use Rattle.wdl_port.specs.Table as spec;
@@ -53,7 +53,7 @@ fn is_refused(place: &[Segment], places: &[Place]) -> bool
 }
 
 impl Launcher for TableLauncher {
-    ghost gives = { λ s r a. spec.answer_of s.rows r.place r.attempt ≡ Some a };
+    ghost gives = { λ s r a. spec.Gives s.rows s.refused r.place r.attempt a };
 
     ghost refuses = { λ s r. spec.Refuses s.rows s.refused r.place r.attempt };
 

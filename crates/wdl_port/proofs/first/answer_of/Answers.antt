@@ -1,4 +1,4 @@
-use Rattle.std.proofs.Common.{◌≡◌, sym, arith, None, Some}
+use Rattle.std.proofs.Common.{◌≡◌, sym, arith, Some}
 use Rattle.wdl_base.specs.Places.{place_text}
 use Rattle.wdl_port.specs.Table.{first_at}
 use Rattle.wdl_port.proofs.TableLemmas.{no_row, from_row}

@@ -1,0 +1,97 @@
+ghost use Rattle.std.specs.Prelude.{◌≡◌, None, Ok, Err, IfOk, IsErrOf};
+ghost use Rattle.wdl_port.specs.Causes.{HasCauseOf};
+
+use crate::opening::open;
+use crate::rows::{read, write};
+use crate::trouble::Trouble;
+use sqlite::{Connection, File, FileStore};
+use sqlite_items::Items;
+use std::alloc::Global;
+use std::rt::HostRuntime;
+use wdl_port::{KeepFault, Keeper};
+use wdl_value::{Entry, Text};
+
+/// A journal in a SQLite file, in the table `entry (place, attempt, body)`, whose bodies are the rows' texts. It does
+/// not tell its rows.
+///
+/// It counts each refusal of the database for another cause than memory, and each row that is no row of a journal, is
+/// of another place or attempt than its body, or is out of order. A file that is no journal is such a fault, and is
+/// left as it is.
+#[derive(Drop)]
+pub struct SqlKeeper<'a> {
+    rt: &'a HostRuntime,
+    conn: Option<Connection<FileStore<File>>>,
+    pub path: Option<Text>,
+    pub faults: u64,
+}
+
+impl<'a> SqlKeeper<'a> {
+    /// A keeper that was not started. It takes no memory.
+    pub fn new(rt: &'a HostRuntime) -> SqlKeeper<'a>
+        ensures path { result.path ≡ None }
+        ensures faults { result.faults ≡ 0 }
+    {
+        SqlKeeper {
+            rt,
+            conn: None,
+            path: None,
+            faults: 0,
+        }
+    }
+}
+
+/// The answer of a call, which counts a fault.
+fn counted<T: Drop>(taken: Result<T, Trouble>, faults: &mut u64) -> Result<T, KeepFault>
+    ensures ok { IfOk result (λ x. taken ≡ Ok x) }
+    ensures memory { IsErrOf result KeepFault.NoMemory → taken ≡ Err Trouble.NoMemory }
+    ensures cause { HasCauseOf faults.old faults.new result KeepFault.Failed }
+{
+    match taken {
+        Ok(value) => Ok(value),
+        Err(Trouble::NoMemory) => Err(KeepFault::NoMemory),
+        Err(Trouble::Failed) => {
+            *faults = faults.saturating_add(1);
+            Err(KeepFault::Failed)
+        }
+    }
+}
+
+impl<'a> Keeper for SqlKeeper<'a> {
+    ghost kept = { λ s. None };
+
+    ghost path = { λ s. s.path };
+
+    ghost faults = { λ s. s.faults };
+
+    fn start(&mut self, alloc: Global, at: &str) -> Result<(), KeepFault> {
+        let path = Text::from_plain(alloc, at)?;
+        match counted(open(self.rt, alloc, at), &mut self.faults) {
+            Ok(conn) => {
+                self.path = Some(path);
+                self.conn = Some(conn);
+                Ok(())
+            }
+            Err(KeepFault::NoMemory) => Err(KeepFault::NoMemory),
+            Err(KeepFault::Failed) => {
+                self.path = Some(path);
+                Err(KeepFault::Failed)
+            }
+        }
+    }
+
+    fn rows(&mut self, alloc: Global) -> Result<Items<Entry>, KeepFault> {
+        let taken = match &mut self.conn {
+            Some(conn) => read(alloc, conn),
+            None => Err(Trouble::Failed),
+        };
+        counted(taken, &mut self.faults)
+    }
+
+    fn put(&mut self, alloc: Global, entry: &Entry) -> Result<(), KeepFault> {
+        let taken = match &mut self.conn {
+            Some(conn) => write(alloc, conn, entry),
+            None => Err(Trouble::Failed),
+        };
+        counted(taken, &mut self.faults)
+    }
+}

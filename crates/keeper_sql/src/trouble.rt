@@ -1,0 +1,63 @@
+ghost use Rattle.std.specs.Prelude.{◌≡◌, ◌↔◌};
+ghost use Rattle.keeper_sql.specs.declared.trouble.Trouble.TheVariants.{NoMemory as OutOfMemory};
+ghost use Rattle.run_keeper.specs.declared.error.RowFault.TheVariants.{NoMemory as RowNoMemory};
+ghost use Rattle.sqlite.specs.declared.error.Error.TheVariants.{SqliteFailure};
+ghost use Rattle.sqlite.specs.declared.error.ErrorCode.TheVariants.{OutOfMemory as SqliteNoMemory};
+
+use run_keeper::RowFault;
+use sqlite::{Error, ErrorCode};
+use std::alloc::{AllocError, AllocFailed};
+use wdl_value::NoMemory;
+
+/// Why a step of the keeper failed: what it counts as a fault, or want of memory.
+#[derive(Clone, Copy, Debug, PartialEq, Eq)]
+pub(crate) enum Trouble {
+    Failed,
+    NoMemory,
+}
+
+impl From<Error> for Trouble {
+    ghost from_gives = { λ e t. (t ≡ OutOfMemory) ↔ (e ≡ SqliteFailure SqliteNoMemory) };
+
+    fn from(e: Error) -> Trouble {
+        match e {
+            Error::SqliteFailure(ErrorCode::OutOfMemory) => Trouble::NoMemory,
+            _ => Trouble::Failed,
+        }
+    }
+}
+
+impl From<RowFault> for Trouble {
+    ghost from_gives = { λ e t. (t ≡ OutOfMemory) ↔ (e ≡ RowNoMemory) };
+
+    fn from(e: RowFault) -> Trouble {
+        match e {
+            RowFault::NotARow => Trouble::Failed,
+            RowFault::NoMemory => Trouble::NoMemory,
+        }
+    }
+}
+
+impl From<NoMemory> for Trouble {
+    ghost from_gives = { λ _ t. t ≡ OutOfMemory };
+
+    fn from(_e: NoMemory) -> Trouble {
+        Trouble::NoMemory
+    }
+}
+
+impl From<AllocError> for Trouble {
+    ghost from_gives = { λ _ t. t ≡ OutOfMemory };
+
+    fn from(_e: AllocError) -> Trouble {
+        Trouble::NoMemory
+    }
+}
+
+impl<T: Drop> From<AllocFailed<T>> for Trouble {
+    ghost from_gives = { λ _ t. t ≡ OutOfMemory };
+
+    fn from(_e: AllocFailed<T>) -> Trouble {
+        Trouble::NoMemory
+    }
+}
