@@ -1,3 +1,4 @@
 pub mod Numbers
 pub mod Greedy
 pub mod Keeping
+pub mod Names
