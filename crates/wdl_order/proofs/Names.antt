@@ -54,32 +54,6 @@ added old new m q true r e =
     mix false false false = refl
 added old new m q false r e = ap (λ ns. has_number q ns || (r && (m == q))) e
 
--- one more member whose names are added
-pub counted : (all : List Needing) (m q : ℕ) (x : List ℕ) (n : Needing) (h k : Bool) → slice_get all m ≡ Some n
-    → k ≡ (h || (has_name x n.gives && (m == q))) → h ≡ (nat_lt q m && gives_at all q x) → k ≡ (nat_lt q (m + 1) && gives_at all q x)
-counted all m q x n h k is e f = elim (cases_order q m) [
-  | inl same ↦
-      let g : gives_at all q x ≡ has_name x n.gives = ap (λ p. gives_at all p x) same ∙ ap (gives_name x) is in
-      e ∙ ap (λ b. b || (has_name x n.gives && (m == q))) (f ∙ ap (λ b. b && gives_at all q x) (le-ltb q m (omega arith)))
-      ∙ ap (λ b. has_name x n.gives && b) (eq-eqb m q (sym same)) ∙ and_true (has_name x n.gives) ∙ sym g
-      ∙ ap (λ b. b && gives_at all q x) (sym (lt-ltb q (m + 1) (omega arith)))
-  | inr other ↦
-      e ∙ ap (λ b. h || (has_name x n.gives && b)) (ne_eqb m q (elim other [ inl l ↦ λ s. omega arith | inr l ↦ λ s. omega arith ]))
-      ∙ ap (λ b. h || b) (and_false (has_name x n.gives)) ∙ sym (or_none h) ∙ f
-      ∙ ap (λ b. b && gives_at all q x) (elim other [
-        | inl l ↦ lt-ltb q m l ∙ sym (lt-ltb q (m + 1) (omega arith))
-        | inr l ↦ le-ltb q m (omega arith) ∙ sym (le-ltb q (m + 1) (omega arith))
-      ])
-]
-  where
-    and_true : (b : Bool) → (b && true) ≡ b
-    and_true true = refl
-    and_true false = refl
-
-    and_false : (b : Bool) → (b && false) ≡ false
-    and_false true = refl
-    and_false false = refl
-
 -- ---- who needs whom
 
 none_gives : (names : List (List ℕ)) → list_any (λ x. gives_name x None) names ≡ false

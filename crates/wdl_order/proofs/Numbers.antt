@@ -1,6 +1,6 @@
 -- Lists of numbers: what they have, and what holds of each.
-use Rattle.std.proofs.Common.{◌≡◌, ◌≢◌, ℕ, zero, suc, ◌+◌, ◌-◌, ◌<◌, ◌≤◌, Bool, true, false, not, ◌==◌, ◌||◌, ◌&&◌, ◌⊎◌, inl, inr, List, [], ◌∷◌, ◌++◌, refl, sym, ap, ◌∙◌, subst, arith}
-use Rattle.std.proofs.lemmas.Bool.{false≢true, and_parts, and_from, or_cases, or_left, or_right, or_parts, or_from, not-true, ne_eqb, eq-eqb, eqb-true, cases_eq, ltb-true}
+use Rattle.std.proofs.Common.{◌≡◌, ◌≢◌, ℕ, zero, suc, ◌+◌, ◌-◌, ◌<◌, ◌≤◌, Bool, true, false, not, ◌==◌, ◌||◌, ◌&&◌, ◌⊎◌, inl, inr, List, [], ◌∷◌, ◌++◌, length, get_or, take, refl, sym, ap, ◌∙◌, subst, arith}
+use Rattle.std.proofs.lemmas.Bool.{false≢true, and_parts, and_from, or_cases, or_left, or_right, or_parts, or_from, not-true, both_ways, ne_eqb, eq-eqb, eqb-true, cases_eq, ltb-true}
 use Rattle.std.proofs.lemmas.Cmp.{nat_eq_equiv}
 use Rattle.std.proofs.lemmas.Map.Keys.{IsDistinct-cons}
 use Rattle.std.specs.Bool.{nat_eq}
@@ -99,3 +99,19 @@ range_first a n h = let e : n - a ≡ suc (n - (a + 1)) = omega arith in ap (ran
 pub or_none : (b : Bool) → b ≡ (b || false)
 or_none true = refl
 or_none false = refl
+
+-- ---- by place
+
+pub has_at : (ns : List ℕ) (i : ℕ) → i < length ns → has_number (get_or ns i 0) ns ≡ true
+has_at [] i l = absurd (omega arith)
+has_at (n ∷ ns) zero l = has_first n ns
+has_at (n ∷ ns) (suc i) l = has_later (get_or ns i 0) n ns (has_at ns i (omega arith))
+
+pub differ_at : (ns : List ℕ) (i : ℕ) → numbers_differ ns ≡ true → i < length ns → has_number (get_or ns i 0) (take i ns) ≡ false
+differ_at [] i d l = absurd (omega arith)
+differ_at (n ∷ ns) zero d l = refl
+differ_at (n ∷ ns) (suc i) d l =
+    let p = and_parts (not (has_number n ns)) (numbers_differ ns) d in
+    or_from (n == get_or ns i 0) (has_number (get_or ns i 0) (take i ns))
+    (ne_eqb n (get_or ns i 0) (λ e. both_ways (has_number n ns) (not-true _ p.0) (subst (λ x. has_number x ns ≡ true) (sym e) (has_at ns i (omega arith)))))
+    (differ_at ns i p.1 (omega arith))
