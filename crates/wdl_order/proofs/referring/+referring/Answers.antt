@@ -77,6 +77,17 @@ push_rows-returns t c =
     let l : length c.args.rows.now ≤ c.loop-row.row-index = search rules in
     after_all c.loop-row.names c.args.names.now _ (in_rows c.args.rows.now) (ap in_rows (drop_all c.loop-row.row-index c.args.rows.now l)) c.loop-row.invariant
 
+pub push_parts-loop-part-preserved : goal.push_parts-loop-part-preserved
+push_parts-loop-part-preserved t c =
+    let l : c.loop-part.part-index < length c.args.parts.now = search rules in
+    let rest : List (TPart TExpr) = drop (c.loop-part.part-index + 1) c.args.parts.now in
+    after_more c.loop-part.names c.push_names.new.names c.args.names.now (names_of c.in-Hole.hole.expr)
+    (piece_names rest) (piece_names (drop c.loop-part.part-index c.args.parts.now)) (piece_names c.args.parts.now)
+    c.in_ok-push_names.ensures
+    (ap piece_names (drop_more c.args.parts.now c.loop-part.part-index c.part-item.result l)
+    ∙ ap (λ x. piece_names (x ∷ rest)) (sym c.part-item.is ∙ c.in-Hole.is))
+    c.loop-part.invariant
+
 pub push_parts-returns : goal.push_parts-returns
 push_parts-returns t c =
     let l : length c.args.parts.now ≤ c.loop-part.part-index = search rules in
