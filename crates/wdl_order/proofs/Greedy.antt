@@ -1,14 +1,13 @@
 -- Taking the least member that is ready again and again gives the least order; where no member is ready, there is none.
-use Rattle.std.proofs.Common.{◌≡◌, ℕ, zero, suc, ◌+◌, ◌<◌, ◌≤◌, Bool, true, false, not, ◌==◌, ◌||◌, ◌&&◌, cond, ◌⊎◌, inl, inr, List, [], ◌∷◌, ◌++◌, length, refl, sym, ap, ◌∙◌, subst, arith}
-use Rattle.std.proofs.lemmas.Bool.{false≢true, and_parts, and_from, or_cases, or_left, or_right, or_parts, or_from, not-true, not_from_true, not_from_false, not_from_true, ne_eqb, eq-eqb, eqb-true, cases_eq, cases_Bool, ltb-true, lt-ltb, both_ways, false_from_ne_true}
+use Rattle.std.proofs.Common.{◌≡◌, ℕ, ◌+◌, ◌<◌, ◌≤◌, Bool, true, false, not, ◌==◌, ◌||◌, ◌&&◌, inl, inr, List, [], ◌∷◌, ◌++◌, length, refl, sym, ap, ◌∙◌, subst, arith}
+use Rattle.std.proofs.lemmas.Bool.{false≢true, and_parts, and_from, or_cases, or_from, not-true, not_from_false, ne_eqb, eq-eqb, eqb-true, cases_eq, cases_Bool, ltb-true, lt-ltb, both_ways, false_from_ne_true}
 use Rattle.std.proofs.lemmas.Bool.Decides.{nat_tests}
 use Rattle.std.proofs.lemmas.Cmp.{nat_eq_equiv}
 use Rattle.std.proofs.lemmas.Map.Made.{length-le_from_is_member}
 use Rattle.std.specs.Cmp.Lexicographic.{slice_cmp}
-use Rattle.std.specs.declared.cmp.Ordering.{Ordering}
 use Rattle.std.specs.declared.cmp.Ordering.TheVariants.{Equal, Greater}
 use Rattle.std.specs.Ordering.{is_lt, nat_cmp, ordering_then}
-use Rattle.wdl_order.proofs.Numbers.{has_first, has_later, has_cases, has-any, or_swap, below_each, distinct, range_to, range_from}
+use Rattle.wdl_order.proofs.Numbers.{has_first, has_later, has_cases, has-any, or_swap, distinct, range_to, range_from}
 use Rattle.wdl_order.specs.Positions.{Need, follows, all_follow, is_order_of, IsLeastOf, HasNone}
 use Rattle.wdl_typed.specs.Lists.{are_below, are_counted, has_number, numbers_differ}
 

@@ -1,18 +1,18 @@
 -- Members that wait for one another: each step keeps what the record says.
-use Rattle.std.proofs.Common.{◌≡◌, ◌≢◌, ℕ, zero, suc, ◌+◌, ◌-◌, ◌<◌, ◌≤◌, Bool, true, false, ◌==◌, ◌||◌, cond, ◌⊎◌, inl, inr, List, [], ◌∷◌, ◌++◌, length, get_or, replicate, refl, sym, ap, ◌∙◌, subst, arith}
-use Rattle.std.proofs.lemmas.Bool.{false≢true, or_cases, or_left, or_right, eq-eqb, eqb-true, cases_eq, cases_Bool, cases_lt, ne_eqb, both_ways, false_from_ne_true}
+use Rattle.std.proofs.Common.{◌≡◌, ◌≢◌, ℕ, ◌<◌, Bool, true, false, ◌||◌, ◌⊎◌, inl, inr, List, [], ◌∷◌, ◌++◌, length, replicate, refl, sym, ap, ◌∙◌, subst, arith}
+use Rattle.std.proofs.lemmas.Bool.{false≢true, or_cases, or_left, or_right, cases_eq, cases_lt, ne_eqb, both_ways, false_from_ne_true}
 use Rattle.std.proofs.lemmas.Bool.Decides.{nat_tests}
 use Rattle.std.proofs.lemmas.List.{length-replicate, length-set, get_or-replicate, get_or_past, nil_from_length, get_or-set_same, get_or-set_other}
 use Rattle.std.proofs.lemmas.Map.Keys.{le_from_not_gt}
 use Rattle.std.specs.BTreeMap.{is_at}
 use Rattle.std.specs.BTreeSet.{BTreeSet, contains, Updates, IsLowerBound}
-use Rattle.std.specs.List.{list_any, range_with_len, slice_set}
+use Rattle.std.specs.List.{list_any, slice_set}
 use Rattle.std.specs.Ordering.{nat_cmp}
-use Rattle.wdl_order.proofs.Greedy.{Follows, IsNext, IsStuck}
+use Rattle.wdl_order.proofs.Greedy.{IsNext, IsStuck}
 use Rattle.wdl_order.proofs.Numbers.{has_first, has_last, has_later, has_cases, has-append}
 use Rattle.wdl_order.specs.Positions.{Need}
-use Rattle.wdl_order.specs.Rows.{AllBelow, AreWithin, has, is_set, row}
-use Rattle.wdl_order.specs.Working.{Trims, AreSized, AreKept, IsFree, IsMet}
+use Rattle.wdl_order.specs.Rows.{has, is_set, row}
+use Rattle.wdl_order.specs.Working.{Trims, AreKept, IsFree, IsMet}
 use Rattle.wdl_typed.specs.Lists.{has_number}
 
 -- ---- one row, one flag, one key

@@ -1,16 +1,14 @@
 -- The names that members give and refer to, name by name.
-use Rattle.std.proofs.Common.{◌≡◌, ℕ, Bool, true, false, ◌==◌, ◌||◌, ◌&&◌, cond, nat_lt, suc, zero, ◌+◌, ◌<◌, inl, inr, arith, String, Vec, Option, Some, None, List, [], ◌∷◌, ◌++◌, map, refl, sym, ap, subst, ◌∙◌, append_assoc, append-nil}
+use Rattle.std.proofs.Common.{◌≡◌, ℕ, Bool, true, false, ◌==◌, ◌||◌, ◌&&◌, cond, suc, zero, Option, Some, None, List, [], ◌∷◌, ◌++◌, map, refl, sym, ap, ◌∙◌, append_assoc, append-nil}
 use Rattle.std.proofs.lemmas.List.{map-append}
 use Rattle.wdl_base.specs.declared.name.Key.{Key}
-use Rattle.std.proofs.lemmas.Bool.{eq-eqb, ne_eqb, lt-ltb, le-ltb, cases_order}
 use Rattle.std.proofs.lemmas.List.Concat.{flat_map-cons}
-use Rattle.std.specs.BTreeMap.{BTreeMap}
 use Rattle.std.specs.List.{flat_map, list_any, slice_get}
-use Rattle.wdl_order.proofs.Numbers.{has-append, or_none}
+use Rattle.wdl_order.proofs.Numbers.{has-append}
 use Rattle.wdl_order.specs.declared.uses.Uses.{Uses}
-use Rattle.wdl_order.specs.Names.{after, as_needing, gives_at, gives_name, givers_of, needs_at, needs_between}
+use Rattle.wdl_order.specs.Names.{after, as_needing, gives_at, gives_name, needs_at, needs_between}
 use Rattle.wdl_order.specs.Rows.{has}
-use Rattle.wdl_typed.specs.Lists.{has_name, has_number}
+use Rattle.wdl_typed.specs.Lists.{has_number}
 use Rattle.wdl_typed.specs.Order.{Needing, needs_some}
 
 pub after_is : (names : List (List ℕ)) (keys : List Key) → after names keys ≡ names ++ map (λ (k : Key). k.first) keys

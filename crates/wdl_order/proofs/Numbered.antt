@@ -1,5 +1,5 @@
 -- Orders of a list of members are orders of their numbers.
-use Rattle.std.proofs.Common.{◌≡◌, ℕ, Bool, true, false, not, ◌==◌, ◌||◌, ◌&&◌, List, [], ◌∷◌, length, slice_get, Option, Some, None, refl, sym, ap, ◌∙◌, subst}
+use Rattle.std.proofs.Common.{◌≡◌, ℕ, false, not, ◌==◌, ◌||◌, ◌&&◌, List, [], ◌∷◌, length, slice_get, Option, Some, None, refl, sym, ap, ◌∙◌}
 use Rattle.std.specs.List.{list_all, range_with_len}
 use Rattle.wdl_order.proofs.Numbers.{range_from}
 use Rattle.wdl_order.specs.Names.{needs_at, needs_between}

@@ -1,5 +1,5 @@
 -- The names that members give and refer to.
-use Rattle.std.specs.Prelude.{◌≡◌, ℕ, Bool, true, false, List, [], ◌∷◌, ◌++◌, Option, Some, None, map, slice_get, String, Vec}
+use Rattle.std.specs.Prelude.{ℕ, Bool, false, List, [], ◌++◌, Option, Some, None, map, slice_get, String, Vec}
 use Rattle.std.specs.BTreeMap.{BTreeMap, get_by_text}
 use Rattle.std.specs.Option.{option_map_or}
 use Rattle.wdl_base.specs.declared.name.Key.{Key}

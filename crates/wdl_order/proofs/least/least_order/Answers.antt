@@ -1,8 +1,7 @@
-use Rattle.std.proofs.Common.{rules, ◌≡◌, ◌+◌, ◌<◌, ◌≤◌, ℕ, true, List, [], ◌∷◌, ◌++◌, length, Option, Some, None, refl, sym, ap, ◌∙◌, subst, arith}
+use Rattle.std.proofs.Common.{rules, ◌≡◌, ◌+◌, ◌<◌, ◌≤◌, ℕ, true, [], ◌∷◌, ◌++◌, length, Option, Some, None, sym, ap, ◌∙◌, subst, arith}
 use Rattle.std.proofs.lemmas.Grind.{common_steps}
 use Rattle.std.proofs.lemmas.List.{length-set, length_push}
 use Rattle.std.specs.BTreeSet.{contains}
-use Rattle.std.specs.List.{slice_set}
 use Rattle.std.specs.Option.{IfSome, unwrap_or}
 use Rattle.std.specs.Ordering.{nat_cmp}
 use Rattle.wdl_order.proofs.Greedy.{Greedy, IsNext, greedy_more, greedy_least, stuck_none}
@@ -10,7 +9,6 @@ use Rattle.wdl_order.proofs.Keeping.{kept_popped, next_popped, none_contained, s
 use Rattle.wdl_order.proofs.Numbers.{or_none}
 use Rattle.wdl_order.specs.Positions.{Need, HasNone}
 use Rattle.wdl_order.specs.Rows.{has, is_set}
-use Rattle.wdl_order.specs.Working.{IsKept}
 use Rattle.wdl_typed.specs.Lists.{has_number}
 use Rattle.wdl_order.proofs.least.least_order.Goals as goal
 

@@ -1,4 +1,4 @@
-use Rattle.std.proofs.Common.{rules, ◌≡◌, ◌<◌, ◌++◌, ◌∷◌, [], ℕ, Some, None, length, map, get_or, slice_get, take, sym, ap, ◌∙◌, subst, append-nil}
+use Rattle.std.proofs.Common.{rules, ◌≡◌, ◌<◌, ◌++◌, ◌∷◌, [], ℕ, Some, None, length, get_or, slice_get, take, sym, ap, ◌∙◌, subst, append-nil}
 use Rattle.std.proofs.lemmas.List.{get_or_default, length-map, length-set}
 use Rattle.wdl_order.proofs.Numbers.{below_each, differ_at, has_at}
 use Rattle.wdl_order.proofs.Slots.{picked_more, slot_at, slots_left}

@@ -1,4 +1,4 @@
-use Rattle.std.proofs.Common.{rules, ◌≡◌, ℕ, true, ◌⊎◌, inl, inr, List, [], ◌∷◌, ◌++◌, sym, ap, ◌∙◌, subst}
+use Rattle.std.proofs.Common.{rules, ◌≡◌, ℕ, true, inl, inr, sym, ap, ◌∙◌, subst}
 use Rattle.wdl_typed.specs.Lists.{has_number}
 use Rattle.wdl_order.specs.Rows.{is_set}
 use Rattle.wdl_order.proofs.Numbers.{has_front, has_last, has_pushed}

@@ -1,4 +1,4 @@
-use Rattle.std.proofs.Common.{rules, ◌≡◌, ◌<◌, ℕ, List, [], ◌∷◌, length, sym, subst}
+use Rattle.std.proofs.Common.{rules, ◌<◌, [], length, sym, subst}
 use Rattle.wdl_order.proofs.Keeping.{kept_marked}
 use Rattle.wdl_order.proofs.Numbers.{has_first}
 use Rattle.wdl_order.specs.Working.{AreKept}

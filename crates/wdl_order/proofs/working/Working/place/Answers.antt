@@ -1,6 +1,5 @@
-use Rattle.std.proofs.Common.{rules, ◌≡◌, ◌+◌, ◌<◌, ◌≤◌, ℕ, List, [], ◌∷◌, length, drop, sym, ◌∙◌, subst, arith}
+use Rattle.std.proofs.Common.{rules, ◌+◌, ◌<◌, ◌≤◌, ℕ, List, length, drop, sym, ◌∙◌, subst}
 use Rattle.std.proofs.lemmas.List.{drop_all, drop_more}
-use Rattle.wdl_order.specs.Positions.{Need}
 use Rattle.wdl_order.specs.Working.{IsKept}
 use Rattle.wdl_order.proofs.working.Working.place.Goals as goal
 

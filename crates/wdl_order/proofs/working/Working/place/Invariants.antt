@@ -1,4 +1,4 @@
-use Rattle.std.proofs.Common.{◌≡◌, true, ℕ, [], ◌∷◌, drop}
+use Rattle.std.proofs.Common.{◌≡◌, true, [], ◌∷◌, drop}
 use Rattle.std.specs.List.{slice_set}
 use Rattle.wdl_order.specs.Positions.{Need}
 use Rattle.wdl_order.specs.Working.{IsKept, IsFree}

@@ -1,10 +1,9 @@
-use Rattle.std.proofs.Common.{rules, ◌≡◌, ℕ, true, false, List, ◌∷◌, sym, ap, subst}
+use Rattle.std.proofs.Common.{rules, ◌≡◌, true, false, sym, subst}
 use Rattle.std.proofs.lemmas.Result.{on_ok_weaker}
 use Rattle.wdl_order.proofs.Keeping.{kept_trimmed, kept_waiting, kept_ready}
 use Rattle.wdl_order.proofs.Numbers.{has_first}
-use Rattle.wdl_order.specs.Positions.{Need}
 use Rattle.wdl_order.specs.Rows.{has, is_set}
-use Rattle.wdl_order.specs.Working.{AreKept, IsKept, Trims}
+use Rattle.wdl_order.specs.Working.{AreKept, Trims}
 use Rattle.wdl_order.proofs.working.Working.settle.Goals as goal
 
 pub trim-requires-clause-inside : goal.trim-requires-clause-inside
