@@ -1,0 +1,6 @@
+pub mod Numbers
+pub mod Greedy
+pub mod Keeping
+pub mod Names
+pub mod Slots
+pub mod Numbered

@@ -1,0 +1,6 @@
+use Rattle.std.proofs.Common.{arith}
+use Rattle.std.proofs.lemmas.Grind.{text_groups}
+use Rattle.wdl_order.proofs.givers.add.Goals as goal
+
+pub returns : goal.returns
+returns c = λ x. grind (arith, text_groups)

@@ -1,0 +1,6 @@
+pub mod Members
+pub mod Names
+pub mod Outcome
+pub mod Positions
+pub mod Rows
+pub mod Working

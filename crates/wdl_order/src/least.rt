@@ -1,0 +1,35 @@
+ghost use Rattle.std.specs.Prelude.{◌≡◌, length, IfOk};
+ghost use Rattle.wdl_order.specs.Rows.{AreWithin, has};
+ghost use Rattle.wdl_order.specs.Working.{Answers};
+
+use crate::rows::first_unset;
+use crate::working::Working;
+use sqlite_items::Items;
+use std::alloc::Global;
+use wdl_base::NoMemory;
+
+/// The members in order, by their numbers, or one that no order reaches.
+#[derive(Drop)]
+pub enum Found {
+    Order(Vec<usize>),
+    Stuck(usize),
+}
+
+/// The least order of members in which each stands after those that it needs: again and again the first in number of those
+/// that are ready. Where none is ready, each of the rest needs another of the rest.
+pub fn least_order(alloc: Global, needs: Vec<Items<usize>>) -> Result<Found, NoMemory>
+    requires { AreWithin needs.items }
+    ensures { IfOk result (Answers (length needs.items) (has needs.items)) }
+{
+    let count = needs.len();
+    let mut work = Working::new(alloc, needs)?;
+    let mut order = Vec::with_capacity(alloc, count)?;
+    for _ in 0..count {
+        let Some(member) = work.ready.pop_first() else {
+            return Ok(Found::Stuck(first_unset(work.placed.as_slice()).unwrap_or(0)));
+        };
+        order.push(member)?;
+        work.place(alloc, member)?;
+    }
+    Ok(Found::Order(order))
+}

@@ -1,0 +1,104 @@
+use crate::fault::OrderFault;
+use crate::member::Member;
+use crate::notation::{declaration, input, statements};
+use crate::{order, order_declarations, order_inputs};
+use std::alloc::Global;
+use std::test::Fail;
+use wdl_typed::TDecl;
+use wdl_value::Items;
+
+/// Whether the members stand in the order of these numbers.
+fn stands<M: Member>(list: &[M], numbers: &str) -> bool {
+    let mut left = list;
+    for number in numbers.split(' ') {
+        let [member, rest @ ..] = left else {
+            return false;
+        };
+        if number.parse::<u32>() != Ok(member.span().start) {
+            return false;
+        }
+        left = rest;
+    }
+    left.is_empty()
+}
+
+/// Whether the outcome is that order, or `circle`.
+fn is<M: Member>(outcome: Result<Items<M>, OrderFault>, expected: &str) -> bool {
+    match outcome {
+        Ok(list) => stands(list.as_slice(), expected),
+        Err(OrderFault::Circular { span }) => expected == "circle" && span.doc == 7,
+        Err(OrderFault::NoMemory) => false,
+    }
+}
+
+fn all_stand(alloc: Global, cases: &str) -> Result<bool, Fail> {
+    for case in cases.split('|') {
+        let Some((text, expected)) = case.split_once(" -> ") else {
+            return Ok(false);
+        };
+        if !is(order(alloc, statements(alloc, text)?), expected) {
+            return Ok(false);
+        }
+    }
+    Ok(true)
+}
+
+#[test]
+fn statements_stand_after_what_they_need(rt: HostRuntime) -> Result<(), Fail> {
+    let simple =
+        "a= b= c= -> 0 1 2|c=b b=a a= -> 2 1 0|a=d b= c= d= -> 1 2 3 0|b=q a= -> 0 1|c=a a= a= -> 1 2 0|c!d.out d! -> 1 0|c!;d d! -> 1 0";
+    assert!(rt; all_stand(rt.alloc(), simple)?);
+    let blocks =
+        "[ x=y,i ]i=xs y= xs= -> 1 2 0|[ x= y=x ]?c c= -> 1 0|z=y [ x= y=x ]?c c= -> 2 1 0|[ x=i ]i=xs xs= i= -> 1 0 2|[ [ x=w ]?c ]i=xs w= xs= c= -> 1 2 3 0|[ c!;d ]i= d! -> 1 0";
+    assert!(rt; all_stand(rt.alloc(), blocks)?);
+    let circles =
+        "a=b b=a -> circle|a=a -> circle|a= b=c c=b -> circle|[ x=z ]?c z=x c= -> circle|[ x= ]?x -> circle|c!;d d!c.out -> circle";
+    assert!(rt; all_stand(rt.alloc(), circles)?);
+    Ok(())
+}
+
+#[test]
+fn inputs_stand_after_what_their_defaults_need(rt: HostRuntime) -> Result<(), Fail> {
+    let alloc = rt.alloc();
+    let mut inputs = Items::new(alloc);
+    inputs.push(input(alloc, "b=a", 0)?)?;
+    inputs.push(input(alloc, "c", 1)?)?;
+    inputs.push(input(alloc, "a", 2)?)?;
+    assert!(rt; is(order_inputs(alloc, inputs), "1 2 0"));
+    Ok(())
+}
+
+#[test]
+fn declarations_stand_after_what_they_need(rt: HostRuntime) -> Result<(), Fail> {
+    let alloc = rt.alloc();
+    let mut list = Items::new(alloc);
+    list.push(declaration(alloc, "b=a", 0)?)?;
+    list.push(declaration(alloc, "a=", 1)?)?;
+    assert!(rt; is(order_declarations(alloc, list), "1 0"));
+    Ok(())
+}
+
+/// That many declarations, of which each needs the next.
+fn chain(alloc: Global, length: usize) -> Result<Items<TDecl>, Fail> {
+    let mut list = Items::new(alloc);
+    for at in 0..length {
+        let left = length - at;
+        let needed = left - 1;
+        let word = format!(in alloc; "a{left}=a{needed}")?;
+        list.push(declaration(alloc, word.as_str(), at)?)?;
+    }
+    Ok(list)
+}
+
+#[test]
+fn a_long_chain_is_turned_round(rt: HostRuntime) -> Result<(), Fail> {
+    let alloc = rt.alloc();
+    let ordered = order_declarations(alloc, chain(alloc, 20_000)?).map_err(|_| "circular")?;
+    assert_eq!(rt; ordered.len(), 20_000);
+    let mut next = 20_000u32;
+    for declaration in ordered.as_slice() {
+        next = next.saturating_sub(1);
+        assert_eq!(rt; declaration.span.start, next);
+    }
+    Ok(())
+}
