@@ -2,6 +2,7 @@ use crate::trouble::Trouble;
 use std::alloc::{AllocError, Global};
 use std::fs;
 use std::fs::Files;
+use std::io::ErrorKind;
 use wdl_value::Laid;
 
 /// The path of a name below a directory.
@@ -12,10 +13,18 @@ pub(crate) fn path_in(alloc: Global, dir: &str, name: &str) -> Result<String, Al
     Ok(path)
 }
 
+/// Removes the directory with what it holds, if it is there.
+fn clear<R: Files>(rt: &R, alloc: Global, dir: &str) -> Result<(), Trouble> {
+    match rt.remove_dir_all(alloc, dir) {
+        Ok(()) => Ok(()),
+        Err(e) if e.kind() == ErrorKind::NotFound => Ok(()),
+        Err(e) => Err(Trouble::from(e)),
+    }
+}
+
 /// Makes the directory anew, and those above it where they are missing. What stood there goes.
 pub(crate) fn make<R: Files>(rt: &R, alloc: Global, dir: &str) -> Result<(), Trouble> {
-    // Where this fails, the directory is not there, or it cannot be made below.
-    let _ = rt.remove_dir_all(alloc, dir);
+    clear(rt, alloc, dir)?;
     if let Some((above, _)) = dir.rsplit_once('/') {
         fs::create_dir_all(rt, above)?;
     }

@@ -2,6 +2,7 @@
 use crate::ShellLauncher;
 use sqlite_items::Items;
 use std::alloc::Global;
+use std::fs::Files;
 use std::test::Fail;
 use wdl_port::{LaunchFault, Launcher};
 use wdl_value::{Answer, Body, Laid, NoMemory, Request, Seen, Text};
@@ -76,5 +77,22 @@ fn runs_a_command_in_its_directory(rt: HostRuntime) -> Result<(), Fail> {
     let answer = launch(&launcher, alloc, "job/one", "kill -9 $$")?;
     assert_eq!(rt; answer.status, 255);
     assert_eq!(rt; answer.files.len(), 1);
+    rt.remove_dir_all(alloc, "job")?;
+    Ok(())
+}
+
+#[test]
+fn refuses_where_the_directory_cannot_be_made(rt: HostRuntime) -> Result<(), Fail> {
+    let alloc = rt.alloc();
+    let launcher = ShellLauncher::new(&rt);
+    let answer = launch(&launcher, alloc, "held/one", "printf x > file")?;
+    assert_eq!(rt; answer.status, 0);
+    let below_a_file = launch(&launcher, alloc, "held/one/file/two", "true");
+    assert!(rt; matches!(&below_a_file, Err(LaunchFault::Refused)));
+    let at_a_file = launch(&launcher, alloc, "held/one/file", "true");
+    assert!(rt; matches!(&at_a_file, Err(LaunchFault::Refused)));
+    let without_a_name = launch(&launcher, alloc, "", "true");
+    assert!(rt; matches!(&without_a_name, Err(LaunchFault::Refused)));
+    rt.remove_dir_all(alloc, "held")?;
     Ok(())
 }
