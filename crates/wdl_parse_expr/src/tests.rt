@@ -1,4 +1,4 @@
-use crate::{ParseFault, ParsedExpr, parse_expr, parse_type};
+use crate::{ParseFault, parse_expr, parse_type};
 use sqlite_items::Items;
 use std::alloc::Global;
 use std::test::Fail;
@@ -11,6 +11,7 @@ fn word(letter: u8) -> &'static str {
         b'A' => "Array",
         b'B' => "Boolean",
         b'F' => "Float",
+        b'I' => "File",
         b'J' => "write_json",
         b'M' => "Map",
         b'N' => "Int",
@@ -18,6 +19,8 @@ fn word(letter: u8) -> &'static str {
         b'P' => "Pair",
         b'S' => "Sample",
         b'T' => "true",
+        b'V' => "None",
+        b'W' => "String",
         b'X' => "false",
         b'd' => "default",
         b'e' => "else",
@@ -39,7 +42,8 @@ fn text(alloc: Global, letter: u8) -> Result<Text, NoMemory> {
     }
 }
 
-/// The mark that a byte of a row stands for; `@` is `==`, `&` is `&&` and `|` is `||`.
+/// The mark that a byte of a row stands for: itself, or of those with two bytes `@` for `==`, `_` for `!=`, `l` for `<=`,
+/// `g` for `>=`, `&` for `&&` and `|` for `||`.
 fn mark(byte: u8) -> Option<Mark> {
     Some(match byte {
         b'{' => Mark::OpenBrace,
@@ -56,16 +60,22 @@ fn mark(byte: u8) -> Option<Mark> {
         b'+' => Mark::Plus,
         b'-' => Mark::Minus,
         b'*' => Mark::Star,
+        b'/' => Mark::Slash,
+        b'%' => Mark::Percent,
         b'!' => Mark::Not,
         b'<' => Mark::Less,
+        b'l' => Mark::LessEqual,
+        b'>' => Mark::Greater,
+        b'g' => Mark::GreaterEqual,
         b'@' => Mark::Equal,
+        b'_' => Mark::NotEqual,
         b'&' => Mark::And,
         b'|' => Mark::Or,
         _ => return None,
     })
 }
 
-/// The token that a byte of a row stands for: `"` and `;` begin and end a string, `#` is its characters, `$` and `~` begin and
+/// The token that a byte of a row stands for: `"` and `'` begin and end a string, `#` is its characters, `$` and `~` begin and
 /// end a placeholder, and `^` is a fraction.
 fn kind(alloc: Global, byte: u8) -> Result<Kind, NoMemory> {
     if let Some(mark) = mark(byte) {
@@ -74,7 +84,7 @@ fn kind(alloc: Global, byte: u8) -> Result<Kind, NoMemory> {
     match byte {
         b'0'..=b'9' => Ok(Kind::Int(i64::from(byte - b'0'))),
         b'"' => Ok(Kind::StrOpen(Quote::Double)),
-        b';' => Ok(Kind::StrClose),
+        b'\'' => Ok(Kind::StrClose),
         b'$' => Ok(Kind::HoleOpen(HoleMark::Dollar)),
         b'~' => Ok(Kind::HoleClose),
         b'#' => Ok(Kind::Chars(text(alloc, byte)?)),
@@ -100,14 +110,18 @@ fn tokens(alloc: Global, row: &str) -> Result<Items<Token>, NoMemory> {
     Ok(tokens)
 }
 
+/// The code, and the place of the token where a form that is left out begins.
 fn shown_fault(alloc: Global, fault: ParseFault) -> Result<String, Fail> {
     Ok(match fault {
-        ParseFault::Bad { code, span } => format!(in alloc; "{code} at {}", span.start)?,
+        ParseFault::Bad { code, span } if code >= 120 => {
+            format!(in alloc; "{code} at {}", span.start)?
+        }
+        ParseFault::Bad { code, .. } => format!(in alloc; "{code}")?,
         ParseFault::NoMemory => format!(in alloc; "no memory")?,
     })
 }
 
-/// The place behind the expression, or what is wrong and where.
+/// The place behind the expression, or what is wrong.
 fn expr_end(alloc: Global, row: &str) -> Result<String, Fail> {
     match parse_expr(alloc, tokens(alloc, row)?.as_slice(), 0) {
         Ok(parsed) => Ok(format!(in alloc; "{}", parsed.next)?),
@@ -123,38 +137,123 @@ fn type_end(alloc: Global, row: &str) -> Result<String, Fail> {
     }
 }
 
-/// Expressions, each with the place behind the longest one, or with what is wrong.
-const EXPRESSIONS: &str = "\
-1-2-3 5|1+) 1|a(1,) 1|a[ 1|a. 1|a.b[0].c 8|!a.b 4|-a*b<1@T&X 10|iTt1eS 6|iTt1+2e-S 9|\
-(1) 3|(1,2) 5|[] 2|[1,] 4|[1,2] 5|{} 2|{1:2,} 6|{1:2,3:4} 9|S{} 3|S{a:1,b:2} 10|a() 3|a(1,(2)) 8|\
-\"; 2|\"#; 3|\"#$1+2~#; 9|\"$a~$b~; 8|\"$p=\"#;a~; 10|\"$d=\";a~; 9|\"$T=\"#;X=\";a~; 14|\"$X=\"#;T=\";a~; 14|\"$p~; 5";
-
-/// Rows that are refused, each with its code and the place of the token.
-const REFUSED_EXPRESSIONS: &str = "\
-) 110 at 0|N 110 at 0|( 110 at 0|(1 110 at 1|(1,2,3) 110 at 4|[1 110 at 1|[, 110 at 1|[1,-]) 110 at 4|{1} 110 at 2|{1:2 110 at 3|iTt1 110 at 3|\
-\" 110 at 0|\"$~; 110 at 2|\"$b=\"#;a~; 110 at 4|\"$p=\"#;d=\"#;a~; 110 at 8|\"$T=\"#;a~; 110 at 7|\"$T=\"#;T=\"#;a~; 110 at 9|\
-^ 120 at 0|1+^ 120 at 2|z(a) 120 at 0|o 121 at 0|w(a) 121 at 0|s(a) 122 at 0|(J(a)) 123 at 1";
-
-/// Types, as above.
-const TYPES: &str = "\
-A[N]+? 6|A[N] 4|N? 2|N?? 3|A[N]?+ 5|M[N,A[S?]]? 11|P[B,S] 6|S 1|S{ 1|A 110 at 0|A[N 110 at 2|P[N] 110 at 3|1 110 at 0|i 110 at 0|F 120 at 0|A[O] 121 at 2";
-
-#[derive(Clone, Copy)]
-enum Rule {
-    Expr,
-    Type,
+/// A letter for the form of an expression.
+fn form(expr: &Expr) -> &'static str {
+    match expr {
+        Expr::Binary { .. } => "b",
+        Expr::Unary { .. } => "u",
+        Expr::Member { .. } => "m",
+        Expr::Index { .. } => "x",
+        _ => "p",
+    }
 }
 
-/// The first row whose end is another than it says; empty where there is none.
-fn misread(alloc: Global, rows: &str, rule: Rule) -> Result<String, Fail> {
-    for row in rows.split('|') {
+/// The letters of an expression and of its parts.
+fn forms(alloc: Global, row: &str) -> Result<String, Fail> {
+    match parse_expr(alloc, tokens(alloc, row)?.as_slice(), 0) {
+        Ok(parsed) => Ok(match &parsed.expr {
+            Expr::Binary { left, right, .. } => {
+                format!(in alloc; "b{}{}", form(left.get()), form(right.get()))?
+            }
+            Expr::Unary { operand, .. } => format!(in alloc; "u{}", form(operand.get()))?,
+            Expr::Index { base, index, .. } => {
+                format!(in alloc; "x{}{}", form(base.get()), form(index.get()))?
+            }
+            _ => format!(in alloc; "other")?,
+        }),
+        Err(fault) => shown_fault(alloc, fault),
+    }
+}
+
+/// Expressions, each with the place behind the longest one, or with its code. A part that is wrong leaves what stands
+/// before it, or nothing.
+const EXPRESSIONS: &str =
+    "iTt1e2 6;iTt1 110;iT 110;1|2 3;1|) 1;1&2 3;1&) 1;1@2 3;1_2 3;1@) 1;1<2 3;1l2 3;1>2 3;1g2 3;1<) 1;1+2 3;1-2 3;1+) 1;\
+1*2 3;1/2 3;1%2 3;1*) 1;!T 2;-1 2;+1 2;--1 3;! 110;a.b 3;a. 1;a[0] 4;a[0 1;a[ 1;a.b[0].c 8;T 1;X 1;V 1;1 1;a 1;N 110;i 110;) 110; 110;\
+a() 3;a(1,2) 6;a(1,) 1;a(1 1;(1) 3;(1 110;() 110;(1,2) 5;(1,2,3) 110;(1,) 110;[] 2;[1,2] 5;[1,] 4;[, 110;[1 110;[1 2] 110;\
+{} 2;{1:2} 5;{1:2,3:4,} 10;{1} 110;{1:2 110;S{} 3;S{a:1,b:2,} 11;S{1:2} 1;S{a:1 1;\"' 2;\"#$1~#' 7;\"# 110;\"#$1' 110;\"$~' 110;\
+\"$p=\"#'1~' 10;\"$d=\"'1~' 9;\"$T=\"#'X=\"'1~' 13;\"$X=\"'T=\"#'1~' 13;\"$p~' 5;\"$b=\"'1~' 110;\"$p=\"'d=\"'1~' 110;\"$T=\"'1~' 110;\
+\"$T=\"'T=\"'1~' 110;\"$p=\"$1~'1~' 110;^ 120 at 0;1+^ 120 at 2;z(a) 120 at 0;z 1;o 121 at 0;w(a) 121 at 0;s(a) 122 at 0;(J(a)) 123 at 1";
+
+/// Types, as above.
+const TYPES: &str =
+    "B 1;N 1;W 1;I 1;S 1;A[N] 4;A[N]+ 5;A 110;A[N 110;A[] 110;M[N,W] 6;M[N] 110;P[B,S] 6;P[N,] 110;N? 2;N?? 3;N+ 1;\
+A[N]+? 6;A[N]?+ 5;M[N,A[S?]]? 11;1 110;i 110; 110;F 120 at 0;A[O] 121 at 2";
+
+/// How operators group.
+const FORMS: &str =
+    "1-2-3 bbp;1*2/3 bbp;1-2*3 bpb;1*2-3 bbp;1<2+3 bpb;1+2<3 bbp;1@2<3 bpb;1<2@3 bbp;1&2@3 bpb;1@2&3 bbp;1|2&3 bpb;\
+1&2|3 bbp;!a.b um;-a[0] ux;!1@2 bup;1*-2 bpu;a.b[-1] xmu";
+
+/// Ways to nest, or to go on: what stands before, in the middle and behind.
+const NESTS: &str =
+    "( 1 );- 1 ;[ 1 ];\"$ 1 ~'; a .b; a [0]; 1 +1;{1: 1 };(1, 1 );S{a: 1 };a( 1 );iTt1e 1 ";
+
+/// The same of types.
+const TYPE_NESTS: &str = "A[ N ];M[N, N ];P[N, N ]";
+
+#[derive(Clone, Copy)]
+enum Table {
+    Expressions,
+    Types,
+    Forms,
+}
+
+fn answer(alloc: Global, row: &str, table: Table) -> Result<String, Fail> {
+    match table {
+        Table::Expressions => expr_end(alloc, row),
+        Table::Types => type_end(alloc, row),
+        Table::Forms => forms(alloc, row),
+    }
+}
+
+/// The first row whose answer is another than it says; empty where there is none.
+fn misread(alloc: Global, rows: &str, table: Table) -> Result<String, Fail> {
+    for row in rows.split(';') {
         let (text, want) = row.split_once(' ').unwrap_or((row, "no row"));
-        let got = match rule {
-            Rule::Expr => expr_end(alloc, text)?,
-            Rule::Type => type_end(alloc, text)?,
-        };
+        let got = answer(alloc, text, table)?;
         if got.as_str() != want {
             return Ok(format!(in alloc; "{row} gives {got}")?);
+        }
+    }
+    Ok(String::new(alloc))
+}
+
+/// What stands before, in the middle and behind.
+fn parts(row: &str) -> (&str, &str, &str) {
+    let (before, rest) = row.split_once(' ').unwrap_or((row, ""));
+    let (middle, behind) = rest.split_once(' ').unwrap_or((rest, ""));
+    (before, middle, behind)
+}
+
+/// How often a row must be nested to fill a mebibyte.
+fn filling(row: &str) -> usize {
+    let (before, _, behind) = parts(row);
+    8_192 / before.len().saturating_add(behind.len()).max(1)
+}
+
+/// The answer to a row that is nested so many times; `all` where it is read whole.
+fn nested(alloc: Global, row: &str, times: usize, table: Table) -> Result<String, Fail> {
+    let (before, middle, behind) = parts(row);
+    let mut text = before.repeat(alloc, times)?;
+    text.push_str(middle)?;
+    text.push_str(behind.repeat(alloc, times)?.as_str())?;
+    let got = answer(alloc, text.as_str(), table)?;
+    let whole = format!(in alloc; "{}", text.len())?;
+    if got.as_str() == whole.as_str() {
+        return Ok(format!(in alloc; "all")?);
+    }
+    Ok(got)
+}
+
+/// The first row that is not read whole at that depth, or does not meet the limit one past it, or in a mebibyte.
+fn past_limit(alloc: Global, rows: &str, limit: usize, table: Table) -> Result<String, Fail> {
+    for row in rows.split(';') {
+        let edge = nested(alloc, row, limit, table)?;
+        let past = nested(alloc, row, limit.saturating_add(1), table)?;
+        let full = nested(alloc, row, filling(row), table)?;
+        if edge.as_str() != "all" || past.as_str() != "111" || full.as_str() != "111" {
+            return Ok(format!(in alloc; "{row} gives {edge}, {past}, {full}")?);
         }
     }
     Ok(String::new(alloc))
@@ -163,51 +262,32 @@ fn misread(alloc: Global, rows: &str, rule: Rule) -> Result<String, Fail> {
 #[test]
 fn the_longest_expression_or_type_is_read(rt: HostRuntime) -> Result<(), Fail> {
     let alloc = rt.alloc();
-    assert_eq!(rt; misread(alloc, EXPRESSIONS, Rule::Expr)?.as_str(), "");
-    assert_eq!(rt;
-        misread(alloc, REFUSED_EXPRESSIONS, Rule::Expr)?.as_str(),
-        ""
-    );
-    assert_eq!(rt; misread(alloc, TYPES, Rule::Type)?.as_str(), "");
-    Ok(())
-}
-
-/// Whether it is a difference whose left part is one.
-fn groups_to_the_left(parsed: &ParsedExpr) -> bool {
-    match &parsed.expr {
-        Expr::Binary { left, .. } => matches!(left.get(), Expr::Binary { .. }),
-        _ => false,
-    }
-}
-
-#[test]
-fn differences_group_to_the_left(rt: HostRuntime) -> Result<(), Fail> {
-    let alloc = rt.alloc();
-    let tokens = tokens(alloc, "1-2-3")?;
-    match parse_expr(alloc, tokens.as_slice(), 0) {
-        Ok(parsed) => assert!(rt; groups_to_the_left(&parsed)),
-        Err(_) => assert!(rt; false),
-    }
+    let expressions = misread(alloc, EXPRESSIONS, Table::Expressions)?;
+    assert_eq!(rt; expressions.as_str(), "");
+    let types = misread(alloc, TYPES, Table::Types)?;
+    assert_eq!(rt; types.as_str(), "");
+    let forms = misread(alloc, FORMS, Table::Forms)?;
+    assert_eq!(rt; forms.as_str(), "");
     Ok(())
 }
 
 #[test]
-fn any_nesting_ends_with_an_answer(rt: HostRuntime) -> Result<(), Fail> {
+fn a_depth_past_its_limit_is_refused(rt: HostRuntime) -> Result<(), Fail> {
     let alloc = rt.alloc();
-    for unit in [
-        "(", "[", "{", "-", "i", "a(", "a[", "S{a:", "1+", "a.", "\"$", "iTt1e",
-    ] {
-        let row = unit.repeat(alloc, 100_000 / unit.len().max(1))?;
-        let end = expr_end(alloc, row.as_str())?;
-        assert!(rt; end.as_str().starts_with("111 at "), "{unit}");
-    }
-    let row = "A[".repeat(alloc, 50_000)?;
-    assert_eq!(rt; type_end(alloc, row.as_str())?.as_str(), "111 at 16");
-    let row = "M[S,".repeat(alloc, 25_000)?;
-    assert_eq!(rt; type_end(alloc, row.as_str())?.as_str(), "111 at 30");
+    let exprs = past_limit(alloc, NESTS, 63, Table::Expressions)?;
+    assert_eq!(rt; exprs.as_str(), "");
+    let types = past_limit(alloc, TYPE_NESTS, 7, Table::Types)?;
+    assert_eq!(rt; types.as_str(), "");
+    Ok(())
+}
+
+#[test]
+fn a_mebibyte_of_elements_is_read(rt: HostRuntime) -> Result<(), Fail> {
+    let alloc = rt.alloc();
     let mut row = "[".repeat(alloc, 1)?;
-    row.push_str("1,".repeat(alloc, 500_000)?.as_str())?;
+    row.push_str("1,".repeat(alloc, 524_287)?.as_str())?;
     row.push_str("]")?;
-    assert_eq!(rt; expr_end(alloc, row.as_str())?.as_str(), "1000002");
+    let end = expr_end(alloc, row.as_str())?;
+    assert_eq!(rt; end.as_str(), "1048576");
     Ok(())
 }
