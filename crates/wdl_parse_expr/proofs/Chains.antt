@@ -34,11 +34,14 @@ use Rattle.wdl_parse_expr.proofs.Steps.{ate, ate_ident, sees_ident, cond_true, c
 use Rattle.wdl_parse_expr.proofs.Says.{Says, Takes, said}
 use Rattle.wdl_parse_expr.proofs.Tables.{ate_binary, sees_binary, sees_unary}
 use Rattle.wdl_parse_expr.proofs.Sound.{IsSound, tall_words, Ruled, rule_sound, expr_sound}
-use Rattle.wdl_parse_expr.proofs.Full.{level, Hard, Longer, AtMost, Reaches, IsFull, begins, Begins, Starts, binary_not_assign, longer_along, longer_then, at_most_grown, exact, continues_more, continues_from_0, operator_stops, operator_goes, calls, calls_go, name_not, if_reserved, within, calm, calm_before, no_assign_begins, Primaries, primary_full, inner_exact}
+use Rattle.wdl_parse_expr.proofs.Full.{level, Hard, Longer, AtMost, Reaches, IsFull, begins, Begins, Starts, binary_not_assign, longer_along, longer_then, at_most_grown, exact, continues_more, continues_from_0, operator_stops, operator_goes, calls, calls_go, name_not, if_reserved, calm, calm_before, no_assign_begins, Primaries, primary_full, inner_exact}
 
 -- so many links over parts of that depth
 abbrev pub chain : ℕ → ℕ → Expr → Chain
 chain m i x = record { left = tall x (m + i); links = m; inside = i }
+
+first_chain : (n : ℕ) (x : Expr) → chained (tall x n) ≡ chain 0 n x
+first_chain n x = let same : n ≡ 0 + n = omega arith in ap (λ d. record { left = tall x d; links = 0; inside = n }) same
 
 -- ---- link after link
 
@@ -224,7 +227,7 @@ module _ (In : Rule → ℕ → Expr → Type 0) (depth : ℕ) (inner : Rule →
 
   post_first : (n : ℕ) (x : Expr) (tail : Words) → Primaries In depth inner sound full starts n x tail → Posts 0 n x tail
   unfolding r.post
-  post_first n x tail (inl h) = inl (length tail, omega arith, then_is (r.primary depth inner (words x ++ tail)) _ (tall x n, tail) h)
+  post_first n x tail (inl h) = inl (length tail, omega arith, then_is (r.primary depth inner (words x ++ tail)) _ (tall x n, tail) h ∙ ap (λ z. turns (r.suffix depth inner) (length tail) z tail) (first_chain n x))
   post_first n x tail (inr h) = inr (h.0, longer_then (r.primary depth inner (words x ++ tail)) _ tail h.1 (λ y rest. goes_at_most 0 _ (chained y) rest (turns_goes 0 (r.suffix depth inner) suffix_goes (length rest) (chained y) rest)))
 
   member_step : (m i : ℕ) (x : Expr) (dot : Span) (n : Ident) (tail : Words) → is_name n.name ≡ true → suc m + i ≤ suc depth
@@ -303,7 +306,7 @@ module _ (In : Rule → ℕ → Expr → Type 0) (depth : ℕ) (inner : Rule →
       plain = ap (λ z. r.unary depth inner (z ++ tail)) (words_unary o s y) ∙ found_some (unary_at (marked (unary_mark o) s ∷ rest)) _ _ ((o, s), rest) (sees_unary o s rest)
 
       go : Reaches 0 (inner rule.Unary rest) (tall y d) tail → Reaches 0 (r.unary depth inner (words (e.Unary o s y) ++ tail)) (tall (e.Unary o s y) (suc d)) tail
-      go (inl h) = inl (plain ∙ then_is (inner rule.Unary rest) _ (tall y d, tail) h ∙ grown_is depth s 0 d (e.Unary o s y) tail (within 0 d depth fits))
+      go (inl h) = inl (plain ∙ then_is (inner rule.Unary rest) _ (tall y d, tail) h ∙ grown_is depth s d (e.Unary o s y) tail fits)
       go (inr (c, l)) = inr (c, longer_along _ _ tail plain (longer_then (inner rule.Unary rest) _ tail l (λ x after. at_most_grown depth s 0 x.depth (e.Unary o s x.tree) after)))
 
   -- ---- binary operators
@@ -349,7 +352,7 @@ module _ (In : Rule → ℕ → Expr → Type 0) (depth : ℕ) (inner : Rule →
 
   rule_first : (k n : ℕ) (x : Expr) (tail : Words) → Reaches k (r.rule_at depth inner k (words x ++ tail)) (tall x n) tail → Climbs k 0 n x tail
   unfolding r.rule_at
-  rule_first k n x tail (inl h) = inl (length tail, omega arith, then_is (r.rule_at depth inner k (words x ++ tail)) _ (tall x n, tail) h)
+  rule_first k n x tail (inl h) = inl (length tail, omega arith, then_is (r.rule_at depth inner k (words x ++ tail)) _ (tall x n, tail) h ∙ ap (λ z. turns (Ops k) (length tail) z tail) (first_chain n x))
   rule_first k n x tail (inr (c, l)) = inr (c, longer_then (r.rule_at depth inner k (words x ++ tail)) _ tail l (λ y rest. goes_at_most (suc k) _ (chained y) rest (turns_goes (suc k) (Ops k) (operation_goes k) (length rest) (chained y) rest)))
 
   rule_step : (k m i a : ℕ) (l : Expr) (o : BinaryOperator) (s : Span) (x : Expr) (tail : Words) → looseness o ≡ k → suc m + max i a ≤ suc depth → Climbs k m i l (marked (binary_mark o) s ∷ (words x ++ tail))
@@ -445,7 +448,7 @@ module _ (In : Rule → ℕ → Expr → Type 0) (depth : ℕ) (inner : Rule →
           ∙ found_some (eat_word (codes "else") after) _ _ (s, last) refl
 
       go : Reaches 6 (inner rule.Expr last) (tall x w) tail → Reaches 6 (r.whole depth inner (words (e.If i c t a s x) ++ tail)) (tall (e.If i c t a s x) (suc (max (max p q) w))) tail
-      go (inl h) = inl (plain ∙ then_is (inner rule.Expr last) _ (tall x w, tail) h ∙ grown_is depth i 0 (max (max p q) w) (e.If i c t a s x) tail (within 0 (max (max p q) w) depth fits))
+      go (inl h) = inl (plain ∙ then_is (inner rule.Expr last) _ (tall x w, tail) h ∙ grown_is depth i (max (max p q) w) (e.If i c t a s x) tail fits)
       go (inr (k, l)) = inr (k, longer_along _ _ tail plain (longer_then (inner rule.Expr last) _ tail l (λ z end. at_most_grown depth i 0 (max (max p q) z.depth) (e.If i c t a s z.tree) end)))
 
   whole_full : (n : ℕ) (x : Expr) → IsWhole In n x → n ≤ suc depth → (tail : Words) → Reaches 6 (r.whole depth inner (words x ++ tail)) (tall x n) tail

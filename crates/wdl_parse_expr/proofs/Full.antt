@@ -138,7 +138,7 @@ longer_then {A} {B} o f tail (inr x) more = go (more x.0.0 x.0.1)
     go (inl d) = inl (d.0, then_is o f x.0 x.1 ∙ d.1)
     go (inr y) = inr (y.0, then_is o f x.0 x.1 ∙ y.1, omega (arith, x.2, y.2))
 
-at_most_grown : {A : Type 0} (depth : ℕ) (s : Span) (links inside : ℕ) (x : A) (ts : Words) → AtMost (grown depth s links inside x ts) ts
+pub at_most_grown : {A : Type 0} (depth : ℕ) (s : Span) (links inside : ℕ) (x : A) (ts : Words) → AtMost (grown depth s links inside x ts) ts
 unfolding grown
 at_most_grown depth s links inside x ts = go (nat_le (links + inside) depth)
   where
@@ -257,9 +257,6 @@ none_reserved : is_name (codes "None") ≡ false
 unfolding reserved_words
 none_reserved = refl
 
-pub within : (links inside depth : ℕ) → suc (links + inside) ≤ suc depth → nat_le (links + inside) depth ≡ true
-within links inside depth h = grind (arith, nat_tests)
-
 module _ (In : Rule → ℕ → Expr → Type 0) (depth : ℕ) (inner : Rule → Parser (Tall Expr)) (sound : IsSound In inner) (full : IsFull In inner) (starts : (k : Rule) (n : ℕ) → Starts (In k n)) where
   pub inner_exact : (n : ℕ) (x : Expr) → In rule.Expr n x → (tail : Words) → continues 6 tail ≡ false → inner rule.Expr (words x ++ tail) ≡ Ok (tall x n, tail)
   inner_exact n x i tail stops = exact 6 _ (tall x n) tail stops (full rule.Expr n x i tail)
@@ -341,7 +338,8 @@ module _ (In : Rule → ℕ → Expr → Type 0) (depth : ℕ) (inner : Rule →
   parts_full (suc turns) all [] i n t rest ends p fits = then_is (r.part_at inner (t ∷ rest)) _ (None, t ∷ rest) (ends rest) ∙ ap (λ z. Ok (tall z i, t ∷ rest)) (sym (append-nil all)) ∙ ap (λ z. Ok (tall (all ++ []) z, t ∷ rest)) (sym p)
   parts_full (suc turns) all (part.Chars c ∷ more) i n t rest ends p fits =
       let same : max i 0 ≡ i = grind arith in
-      ap (λ z. r.parts_from inner turns (all ++ part.Chars c ∷ []) z (parts_words words more ++ t ∷ rest)) same
+      then_is (r.part_at inner (parts_words words (part.Chars c ∷ more) ++ t ∷ rest)) _ (Some (tall (part.Chars c) 0), parts_words words more ++ t ∷ rest) refl
+      ∙ ap (λ z. r.parts_from inner turns (all ++ part.Chars c ∷ []) z (parts_words words more ++ t ∷ rest)) same
       ∙ parts_full turns (all ++ part.Chars c ∷ []) more i n t rest ends p (omega arith) ∙ ap (λ z. Ok (tall z n, t ∷ rest)) (append_assoc all (part.Chars c ∷ []) more)
   parts_full (suc turns) all (part.Placeholder h ∷ more) i n t rest ends p fits =
       let tail : Words = parts_words words more ++ t ∷ rest in
@@ -426,7 +424,7 @@ module _ (In : Rule → ℕ → Expr → Type 0) (depth : ℕ) (inner : Rule →
       ∙ ap (λ k. r.call_by depth inner k n o rest tail) out
       ∙ attempt_is (list_of (inner rule.Expr) mark.CloseParen rest) _ _ (record { items = its; inside = d; closing = c }, z) (items_is mark.CloseParen refl (refl, refl, refl) its d c z l)
       ∙ cond_true (ends_bare its) _ _ bare
-      ∙ grown_is depth o 0 d (e.Call n o its c) z (within 0 d depth fits)
+      ∙ grown_is depth o d (e.Call n o its c) z fits
 
   struct_full : (n : Ident) (o : Span) (ms : List (ListItem (MemberEntry Expr))) (c : Span) (d : ℕ) (z : Words) → Listed (IsMember In) ms 0 d → suc d ≤ suc depth
       → r.named depth inner n (marked mark.OpenBrace o ∷ (items_words (member_words words) ms ++ marked mark.CloseBrace c ∷ z)) ≡ Ok (tall (e.Struct n o ms c) (suc d), z)
@@ -437,7 +435,7 @@ module _ (In : Rule → ℕ → Expr → Type 0) (depth : ℕ) (inner : Rule →
       found_none (eat mark.OpenParen tail) _ _ refl
       ∙ found_some (eat mark.OpenBrace tail) _ _ (o, rest) refl
       ∙ attempt_is (list_of (r.member inner) mark.CloseBrace rest) _ _ (record { items = ms; inside = d; closing = c }, z) (list_is (IsMember In) (member_words words) (r.member inner) mark.CloseBrace member_exact member_apart (refl, refl, refl) ms d c z l)
-      ∙ grown_is depth o 0 d (e.Struct n o ms c) z (within 0 d depth fits)
+      ∙ grown_is depth o d (e.Struct n o ms c) z fits
 
   group_full : (o : Span) (x : Expr) (c : Span) (n : ℕ) (z : Words) → In rule.Expr n x → suc n ≤ suc depth → r.paren depth inner o (words x ++ marked mark.CloseParen c ∷ z) ≡ Ok (tall (e.Group o x c) (suc n), z)
   unfolding r.paren
@@ -445,7 +443,7 @@ module _ (In : Rule → ℕ → Expr → Type 0) (depth : ℕ) (inner : Rule →
       let tail : Words = marked mark.CloseParen c ∷ z in
       then_is (inner rule.Expr (words x ++ tail)) _ (tall x n, tail) (inner_exact n x i tail refl)
       ∙ found_some (eat mark.CloseParen tail) _ _ (c, z) refl
-      ∙ grown_is depth o 0 n (e.Group o x c) z (within 0 n depth fits)
+      ∙ grown_is depth o n (e.Group o x c) z fits
 
   pair_full : (o : Span) (l : Expr) (k : Span) (x : Expr) (c : Span) (a b : ℕ) (z : Words) → In rule.Expr a l → In rule.Expr b x → suc (max a b) ≤ suc depth
       → r.paren depth inner o (words l ++ marked mark.Comma k ∷ (words x ++ marked mark.CloseParen c ∷ z)) ≡ Ok (tall (e.Pair o l k x c) (suc (max a b)), z)
@@ -458,19 +456,19 @@ module _ (In : Rule → ℕ → Expr → Type 0) (depth : ℕ) (inner : Rule →
       ∙ found_some (eat mark.Comma tail) _ _ (k, words x ++ last) refl
       ∙ then_is (inner rule.Expr (words x ++ last)) _ (tall x b, last) (inner_exact b x j last refl)
       ∙ found_some (eat mark.CloseParen last) _ _ (c, z) refl
-      ∙ grown_is depth o 0 (max a b) (e.Pair o l k x c) z (within 0 (max a b) depth fits)
+      ∙ grown_is depth o (max a b) (e.Pair o l k x c) z fits
 
   list_full : (o : Span) (its : List (ListItem Expr)) (c : Span) (n : ℕ) (z : Words) → Listed (In rule.Expr) its 0 n → suc n ≤ suc depth
       → r.list depth inner o (items_words words its ++ marked mark.CloseBracket c ∷ z) ≡ Ok (tall (e.List o its c) (suc n), z)
   unfolding r.list
-  list_full o its c n z l fits = then_is _ _ (record { items = its; inside = n; closing = c }, z) (items_is mark.CloseBracket refl (refl, refl, refl) its n c z l) ∙ grown_is depth o 0 n (e.List o its c) z (within 0 n depth fits)
+  list_full o its c n z l fits = then_is _ _ (record { items = its; inside = n; closing = c }, z) (items_is mark.CloseBracket refl (refl, refl, refl) its n c z l) ∙ grown_is depth o n (e.List o its c) z fits
 
   map_full : (o : Span) (es : List (ListItem (MapEntry Expr))) (c : Span) (n : ℕ) (z : Words) → Listed (IsEntry In) es 0 n → suc n ≤ suc depth
       → r.map_literal depth inner o (items_words (entry_words words) es ++ marked mark.CloseBrace c ∷ z) ≡ Ok (tall (e.Map o es c) (suc n), z)
   unfolding r.map_literal
   map_full o es c n z l fits =
       then_is _ _ (record { items = es; inside = n; closing = c }, z) (list_is (IsEntry In) (entry_words words) (r.entry inner) mark.CloseBrace entry_exact entry_apart (refl, refl, refl) es n c z l)
-      ∙ grown_is depth o 0 n (e.Map o es c) z (within 0 n depth fits)
+      ∙ grown_is depth o n (e.Map o es c) z fits
 
   text_full : (q : Quote) (o : Span) (ps : List (StringPart Expr)) (c : Span) (n : ℕ) (z : Words) → Parts In ps 0 n → suc n ≤ suc depth
       → r.text depth inner q o (parts_words words ps ++ at kind.StrClose c ∷ z) ≡ Ok (tall (e.Str (record { quote = q; opening = o; parts = ps; closing = c })) (suc n), z)
@@ -478,7 +476,7 @@ module _ (In : Rule → ℕ → Expr → Type 0) (depth : ℕ) (inner : Rule →
   text_full q o ps c n z p fits =
       then_is _ _ (tall ps n, at kind.StrClose c ∷ z) (parts_is ps n (at kind.StrClose c) z (λ rest. refl) p)
       ∙ found_some (eat_if is_str_close (at kind.StrClose c ∷ z)) _ _ (c, z) refl
-      ∙ grown_is depth o 0 n (e.Str (record { quote = q; opening = o; parts = ps; closing = c })) z (within 0 n depth fits)
+      ∙ grown_is depth o n (e.Str (record { quote = q; opening = o; parts = ps; closing = c })) z fits
 
   -- a name is read as one
   worded_name : (n : Ident) (ts : Words) → is_name n.name ≡ true → r.primary depth inner (ident n ∷ ts) ≡ r.named depth inner n ts

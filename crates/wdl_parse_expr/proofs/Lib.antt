@@ -11,4 +11,5 @@ pub mod Full
 pub mod Chains
 pub mod TypeLaws
 pub mod Laws
+pub mod Places
 pub mod Readers

@@ -56,10 +56,12 @@ pub says_cond : {A : Type 0} (R : A → Words → Type 0) (ts : Words) (b : Bool
 says_cond R ts true o p f g = f refl
 says_cond R ts false o p f g = g refl
 
-pub says_grown : {A : Type 0} (R : Tall A → Words → Type 0) (ts : Words) (depth : ℕ) (s : Span) (links inside : ℕ) (x : A) (rest : Words) → Blames 111 s ts
-    → (links + inside ≤ depth → R (tall x (suc (links + inside))) rest) → Says R ts (grown depth s links inside x rest)
+pub says_grown : {A : Type 0} (R : Tall A → Words → Type 0) (ts : Words) (depth : ℕ) (s : Span) (inside : ℕ) (x : A) (rest : Words) → Blames 111 s ts
+    → (inside ≤ depth → R (tall x (suc inside)) rest) → Says R ts (grown depth s 0 inside x rest)
 unfolding grown
-says_grown R ts depth s links inside x rest deep f = says_cond R ts (nat_le (links + inside) depth) _ _ (λ h. f (grind (arith, nat_tests))) (λ h. deep)
+says_grown R ts depth s inside x rest deep f =
+    let same : inside ≡ 0 + inside = omega arith in
+    says_cond R ts (nat_le (0 + inside) depth) _ _ (λ h. subst (λ n. R (tall x (suc n)) rest) same (f (grind (arith, nat_tests)))) (λ h. deep)
 
 -- what an outcome that is known says
 pub said : {A : Type 0} (Q : A → Words → Type 0) (ts : Words) (o : Outcome A) (x : A × Words) → Says Q ts o → o ≡ Ok x → Q x.0 x.1

@@ -1,5 +1,5 @@
 -- What is read is a derivation, and its words are the tokens that were taken.
-use Rattle.std.proofs.Common.{◌≡◌, ℕ, ℤ, zero, suc, ◌+◌, ◌<◌, ◌≤◌, max, Bool, true, false, cond, ◌||◌, ◌⊎◌, inl, inr, List, [], ◌∷◌, ◌++◌, length, ◌==◌, Option, Some, None, Result, Ok, Err, refl, ap, sym, ◌∙◌, subst, append_assoc, arith, nat_le, codes}
+use Rattle.std.proofs.Common.{◌≡◌, ℕ, ℤ, zero, suc, ◌+◌, ◌<◌, ◌≤◌, max, Bool, true, false, cond, ◌||◌, ◌&&◌, ◌⊎◌, inl, inr, List, [], ◌∷◌, ◌++◌, length, ◌==◌, Option, Some, None, Result, Ok, Err, refl, ap, sym, ◌∙◌, subst, append_assoc, arith, nat_le, codes}
 use Rattle.std.proofs.lemmas.List.{append-nil}
 use Rattle.std.proofs.lemmas.Bool.{eqb-true, eq-eqb}
 use Rattle.std.proofs.lemmas.Bool.Decides.{nat_tests}
@@ -75,7 +75,7 @@ module _ (In : Rule → ℕ → Expr → Type 0) (depth : ℕ) (inner : Rule →
 
   -- ---- elements of lists
 
-  entry_sound : Sound (λ t. IsEntry In t.depth t.tree) (λ t. entry_words words t.tree) (r.entry inner)
+  pub entry_sound : Sound (λ t. IsEntry In t.depth t.tree) (λ t. entry_words words t.tree) (r.entry inner)
   unfolding r.entry
   entry_sound ts =
       let R : Tall (MapEntry Expr) → Words → Type 0 = Takes (λ t. IsEntry In t.depth t.tree) (λ t. entry_words words t.tree) ts in
@@ -86,7 +86,7 @@ module _ (In : Rule → ℕ → Expr → Type 0) (depth : ℕ) (inner : Rule →
       (text ∙ ap (λ z. (words k.tree ++ marked mark.Colon c.0 ∷ []) ++ z) b.0 ∙ simp append_assoc, (k.depth, v.depth, a.1, b.1, refl))))
       (λ _. tt))
 
-  member_sound : Sound (λ t. IsMember In t.depth t.tree) (λ t. member_words words t.tree) (r.member inner)
+  pub member_sound : Sound (λ t. IsMember In t.depth t.tree) (λ t. member_words words t.tree) (r.member inner)
   unfolding r.member
   member_sound ts =
       let R : Tall (MemberEntry Expr) → Words → Type 0 = Takes (λ t. IsMember In t.depth t.tree) (λ t. member_words words t.tree) ts in
@@ -115,7 +115,7 @@ module _ (In : Rule → ℕ → Expr → Type 0) (depth : ℕ) (inner : Rule →
       let all : Words = ident n ∷ ts in
       says_attempt (IsList (In rule.Expr) words (inner rule.Expr) mark.CloseParen rest) (Prime all) all (ident n ∷ marked mark.OpenParen o ∷ []) rest _ _ _ refl (list_sound (In rule.Expr) words (inner rule.Expr) mark.CloseParen (sound rule.Expr) rest)
       (λ l after a. says_cond (Prime all) all (ends_bare l.items) _ _
-      (λ bare. says_grown (Prime all) all depth o 0 l.inside (e.Call n o l.items l.closing) after (deep_at all (ident n ∷ []) (kind.Mark mark.OpenParen) o rest refl)
+      (λ bare. says_grown (Prime all) all depth o l.inside (e.Call n o l.items l.closing) after (deep_at all (ident n ∷ []) (kind.Mark mark.OpenParen) o rest refl)
       (λ fits. (ap (λ z. ident n ∷ marked mark.OpenParen o ∷ z) a.0 ∙ sym (simp (words_call, append_assoc)), (g.call n o l.items l.closing l.inside h out a.1 bare, omega (arith, fits)))))
       (λ _. name_prime n h ts))
       (name_prime n h ts)
@@ -136,7 +136,7 @@ module _ (In : Rule → ℕ → Expr → Type 0) (depth : ℕ) (inner : Rule →
       let ts : Words = marked mark.OpenBrace o ∷ rest in
       let all : Words = ident n ∷ ts in
       says_attempt (IsList (IsMember In) (member_words words) (r.member inner) mark.CloseBrace rest) (Prime all) all (ident n ∷ marked mark.OpenBrace o ∷ []) rest _ _ _ refl (list_sound (IsMember In) (member_words words) (r.member inner) mark.CloseBrace member_sound rest)
-      (λ l after a. says_grown (Prime all) all depth o 0 l.inside (e.Struct n o l.items l.closing) after (deep_at all (ident n ∷ []) (kind.Mark mark.OpenBrace) o rest refl)
+      (λ l after a. says_grown (Prime all) all depth o l.inside (e.Struct n o l.items l.closing) after (deep_at all (ident n ∷ []) (kind.Mark mark.OpenBrace) o rest refl)
       (λ fits. (ap (λ z. ident n ∷ marked mark.OpenBrace o ∷ z) a.0 ∙ sym (simp (words_struct, append_assoc)), (g.struct_ n o l.items l.closing l.inside h a.1, omega (arith, fits)))))
       (name_prime n h ts)
 
@@ -155,7 +155,7 @@ module _ (In : Rule → ℕ → Expr → Type 0) (depth : ℕ) (inner : Rule →
       let before : Words = marked mark.OpenParen o ∷ (words x.tree ++ marked mark.Comma k ∷ []) in
       says_then (Inside ts) (Prime all) all before ts (inner rule.Expr ts) _ text (sound rule.Expr ts) (λ y rest b.
       says_found (Prime all) all (eat mark.CloseParen rest) _ _ (λ c q.
-      says_grown (Prime all) all depth o 0 (max x.depth y.depth) (e.Pair o x.tree k y.tree c.0) c.1 (deep_at all [] (kind.Mark mark.OpenParen) o ((words x.tree ++ marked mark.Comma k ∷ []) ++ ts) text)
+      says_grown (Prime all) all depth o (max x.depth y.depth) (e.Pair o x.tree k y.tree c.0) c.1 (deep_at all [] (kind.Mark mark.OpenParen) o ((words x.tree ++ marked mark.Comma k ∷ []) ++ ts) text)
       (λ fits. (text ∙ ap (λ z. before ++ z) (b.0 ∙ ap (λ z. words y.tree ++ z) (ate mark.CloseParen rest c q)) ∙ sym (simp (words_pair, append_assoc)), (g.pair o x.tree k y.tree c.0 x.depth y.depth p b.1, omega (arith, fits)))))
       (λ _. tt))
 
@@ -165,7 +165,7 @@ module _ (In : Rule → ℕ → Expr → Type 0) (depth : ℕ) (inner : Rule →
       let all : Words = marked mark.OpenParen o ∷ ts in
       says_then (Inside ts) (Prime all) all (marked mark.OpenParen o ∷ []) ts (inner rule.Expr ts) _ refl (sound rule.Expr ts) (λ x rest a.
       says_found (Prime all) all (eat mark.CloseParen rest) _ _ (λ c q.
-      says_grown (Prime all) all depth o 0 x.depth (e.Group o x.tree c.0) c.1 (deep_at all [] (kind.Mark mark.OpenParen) o ts refl)
+      says_grown (Prime all) all depth o x.depth (e.Group o x.tree c.0) c.1 (deep_at all [] (kind.Mark mark.OpenParen) o ts refl)
       (λ fits. (ap (λ z. marked mark.OpenParen o ∷ z) (a.0 ∙ ap (λ z. words x.tree ++ z) (ate mark.CloseParen rest c q)) ∙ sym (simp (words_group, append_assoc)), (g.group o x.tree c.0 x.depth a.1, omega (arith, fits)))))
       (λ _. says_found (Prime all) all (eat mark.Comma rest) _ _ (λ k q.
       pair_sound o x k.0 k.1 all (ap (λ z. marked mark.OpenParen o ∷ z) (a.0 ∙ ap (λ z. words x.tree ++ z) (ate mark.Comma rest k q) ∙ sym (append_assoc (words x.tree) (marked mark.Comma k.0 ∷ []) k.1))) a.1)
@@ -176,7 +176,7 @@ module _ (In : Rule → ℕ → Expr → Type 0) (depth : ℕ) (inner : Rule →
   list_literal_sound o ts =
       let all : Words = marked mark.OpenBracket o ∷ ts in
       says_then (IsList (In rule.Expr) words (inner rule.Expr) mark.CloseBracket ts) (Prime all) all (marked mark.OpenBracket o ∷ []) ts _ _ refl (list_sound (In rule.Expr) words (inner rule.Expr) mark.CloseBracket (sound rule.Expr) ts) (λ l rest a.
-      says_grown (Prime all) all depth o 0 l.inside (e.List o l.items l.closing) rest (deep_at all [] (kind.Mark mark.OpenBracket) o ts refl)
+      says_grown (Prime all) all depth o l.inside (e.List o l.items l.closing) rest (deep_at all [] (kind.Mark mark.OpenBracket) o ts refl)
       (λ fits. (ap (λ z. marked mark.OpenBracket o ∷ z) a.0 ∙ sym (simp (words_list, append_assoc)), (g.list o l.items l.closing l.inside a.1, omega (arith, fits)))))
 
   map_sound : (o : Span) (ts : Words) → Says (Prime (marked mark.OpenBrace o ∷ ts)) (marked mark.OpenBrace o ∷ ts) (r.map_literal depth inner o ts)
@@ -184,7 +184,7 @@ module _ (In : Rule → ℕ → Expr → Type 0) (depth : ℕ) (inner : Rule →
   map_sound o ts =
       let all : Words = marked mark.OpenBrace o ∷ ts in
       says_then (IsList (IsEntry In) (entry_words words) (r.entry inner) mark.CloseBrace ts) (Prime all) all (marked mark.OpenBrace o ∷ []) ts _ _ refl (list_sound (IsEntry In) (entry_words words) (r.entry inner) mark.CloseBrace entry_sound ts) (λ l rest a.
-      says_grown (Prime all) all depth o 0 l.inside (e.Map o l.items l.closing) rest (deep_at all [] (kind.Mark mark.OpenBrace) o ts refl)
+      says_grown (Prime all) all depth o l.inside (e.Map o l.items l.closing) rest (deep_at all [] (kind.Mark mark.OpenBrace) o ts refl)
       (λ fits. (ap (λ z. marked mark.OpenBrace o ∷ z) a.0 ∙ sym (simp (words_map, append_assoc)), (g.map o l.items l.closing l.inside a.1, omega (arith, fits)))))
 
   -- ---- strings
@@ -249,7 +249,7 @@ module _ (In : Rule → ℕ → Expr → Type 0) (depth : ℕ) (inner : Rule →
       let all : Words = at (kind.StrOpen q) o ∷ ts in
       says_then (Takes (λ t. Parts In t.tree 0 t.depth) (λ t. parts_words words t.tree) ts) (Prime all) all (at (kind.StrOpen q) o ∷ []) ts (r.parts inner ts) _ refl (parts_sound ts) (λ ps rest a.
       says_found (Prime all) all (eat_if is_str_close rest) _ _ (λ c h.
-      says_grown (Prime all) all depth o 0 ps.depth (e.Str (record { quote = q; opening = o; parts = ps.tree; closing = c.0 })) c.1 (deep_at all [] (kind.StrOpen q) o ts refl)
+      says_grown (Prime all) all depth o ps.depth (e.Str (record { quote = q; opening = o; parts = ps.tree; closing = c.0 })) c.1 (deep_at all [] (kind.StrOpen q) o ts refl)
       (λ fits. (ap (λ z. at (kind.StrOpen q) o ∷ z) (a.0 ∙ ap (λ z. parts_words words ps.tree ++ z) (ate_str_close rest c h)) ∙ sym (simp (words_str, append_assoc)), (g.str q o ps.tree c.0 ps.depth a.1, omega (arith, fits)))))
       (λ _. tt))
 
@@ -381,11 +381,11 @@ module _ (In : Rule → ℕ → Expr → Type 0) (depth : ℕ) (inner : Rule →
       (λ o h.
       let ate = ate_unary ts o h in
       says_then (Takes (λ t. In rule.Unary t.depth t.tree) tall_words o.1) (Takes Unary tall_words ts) ts (marked (unary_mark o.0.0) o.0.1 ∷ []) o.1 (inner rule.Unary o.1) _ ate (sound rule.Unary o.1) (λ x rest a.
-      says_grown (Takes Unary tall_words ts) ts depth o.0.1 0 x.depth (e.Unary o.0.0 o.0.1 x.tree) rest (deep_at ts [] (kind.Mark (unary_mark o.0.0)) o.0.1 o.1 ate)
+      says_grown (Takes Unary tall_words ts) ts depth o.0.1 x.depth (e.Unary o.0.0 o.0.1 x.tree) rest (deep_at ts [] (kind.Mark (unary_mark o.0.0)) o.0.1 o.1 ate)
       (λ fits. (ate ∙ ap (λ z. marked (unary_mark o.0.0) o.0.1 ∷ z) a.0 ∙ sym (ap (λ z. z ++ rest) (words_unary o.0.0 o.0.1 x.tree)), (g.signed x.depth o.0.0 o.0.1 x.tree a.1, omega (arith, fits))))))
       (λ _. carry (Takes (Summed (IsPost In)) tall_words ts) (Takes Unary tall_words ts) ts [] ts (r.post depth inner ts) refl (λ t rest a. (a.0, of_post t a.1)) (post_sound ts))
 
-  abbrev Ruled : ℕ → Tall Expr → Type 0
+  abbrev pub Ruled : ℕ → Tall Expr → Type 0
   Ruled k = Summed (IsRule In k)
 
   operation_sound : (k : ℕ) (lower : Parser (Tall Expr)) → Sound (Ruled k) tall_words lower → (all : Words) (c : Chain) (ts : Words) → Chained (IsRule In (suc k)) all c ts
@@ -433,7 +433,7 @@ module _ (In : Rule → ℕ → Expr → Type 0) (depth : ℕ) (inner : Rule →
       let two : Words = one ++ (words x.tree ++ keyword (codes "else") s.0 ∷ []) in
       let second : all ≡ two ++ s.1 = first ∙ ap (λ z. one ++ z) (b.0 ∙ ap (λ z. words x.tree ++ z) (ate_word (codes "else") after s q)) ∙ sym (simp append_assoc) in
       says_then (Inside s.1) R all two s.1 (inner rule.Expr s.1) _ second (sound rule.Expr s.1) (λ y last d.
-      says_grown R all depth i 0 (max (max c.depth x.depth) y.depth) (e.If i c.tree t.0 x.tree s.0 y.tree) last (deep_at all [] (kind.Word (codes "if")) i ts refl)
+      says_grown R all depth i (max (max c.depth x.depth) y.depth) (e.If i c.tree t.0 x.tree s.0 y.tree) last (deep_at all [] (kind.Word (codes "if")) i ts refl)
       (λ fits. (second ∙ ap (λ z. two ++ z) d.0 ∙ sym (simp (words_if, append_assoc)), (g.choice i c.tree t.0 x.tree s.0 y.tree c.depth x.depth y.depth a.1 b.1 d.1, omega (arith, fits))))))
       (λ _. tt))) (λ _. tt))
 

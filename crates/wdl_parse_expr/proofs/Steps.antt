@@ -1,5 +1,6 @@
 -- What each step of reading gives.
 use Rattle.std.proofs.Common.{◌≡◌, ℕ, suc, ◌+◌, ◌≤◌, Bool, true, false, cond, ◌⊎◌, inl, inr, List, [], ◌∷◌, ◌++◌, Option, Some, None, Result, Ok, Err, refl, ap, sym, ◌∙◌, subst, rules, arith, nat_le}
+use Rattle.std.proofs.lemmas.Bool.Decides.{nat_tests}
 use Rattle.std.specs.Str.{bytes_eq}
 use Rattle.std.proofs.lemmas.Slice.Eq.{bytes_eq-Decides}
 use denote.Enum.Bare.{sameb, same_true}
@@ -59,9 +60,12 @@ pub found_none : {A B : Type 0} (o : Option (A × Words)) (f : A → Words → B
 unfolding found
 found_none o f other h = ap (λ o. found o f other) h
 
-pub grown_is : {A : Type 0} (depth : ℕ) (s : Span) (links inside : ℕ) (x : A) (ts : Words) → nat_le (links + inside) depth ≡ true → grown depth s links inside x ts ≡ Ok (tall x (suc (links + inside)), ts)
+pub grown_is : {A : Type 0} (depth : ℕ) (s : Span) (inside : ℕ) (x : A) (ts : Words) → suc inside ≤ suc depth → grown depth s 0 inside x ts ≡ Ok (tall x (suc inside), ts)
 unfolding grown
-grown_is depth s links inside x ts h = cond_true (nat_le (links + inside) depth) _ _ h
+grown_is depth s inside x ts fits =
+    let same : 0 + inside ≡ inside = omega arith in
+    let holds : nat_le (0 + inside) depth ≡ true = grind (arith, nat_tests) in
+    cond_true (nat_le (0 + inside) depth) _ _ holds ∙ ap (λ n. Ok (tall x (suc n), ts)) same
 
 -- ---- what was read
 

@@ -43,7 +43,7 @@ pub ate_chars : (ts : Words) → ts ≡ chars_words (chars_at ts).0 ++ (chars_at
 ate_chars [] = refl
 ate_chars (t ∷ ts) = chars_from t.kind t.span ts
 
-pub plain_sound : Sound {PlainString} Any plain_words plain
+pub plain_sound : Sound {A = PlainString} Any plain_words plain
 unfolding plain
 plain_sound ts = says_found (Takes Any plain_words ts) ts (quote_at ts) _ _
     (λ q h. says_found (Takes Any plain_words ts) ts (eat_if is_str_close (chars_at q.1).1) _ _
@@ -152,7 +152,7 @@ by_sound word.False s v ts rest e q = says_then (OptionOf v s rest) (OptionsOf t
     (text ∙ ap (λ z. option_words (codes "false") o ++ z) (g.1 ∙ ap (λ z. option_words z p ++ more) g.2) ∙ sym (append_assoc (option_words (codes "false") o) (option_words (codes "true") p) more), tt)))
 by_sound word.Other s v ts rest e q = tt
 
-pub options_sound : Sound {PlaceholderOptions} Any options_words options_at
+pub options_sound : Sound {A = PlaceholderOptions} Any options_words options_at
 unfolding options_at
 options_sound ts = says_found (OptionsOf ts) ts (option_start ts) _ _ (λ o h. let b = begun ts o h in by_sound o.0.0 o.0.1 b.0 ts o.1 b.1 b.2) (λ _. (refl, tt))
 

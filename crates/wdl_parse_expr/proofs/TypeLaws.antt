@@ -51,13 +51,13 @@ Asked all ts x = (new : List Span) × (x.0 ≡ all ++ new) × (ts ≡ questions_
 questions_says : (n : ℕ) (all : List Span) (ts : Words) → Asked all ts (questions_from n all ts)
 unfolding questions_from
 questions_says zero all ts = ([], sym (append-nil all), refl)
-questions_says (suc n) all ts = go (eat mark.Question ts) refl
+questions_says (suc n) all ts = go (λ some rest. questions_says n some rest) (eat mark.Question ts) refl
   where
-    go : (x : Option (Span × Words)) → eat mark.Question ts ≡ x → Asked all ts (questions_from (suc n) all ts)
-    go (Some x) q =
-        let more = questions_says n (all ++ x.0 ∷ []) x.1 in
+    go : ((some : List Span) (rest : Words) → Asked some rest (questions_from n some rest)) → (x : Option (Span × Words)) → eat mark.Question ts ≡ x → Asked all ts (questions_from (suc n) all ts)
+    go next (Some x) q =
+        let more = next (all ++ x.0 ∷ []) x.1 in
         subst (Asked all ts) (sym (found_some (eat mark.Question ts) _ _ x q)) (x.0 ∷ more.0, more.1 ∙ append_assoc all (x.0 ∷ []) more.0, ate mark.Question ts x q ∙ ap (λ z. marked mark.Question x.0 ∷ z) more.2)
-    go None q = subst (Asked all ts) (sym (found_none (eat mark.Question ts) _ _ q)) ([], sym (append-nil all), refl)
+    go next None q = subst (Asked all ts) (sym (found_none (eat mark.Question ts) _ _ q)) ([], sym (append-nil all), refl)
 
 questions_sound : (ts : Words) → ts ≡ questions_words (questions ts).0 ++ (questions ts).1
 questions_sound ts = let a = questions_says (length ts) [] ts in a.2 ∙ ap (λ z. questions_words z ++ (questions ts).1) (sym a.1)
@@ -115,7 +115,7 @@ module _ (In : TypeTree → Type 0) (inner : Parser TypeTree) (sound : Sound In 
       (λ t rest a. (ap (λ z. keyword (codes "Pair") w ∷ z) a.0 ∙ sym (simp append_assoc), g.pair w t.opening t.left t.comma t.right t.closing a.1 a.2))
 
   float_form : (w : List ℕ) (ts : Words) → bytes_eq w (codes "Float") ≡ true → begins_form 120 (kind.Word w) ts ≡ true
-  float_form w ts h = ap (λ z. z || (false || (is_open_paren ts && is_code 120 (left_out w)))) h
+  float_form w ts h = ap (λ z. (z || false) || (is_open_paren ts && is_code 120 (left_out w))) h
 
   object_form : (w : List ℕ) (ts : Words) → bytes_eq w (codes "Object") ≡ true → begins_form 121 (kind.Word w) ts ≡ true
   object_form w ts h = ap (λ z. (z || bytes_eq w (codes "object")) || (is_open_paren ts && is_code 121 (left_out w))) h
@@ -176,9 +176,10 @@ type_exact o t tail stops (inl h) = h
 type_exact o t tail stops (inr h) = (let n : true ≡ false = sym h.0 ∙ stops in let z : ⊥ = cc in absurd z)
 
 -- the `?` are read, and those behind them
-questions_full : (n : ℕ) (all qs : List Span) (tail : Words) → length qs < n → ((questions_from n all (questions_words qs ++ tail) ≡ (all ++ qs, tail)) ⊎ ((type_continues tail ≡ true) × (length (questions_from n all (questions_words qs ++ tail)).1 < length tail)))
-unfolding questions_from
-questions_full zero all qs tail fits = absurd (omega arith)
+questions_full : (n : ℕ) (all qs : List Span) (tail : Words) → length qs ≤ n → ((questions_from n all (questions_words qs ++ tail) ≡ (all ++ qs, tail)) ⊎ ((type_continues tail ≡ true) × (length (questions_from n all (questions_words qs ++ tail)).1 < length tail)))
+unfolding questions_from found
+questions_full zero all [] tail fits = inl (ap (λ z. (z, tail)) (sym (append-nil all)))
+questions_full zero all (s ∷ qs) tail fits = absurd (omega arith)
 questions_full (suc n) all [] tail fits = go (eat mark.Question tail) refl
   where
     go : (x : Option (Span × Words)) → eat mark.Question tail ≡ x → ((questions_from (suc n) all tail ≡ (all ++ [], tail)) ⊎ ((type_continues tail ≡ true) × (length (questions_from (suc n) all tail).1 < length tail)))

@@ -1,4 +1,4 @@
-ghost use Rattle.std.specs.Prelude.{◌≤◌, length, drop, IfOk};
+ghost use Rattle.std.specs.Prelude.{◌≡◌, ◌≤◌, length, drop, IfOk};
 ghost use Rattle.wdl_ast.specs.Words.{words, type_words};
 ghost use Rattle.wdl_parse_expr.specs.Grammar.{IsExpr};
 ghost use Rattle.wdl_parse_expr.specs.TypeGrammar.{IsType};
@@ -63,6 +63,14 @@ pub fn fault_of(stop: Stop, tokens: &[Token], left: usize) -> ParseFault
     }
 }
 
+/// A cursor at a place.
+fn cursor_at(tokens: &[Token], at: usize) -> Cursor<'_>
+    requires { at ≤ length tokens.now }
+    ensures { result ≡ drop at tokens.now }
+{
+    Cursor::new(&tokens[at..])
+}
+
 /// The longest expression that starts at a place of the tokens, in time linear in its tokens (OpenWDL 1.1,
 /// "Expressions"). Its depth is at most 64: a literal, name, call, string, or anything in brackets counts once, an `if` once,
 /// and an operator, a member or an index once. Fractions, objects, and the functions that need them are refused by
@@ -77,12 +85,15 @@ pub fn parse_expr(alloc: Global, tokens: &[Token], at: usize) -> Result<ParsedEx
     // 110 where none starts there; any other code is true of a token, and each that starts there may go on.
     ensures refused { IfBad (RefusesExpr (drop at tokens.now)) result }
 {
-    let mut cursor = Cursor::new(&tokens[at..]);
+    let mut cursor = cursor_at(tokens, at);
     match expr(alloc, &mut cursor, MAX_DEPTH, Rule::Expr) {
-        Ok(tall) => Ok(ParsedExpr {
-            expr: tall.tree,
-            next: tokens.len() - cursor.len(),
-        }),
+        Ok(tall) => {
+            let left = cursor.len();
+            Ok(ParsedExpr {
+                expr: tall.tree,
+                next: tokens.len() - left,
+            })
+        }
         Err(stop) => Err(fault_of(stop, tokens, cursor.left_at_most())),
     }
 }
@@ -99,12 +110,15 @@ pub fn parse_type(alloc: Global, tokens: &[Token], at: usize) -> Result<ParsedTy
     // None starts there; a code other than 110 is true of a token.
     ensures refused { IfBad (RefusesType (drop at tokens.now)) result }
 {
-    let mut cursor = Cursor::new(&tokens[at..]);
+    let mut cursor = cursor_at(tokens, at);
     match type_at(alloc, &mut cursor, MAX_TYPE_DEPTH) {
-        Ok(ty) => Ok(ParsedType {
-            ty,
-            next: tokens.len() - cursor.len(),
-        }),
+        Ok(ty) => {
+            let left = cursor.len();
+            Ok(ParsedType {
+                ty,
+                next: tokens.len() - left,
+            })
+        }
         Err(stop) => Err(fault_of(stop, tokens, cursor.left_at_most())),
     }
 }
