@@ -396,7 +396,9 @@ module _ (In : Rule → ℕ → Expr → Type 0) (depth : ℕ) (inner : Rule →
 
   ruled : (k m i : ℕ) (x : Expr) → IsRule In k m i x → m + i ≤ suc depth → Rules k m i x
   unfolding r.rule_at
-  ruled k m i x (g.unary n y q) fits = λ tail. unary_full n y q (omega (arith, fits)) tail
+  ruled k m i x (g.unary n y q) fits = λ tail.
+      let same : n ≡ 0 + n = omega arith in
+      subst (λ d. Reaches 0 (r.unary depth inner (words y ++ tail)) (tall y d) tail) same (unary_full n y q (omega (arith, fits)) tail)
   ruled k m i x (g.tighter j p a y q) fits = λ tail. rule_first j (p + a) y tail (reaches_of j p a y (ruled j p a y q (omega (arith, fits))) tail)
   ruled k m i x (g.binary j p a b c l o s y loose ql qy) fits = λ tail.
       rule_step j p a (b + c) l o s y tail loose fits (ruled (suc j) p a l ql (omega (arith, fits, le-max_left a (b + c))) (marked (binary_mark o) s ∷ (words y ++ tail)))

@@ -198,7 +198,7 @@ module _ (In : Rule → ℕ → Expr → Type 0) (depth : ℕ) (inner : Rule →
   hole_sound m o ts =
       let all : Words = at (kind.HoleOpen m) o ∷ ts in
       let R : Tall (StringPart Expr) → Words → Type 0 = HoleOf m o ts in
-      says_then (Takes {PlaceholderOptions} (λ _. Unit {0}) options_words ts) R all (at (kind.HoleOpen m) o ∷ []) ts (options_at ts) _ refl (options_sound ts) (λ os rest a.
+      says_then (Takes {A = PlaceholderOptions} (λ _. Unit {0}) options_words ts) R all (at (kind.HoleOpen m) o ∷ []) ts (options_at ts) _ refl (options_sound ts) (λ os rest a.
       says_then (Inside rest) R all (at (kind.HoleOpen m) o ∷ options_words os) rest (inner rule.Expr rest) _ (ap (λ z. at (kind.HoleOpen m) o ∷ z) a.0) (sound rule.Expr rest) (λ x more b.
       says_found R all (eat_if is_hole_close more) _ _ (λ c q.
       (ap (λ z. at (kind.HoleOpen m) o ∷ z) (a.0 ∙ ap (λ z. options_words os ++ z) (b.0 ∙ ap (λ z. words x.tree ++ z) (ate_hole_close more c q))) ∙ sym (simp append_assoc), λ others i n p. (x.depth, b.1, p)))

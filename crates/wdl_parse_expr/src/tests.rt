@@ -229,7 +229,7 @@ fn parts(row: &str) -> (&str, &str, &str) {
 /// How often a row must be nested to fill a mebibyte.
 fn filling(row: &str) -> usize {
     let (before, _, behind) = parts(row);
-    8_192 / before.len().saturating_add(behind.len()).max(1)
+    1_048_576 / before.len().saturating_add(behind.len()).max(1)
 }
 
 /// The answer to a row that is nested so many times; `all` where it is read whole.
