@@ -58,6 +58,7 @@ fn binds(k: usize, operator: BinaryOperator) -> bool
 }
 
 impl<'a> Cursor<'a> {
+    /// A cursor at the first of these tokens.
     pub fn new(rest: &'a [Token]) -> Cursor<'a>
         ensures { result ≡ rest.now }
     {
@@ -67,12 +68,14 @@ impl<'a> Cursor<'a> {
         }
     }
 
+    /// How many tokens are left.
     pub fn len(&self) -> usize
         ensures { result ≡ length self.now }
     {
         self.rest.len()
     }
 
+    /// The tokens that are left: the place to which `back` and `go` return.
     pub fn rest(&self) -> &'a [Token]
         ensures { result.now ≡ self.now }
     {

@@ -13,8 +13,10 @@ use std::alloc::Global;
 use wdl_ast::{Expr, Token, TypeTree};
 use wdl_value::Span;
 
+/// How deep an expression may be.
 pub const MAX_DEPTH: usize = 64;
 
+/// How deep a type may be.
 pub const MAX_TYPE_DEPTH: usize = 8;
 
 /// An expression, and the place of the token behind it.

@@ -149,18 +149,26 @@ fn form(expr: &Expr) -> &'static str {
 }
 
 /// The letters of an expression and of its parts.
-fn forms(alloc: Global, row: &str) -> Result<String, Fail> {
+fn shape(expr: &Expr) -> (&'static str, &'static str, &'static str) {
+    match expr {
+        Expr::Binary { left, right, .. } => ("b", form(left.get()), form(right.get())),
+        Expr::Unary { operand, .. } => ("u", form(operand.get()), ""),
+        Expr::Index { base, index, .. } => ("x", form(base.get()), form(index.get())),
+        _ => (form(expr), "", ""),
+    }
+}
+
+fn shown_shape(
+    alloc: Global,
+    shape: (&'static str, &'static str, &'static str),
+) -> Result<String, Fail> {
+    Ok(format!(in alloc; "{}{}{}", shape.0, shape.1, shape.2)?)
+}
+
+/// The letters of the expression, or what is wrong.
+fn expr_shape(alloc: Global, row: &str) -> Result<String, Fail> {
     match parse_expr(alloc, tokens(alloc, row)?.as_slice(), 0) {
-        Ok(parsed) => Ok(match &parsed.expr {
-            Expr::Binary { left, right, .. } => {
-                format!(in alloc; "b{}{}", form(left.get()), form(right.get()))?
-            }
-            Expr::Unary { operand, .. } => format!(in alloc; "u{}", form(operand.get()))?,
-            Expr::Index { base, index, .. } => {
-                format!(in alloc; "x{}{}", form(base.get()), form(index.get()))?
-            }
-            _ => format!(in alloc; "other")?,
-        }),
+        Ok(parsed) => shown_shape(alloc, shape(&parsed.expr)),
         Err(fault) => shown_fault(alloc, fault),
     }
 }
@@ -181,7 +189,7 @@ const TYPES: &str =
 A[N]+? 6;A[N]?+ 5;M[N,A[S?]]? 11;1 110;i 110; 110;F 120 at 0;A[O] 121 at 2";
 
 /// How operators group.
-const FORMS: &str =
+const SHAPES: &str =
     "1-2-3 bbp;1*2/3 bbp;1-2*3 bpb;1*2-3 bbp;1<2+3 bpb;1+2<3 bbp;1@2<3 bpb;1<2@3 bbp;1&2@3 bpb;1@2&3 bbp;1|2&3 bpb;\
 1&2|3 bbp;!a.b um;-a[0] ux;!1@2 bup;1*-2 bpu;a.b[-1] xmu";
 
@@ -196,27 +204,31 @@ const TYPE_NESTS: &str = "A[ N ];M[N, N ];P[N, N ]";
 enum Table {
     Expressions,
     Types,
-    Forms,
+    Shapes,
 }
 
 fn answer(alloc: Global, row: &str, table: Table) -> Result<String, Fail> {
     match table {
         Table::Expressions => expr_end(alloc, row),
         Table::Types => type_end(alloc, row),
-        Table::Forms => forms(alloc, row),
+        Table::Shapes => expr_shape(alloc, row),
     }
 }
 
+fn is_read(alloc: Global, text: &str, want: &str, table: Table) -> Result<bool, Fail> {
+    let got = answer(alloc, text, table)?;
+    Ok(got.as_str() == want)
+}
+
 /// The first row whose answer is another than it says; empty where there is none.
-fn misread(alloc: Global, rows: &str, table: Table) -> Result<String, Fail> {
+fn misread(alloc: Global, rows: &'static str, table: Table) -> Result<&'static str, Fail> {
     for row in rows.split(';') {
         let (text, want) = row.split_once(' ').unwrap_or((row, "no row"));
-        let got = answer(alloc, text, table)?;
-        if got.as_str() != want {
-            return Ok(format!(in alloc; "{row} gives {got}")?);
+        if !is_read(alloc, text, want, table)? {
+            return Ok(row);
         }
     }
-    Ok(String::new(alloc))
+    Ok("")
 }
 
 /// What stands before, in the middle and behind.
@@ -232,52 +244,60 @@ fn filling(row: &str) -> usize {
     1_048_576 / before.len().saturating_add(behind.len()).max(1)
 }
 
-/// The answer to a row that is nested so many times; `all` where it is read whole.
-fn nested(alloc: Global, row: &str, times: usize, table: Table) -> Result<String, Fail> {
+/// The text of a row that is nested so many times.
+fn nested(alloc: Global, row: &str, times: usize) -> Result<String, Fail> {
     let (before, middle, behind) = parts(row);
     let mut text = before.repeat(alloc, times)?;
     text.push_str(middle)?;
     text.push_str(behind.repeat(alloc, times)?.as_str())?;
-    let got = answer(alloc, text.as_str(), table)?;
-    let whole = format!(in alloc; "{}", text.len())?;
-    if got.as_str() == whole.as_str() {
-        return Ok(format!(in alloc; "all")?);
-    }
-    Ok(got)
+    Ok(text)
+}
+
+/// Whether a row that is nested so many times is read whole.
+fn is_whole(alloc: Global, row: &str, times: usize, table: Table) -> Result<bool, Fail> {
+    let text = nested(alloc, row, times)?;
+    let end = format!(in alloc; "{}", text.len())?;
+    is_read(alloc, text.as_str(), end.as_str(), table)
+}
+
+/// Whether it meets the limit.
+fn is_past(alloc: Global, row: &str, times: usize, table: Table) -> Result<bool, Fail> {
+    let text = nested(alloc, row, times)?;
+    is_read(alloc, text.as_str(), "111", table)
 }
 
 /// The first row that is not read whole at that depth, or does not meet the limit one past it, or in a mebibyte.
-fn past_limit(alloc: Global, rows: &str, limit: usize, table: Table) -> Result<String, Fail> {
+fn unlimited(
+    alloc: Global,
+    rows: &'static str,
+    limit: usize,
+    table: Table,
+) -> Result<&'static str, Fail> {
     for row in rows.split(';') {
-        let edge = nested(alloc, row, limit, table)?;
-        let past = nested(alloc, row, limit.saturating_add(1), table)?;
-        let full = nested(alloc, row, filling(row), table)?;
-        if edge.as_str() != "all" || past.as_str() != "111" || full.as_str() != "111" {
-            return Ok(format!(in alloc; "{row} gives {edge}, {past}, {full}")?);
+        let edge = is_whole(alloc, row, limit, table)?;
+        let past = is_past(alloc, row, limit.saturating_add(1), table)?;
+        let full = is_past(alloc, row, filling(row), table)?;
+        if !(edge && past && full) {
+            return Ok(row);
         }
     }
-    Ok(String::new(alloc))
+    Ok("")
 }
 
 #[test]
 fn the_longest_expression_or_type_is_read(rt: HostRuntime) -> Result<(), Fail> {
     let alloc = rt.alloc();
-    let expressions = misread(alloc, EXPRESSIONS, Table::Expressions)?;
-    assert_eq!(rt; expressions.as_str(), "");
-    let types = misread(alloc, TYPES, Table::Types)?;
-    assert_eq!(rt; types.as_str(), "");
-    let forms = misread(alloc, FORMS, Table::Forms)?;
-    assert_eq!(rt; forms.as_str(), "");
+    assert_eq!(rt; misread(alloc, EXPRESSIONS, Table::Expressions)?, "");
+    assert_eq!(rt; misread(alloc, TYPES, Table::Types)?, "");
+    assert_eq!(rt; misread(alloc, SHAPES, Table::Shapes)?, "");
     Ok(())
 }
 
 #[test]
 fn a_depth_past_its_limit_is_refused(rt: HostRuntime) -> Result<(), Fail> {
     let alloc = rt.alloc();
-    let exprs = past_limit(alloc, NESTS, 63, Table::Expressions)?;
-    assert_eq!(rt; exprs.as_str(), "");
-    let types = past_limit(alloc, TYPE_NESTS, 7, Table::Types)?;
-    assert_eq!(rt; types.as_str(), "");
+    assert_eq!(rt; unlimited(alloc, NESTS, 63, Table::Expressions)?, "");
+    assert_eq!(rt; unlimited(alloc, TYPE_NESTS, 7, Table::Types)?, "");
     Ok(())
 }
 
