@@ -1,0 +1,534 @@
+-- What is in the grammar is read, or more than that.
+use Rattle.std.proofs.Common.{◌≡◌, ℕ, ℤ, zero, suc, ◌+◌, ◌<◌, ◌≤◌, max, Bool, true, false, cond, not, ◌||◌, ◌⊎◌, inl, inr, List, [], ◌∷◌, ◌++◌, length, ◌==◌, Option, Some, None, Result, Ok, Err, refl, ap, sym, ◌∙◌, subst, append_assoc, length-append, arith, nat_le, nat_lt, codes}
+use Rattle.std.proofs.lemmas.List.{append-nil}
+use Rattle.std.proofs.lemmas.Bool.{eqb-true, eq-eqb}
+use Rattle.std.proofs.lemmas.Bool.Decides.{nat_tests}
+use Rattle.std.proofs.lemmas.Slice.Eq.{bytes_eq-Decides}
+use Rattle.std.specs.Str.{bytes_eq}
+use Rattle.wdl_base.specs.declared.span.Span.{Span}
+use Rattle.wdl_base.specs.Names.{is_name, reserved_words}
+use Rattle.wdl_ast.specs.declared.token.Mark.{Mark}
+use Rattle.wdl_ast.specs.declared.token.Mark.TheVariants as mark
+use Rattle.wdl_ast.specs.declared.token.Quote.{Quote}
+use Rattle.wdl_ast.specs.declared.token.Kind.{Kind}
+use Rattle.wdl_ast.specs.declared.token.Kind.TheVariants as kind
+use Rattle.wdl_ast.specs.declared.token.Token.{Token}
+use Rattle.wdl_ast.specs.declared.leaf.Ident.{Ident}
+use Rattle.wdl_ast.specs.declared.leaf.ListItem.{ListItem}
+use Rattle.wdl_ast.specs.declared.string.Placeholder.{Placeholder}
+use Rattle.wdl_ast.specs.declared.string.StringPart.{StringPart}
+use Rattle.wdl_ast.specs.declared.string.StringPart.TheVariants as part
+use Rattle.wdl_ast.specs.declared.expr.BinaryOperator.{BinaryOperator}
+use Rattle.wdl_ast.specs.declared.expr.BinaryOperator.TheVariants as op
+use Rattle.wdl_ast.specs.declared.expr.UnaryOperator.{UnaryOperator}
+use Rattle.wdl_ast.specs.declared.expr.UnaryOperator.TheVariants as pre
+use Rattle.wdl_ast.specs.declared.expr.MapEntry.{MapEntry}
+use Rattle.wdl_ast.specs.declared.expr.MemberEntry.{MemberEntry}
+use Rattle.wdl_ast.specs.declared.expr.Expr.{Expr}
+use Rattle.wdl_ast.specs.declared.expr.Expr.TheVariants as e
+use Rattle.wdl_ast.specs.Words.{Words, at, marked, keyword, ident, chars, entry_words, member_words, items_words, options_words, part_words, parts_words, string_words, binary_mark, unary_mark, words}
+use Rattle.wdl_ast.proofs.WordLaws.{words_if, words_binary, words_unary, words_member, words_index, words_true, words_false, words_none, words_int, words_str, words_name, words_call, words_group, words_pair, words_list, words_map, words_struct}
+use Rattle.wdl_parse_expr.specs.declared.fault.Fault.{Fault}
+use Rattle.wdl_parse_expr.specs.declared.fault.Refusal.TheVariants.{Missing, Bad}
+use Rattle.wdl_parse_expr.specs.declared.tall.Tall.{Tall}
+use Rattle.wdl_parse_expr.specs.declared.tall.Closed.{Closed}
+use Rattle.wdl_parse_expr.specs.declared.tall.Chain.{Chain}
+use Rattle.wdl_parse_expr.specs.declared.tall.Rule.{Rule}
+use Rattle.wdl_parse_expr.specs.declared.tall.Rule.TheVariants as rule
+use Rattle.wdl_parse_expr.specs.Outcome.{Outcome, Parser, then_, attempt, found, is_mark, is_word, is_hole_close, is_str_close, eat_if, eat, eat_word, ident_at, tall, grown, missing, bad}
+use Rattle.wdl_parse_expr.specs.Forms.{left_out}
+use Rattle.wdl_parse_expr.specs.Grammar as g
+use Rattle.wdl_parse_expr.specs.Grammar.{looseness, ends_bare, Listed, IsEntry, IsMember, Parts, IsPrimary, IsPost, IsUnary, IsRule, IsWhole, IsOf, Tree}
+use Rattle.wdl_parse_expr.specs.Reading as r
+use Rattle.wdl_parse_expr.specs.Reading.{binary_of, binary_at, unary_at, list_of, option_start, options_at, chained, linked, leaf, one_more, Step, step, expr}
+use Rattle.wdl_parse_expr.specs.Contract.{is_suffix, is_below, goes_on, continues}
+use Rattle.wdl_parse_expr.proofs.Steps.{marks, ate, ate_ident, sees_ident, cond_true, cond_false, then_is, then_bad, attempt_is, attempt_bad, attempt_missing, found_some, found_none, grown_is}
+use Rattle.wdl_parse_expr.proofs.Says.{Says, Takes, said}
+use Rattle.wdl_parse_expr.proofs.Tables.{binary_back, ate_binary, sees_binary, sees_unary}
+use Rattle.wdl_parse_expr.proofs.Lists.{IsList, list_sound, list_is}
+use Rattle.wdl_parse_expr.proofs.Strings.{options_full}
+use Rattle.wdl_parse_expr.proofs.Sound.{IsSound, tall_words, Ruled, rule_sound, expr_sound, entry_sound, member_sound}
+
+-- the rule that a token behind an expression may go on with
+abbrev pub level : Rule → ℕ
+level rule.Unary = 0
+level rule.Expr = 6
+
+-- refused for good
+abbrev pub Hard : {A : Type 0} → Outcome A → Type 0
+Hard o = (f : Fault) × (o ≡ Err (Bad f))
+
+-- goes past the tail, or is refused for good in it
+abbrev pub Longer : {A : Type 0} → Outcome A → Words → Type 0
+Longer {A} o tail = Hard o ⊎ ((x : A × Words) × (o ≡ Ok x) × (length x.1 < length tail))
+
+abbrev pub AtMost : {A : Type 0} → Outcome A → Words → Type 0
+AtMost {A} o tail = Hard o ⊎ ((x : A × Words) × (o ≡ Ok x) × (length x.1 ≤ length tail))
+
+-- reads this expression up to this tail, or more
+abbrev pub Reaches : ℕ → Outcome (Tall Expr) → Tall Expr → Words → Type 0
+Reaches k o t tail = (o ≡ Ok (t, tail)) ⊎ ((continues k tail ≡ true) × Longer o tail)
+
+abbrev pub IsFull : (Rule → ℕ → Expr → Type 0) → (Rule → Parser (Tall Expr)) → Type 0
+IsFull In inner = (k : Rule) (n : ℕ) (x : Expr) → In k n x → (tail : Words) → Reaches (level k) (inner k (words x ++ tail)) (tall x n) tail
+
+-- ---- how expressions begin
+
+abbrev pub begins : Kind → Bool
+begins (kind.Word w) = true
+begins (kind.Int n) = true
+begins (kind.StrOpen q) = true
+begins (kind.Mark mark.Not) = true
+begins (kind.Mark mark.Minus) = true
+begins (kind.Mark mark.Plus) = true
+begins (kind.Mark mark.OpenParen) = true
+begins (kind.Mark mark.OpenBracket) = true
+begins (kind.Mark mark.OpenBrace) = true
+begins _ = false
+
+abbrev pub no_assign : Words → Bool
+no_assign [] = true
+no_assign (t ∷ ts) = not (is_mark mark.Assign t.kind)
+
+-- no `=` is behind a word
+abbrev pub calm : Kind → Words → Bool
+calm (kind.Word w) more = no_assign more
+calm _ more = true
+
+-- with such a token; `=` is not the second where the first is a word
+abbrev pub Begins : Words → Type 0
+Begins ws = (t : Token) × (more : Words) × (ws ≡ t ∷ more) × (begins t.kind ≡ true) × (calm t.kind more ≡ true)
+
+abbrev pub Starts : (Expr → Type 0) → Type 0
+Starts P = (x : Expr) → P x → Begins (words x)
+
+no_assign_before : (more : Words) (t : Token) (rest : Words) → no_assign more ≡ true → is_mark mark.Assign t.kind ≡ false → no_assign (more ++ t ∷ rest) ≡ true
+no_assign_before [] t rest h q = ap not q
+no_assign_before (u ∷ more) t rest h q = h
+
+pub calm_before : (k : Kind) (more : Words) (t : Token) (rest : Words) → calm k more ≡ true → is_mark mark.Assign t.kind ≡ false → calm k (more ++ t ∷ rest) ≡ true
+calm_before (kind.Word w) more t rest h q = no_assign_before more t rest h q
+calm_before _ more t rest h q = refl
+
+-- ---- closing marks
+
+closer_begins : (m : Mark) → begins (kind.Mark m) ≡ false → (k : Kind) → begins k ≡ true → is_mark m k ≡ false
+closer_begins m h (kind.Mark k) b = apart (is_mark m (kind.Mark k)) refl
+  where
+    apart : (q : Bool) → is_mark m (kind.Mark k) ≡ q → q ≡ false
+    apart false p = refl
+    apart true p = (let f : kind.Mark k ≡ kind.Mark m = marks m (kind.Mark k) p in let n : true ≡ false = sym b ∙ ap begins f ∙ h in let z : ⊥ = cc in absurd z)
+closer_begins m h _ b = refl
+
+-- what begins so does not begin with `=`
+pub no_assign_begins : (ws rest : Words) → Begins ws → no_assign (ws ++ rest) ≡ true
+no_assign_begins ws rest b = ap (λ z. no_assign (z ++ rest)) b.2 ∙ ap not (closer_begins mark.Assign refl b.0.kind b.3)
+
+-- ---- where reading goes on
+
+pub longer_along : {A : Type 0} (o p : Outcome A) (tail : Words) → o ≡ p → Longer p tail → Longer o tail
+longer_along o p tail q (inl d) = inl (d.0, q ∙ d.1)
+longer_along o p tail q (inr x) = inr (x.0, q ∙ x.1, x.2)
+
+pub longer_then : {A B : Type 0} (o : Outcome A) (f : A → Parser B) (tail : Words) → Longer o tail → ((x : A) (r : Words) → AtMost (f x r) r) → Longer (then_ o f) tail
+longer_then o f tail (inl d) more = inl (d.0, then_bad o f d.0 d.1)
+longer_then {A} {B} o f tail (inr x) more = go (more x.0.0 x.0.1)
+  where
+    go : AtMost (f x.0.0 x.0.1) x.0.1 → Longer (then_ o f) tail
+    go (inl d) = inl (d.0, then_is o f x.0 x.1 ∙ d.1)
+    go (inr y) = inr (y.0, then_is o f x.0 x.1 ∙ y.1, omega (arith, x.2, y.2))
+
+pub at_most_grown : {A : Type 0} (depth : ℕ) (s : Span) (links inside : ℕ) (x : A) (ts : Words) → AtMost (grown depth s links inside x ts) ts
+unfolding grown
+at_most_grown depth s links inside x ts = go (nat_le (links + inside) depth)
+  where
+    go : (b : Bool) → AtMost (cond b (Ok (tall x (suc (links + inside)), ts)) (bad 111 s)) ts
+    go true = inr ((tall x (suc (links + inside)), ts), refl, omega arith)
+    go false = inl (_, refl)
+
+-- an expression that cannot go on is read exactly
+pub exact : (k : ℕ) (o : Outcome (Tall Expr)) (t : Tall Expr) (tail : Words) → continues k tail ≡ false → Reaches k o t tail → o ≡ Ok (t, tail)
+exact k o t tail stops (inl h) = h
+exact k o t tail stops (inr h) = (let n : true ≡ false = sym h.0 ∙ stops in let z : ⊥ = cc in absurd z)
+
+below_more : (k : ℕ) (o : Option BinaryOperator) → is_below k o ≡ true → is_below (suc k) o ≡ true
+below_more k (Some o) h = grind (arith, nat_tests)
+below_more k None h = cc
+
+or_more : (a b c : Bool) → (b ≡ true → c ≡ true) → (a || b) ≡ true → (a || c) ≡ true
+or_more true b c f h = refl
+or_more false b c f h = f h
+
+goes_on_more : (k : ℕ) (x : Kind) → goes_on k x ≡ true → goes_on (suc k) x ≡ true
+goes_on_more k (kind.Mark m) h = or_more (is_suffix m) (is_below k (binary_of m)) (is_below (suc k) (binary_of m)) (below_more k (binary_of m)) h
+goes_on_more k _ h = cc
+
+pub continues_more : (k : ℕ) (ts : Words) → continues k ts ≡ true → continues (suc k) ts ≡ true
+continues_more k [] h = cc
+continues_more k (t ∷ ts) h = goes_on_more k t.kind h
+
+pub continues_from_0 : (k : ℕ) (ts : Words) → continues 0 ts ≡ true → continues k ts ≡ true
+continues_from_0 zero ts h = h
+continues_from_0 (suc k) ts h = continues_more k ts (continues_from_0 k ts h)
+
+-- an operator is no suffix
+no_suffix : (o : BinaryOperator) → is_suffix (binary_mark o) ≡ false
+no_suffix op.Or = refl
+no_suffix op.And = refl
+no_suffix op.Equal = refl
+no_suffix op.NotEqual = refl
+no_suffix op.Less = refl
+no_suffix op.LessEqual = refl
+no_suffix op.Greater = refl
+no_suffix op.GreaterEqual = refl
+no_suffix op.Add = refl
+no_suffix op.Subtract = refl
+no_suffix op.Multiply = refl
+no_suffix op.Divide = refl
+no_suffix op.Remainder = refl
+
+pub binary_not_assign : (o : BinaryOperator) → is_mark mark.Assign (kind.Mark (binary_mark o)) ≡ false
+binary_not_assign op.Or = refl
+binary_not_assign op.And = refl
+binary_not_assign op.Equal = refl
+binary_not_assign op.NotEqual = refl
+binary_not_assign op.Less = refl
+binary_not_assign op.LessEqual = refl
+binary_not_assign op.Greater = refl
+binary_not_assign op.GreaterEqual = refl
+binary_not_assign op.Add = refl
+binary_not_assign op.Subtract = refl
+binary_not_assign op.Multiply = refl
+binary_not_assign op.Divide = refl
+binary_not_assign op.Remainder = refl
+
+pub unary_begins : (o : UnaryOperator) → begins (kind.Mark (unary_mark o)) ≡ true
+unary_begins pre.Not = refl
+unary_begins pre.Negate = refl
+unary_begins pre.Plus = refl
+
+-- an operator of rule suc k goes on with that rule, and not with one that binds tighter
+goes_by : (k : ℕ) (o : BinaryOperator) → goes_on k (kind.Mark (binary_mark o)) ≡ nat_lt (looseness o) k
+goes_by k o = ap (λ b. b || is_below k (binary_of (binary_mark o))) (no_suffix o) ∙ ap (is_below k) (binary_back o)
+
+pub operator_stops : (k : ℕ) (o : BinaryOperator) (s : Span) (ts : Words) → looseness o ≡ k → continues k (marked (binary_mark o) s ∷ ts) ≡ false
+operator_stops k o s ts h = goes_by k o ∙ grind (arith, nat_tests)
+
+pub operator_goes : (k : ℕ) (o : BinaryOperator) (s : Span) (ts : Words) → looseness o ≡ k → continues (suc k) (marked (binary_mark o) s ∷ ts) ≡ true
+operator_goes k o s ts h = goes_by (suc k) o ∙ grind (arith, nat_tests)
+
+-- whether the brackets of a call or a struct literal come next
+abbrev pub calls : Words → Bool
+calls [] = false
+calls (t ∷ ts) = is_mark mark.OpenParen t.kind || is_mark mark.OpenBrace t.kind
+
+pub calls_go : (ts : Words) → calls ts ≡ true → continues 0 ts ≡ true
+calls_go [] h = cc
+calls_go (t ∷ ts) h = go t.kind h
+  where
+    go : (x : Kind) → (is_mark mark.OpenParen x || is_mark mark.OpenBrace x) ≡ true → goes_on 0 x ≡ true
+    go (kind.Mark mark.OpenParen) q = refl
+    go (kind.Mark mark.OpenBrace) q = refl
+    go (kind.Mark _) q = cc
+    go _ q = cc
+
+-- ---- names are no other words
+
+pub name_not : (w v : List ℕ) → is_name w ≡ true → is_name v ≡ false → bytes_eq w v ≡ false
+name_not w v h q = apart (bytes_eq w v) refl
+  where
+    apart : (b : Bool) → bytes_eq w v ≡ b → b ≡ false
+    apart false p = refl
+    apart true p = (let f : w ≡ v = (bytes_eq-Decides w v).0 p in let n : true ≡ false = sym h ∙ ap is_name f ∙ q in let z : ⊥ = cc in absurd z)
+
+pub if_reserved : is_name (codes "if") ≡ false
+unfolding reserved_words
+if_reserved = refl
+
+true_reserved : is_name (codes "true") ≡ false
+unfolding reserved_words
+true_reserved = refl
+
+false_reserved : is_name (codes "false") ≡ false
+unfolding reserved_words
+false_reserved = refl
+
+none_reserved : is_name (codes "None") ≡ false
+unfolding reserved_words
+none_reserved = refl
+
+module _ (In : Rule → ℕ → Expr → Type 0) (depth : ℕ) (inner : Rule → Parser (Tall Expr)) (sound : IsSound In inner) (full : IsFull In inner) (starts : (k : Rule) (n : ℕ) → Starts (In k n)) where
+  pub inner_exact : (n : ℕ) (x : Expr) → In rule.Expr n x → (tail : Words) → continues 6 tail ≡ false → inner rule.Expr (words x ++ tail) ≡ Ok (tall x n, tail)
+  inner_exact n x i tail stops = exact 6 _ (tall x n) tail stops (full rule.Expr n x i tail)
+
+  -- ---- elements of lists
+
+  entry_exact : (n : ℕ) (m : MapEntry Expr) → IsEntry In n m → (tail : Words) → continues 6 tail ≡ false → r.entry inner (entry_words words m ++ tail) ≡ Ok (tall m n, tail)
+  unfolding r.entry
+  entry_exact n m p tail stops =
+      let mid : Words = words m.value ++ tail in
+      let text : entry_words words m ++ tail ≡ words m.key ++ marked mark.Colon m.colon ∷ mid = simp append_assoc in
+      ap (r.entry inner) text
+      ∙ then_is (inner rule.Expr (words m.key ++ marked mark.Colon m.colon ∷ mid)) _ (tall m.key p.0, marked mark.Colon m.colon ∷ mid) (inner_exact p.0 m.key p.2 (marked mark.Colon m.colon ∷ mid) refl)
+      ∙ found_some (eat mark.Colon (marked mark.Colon m.colon ∷ mid)) _ _ (m.colon, mid) refl
+      ∙ then_is (inner rule.Expr mid) _ (tall m.value p.1, tail) (inner_exact p.1 m.value p.3 tail stops)
+      ∙ ap (λ z. Ok (tall m z, tail)) (sym p.4)
+
+  member_exact : (n : ℕ) (m : MemberEntry Expr) → IsMember In n m → (tail : Words) → continues 6 tail ≡ false → r.member inner (member_words words m ++ tail) ≡ Ok (tall m n, tail)
+  unfolding r.member
+  member_exact n m p tail stops =
+      let mid : Words = words m.value ++ tail in
+      found_some (ident_at (ident m.name ∷ marked mark.Colon m.colon ∷ mid)) _ _ (m.name, marked mark.Colon m.colon ∷ mid) (sees_ident m.name (marked mark.Colon m.colon ∷ mid) p.0)
+      ∙ found_some (eat mark.Colon (marked mark.Colon m.colon ∷ mid)) _ _ (m.colon, mid) refl
+      ∙ then_is (inner rule.Expr mid) _ (tall m.value n, tail) (inner_exact n m.value p.1 tail stops)
+
+  items_apart : (close : Mark) → begins (kind.Mark close) ≡ false → (n : ℕ) (x : Expr) → In rule.Expr n x → (t : Token) × (more : Words) × (words x ≡ t ∷ more) × (is_mark close t.kind ≡ false)
+  items_apart close c n x i = let s = starts rule.Expr n x i in (s.0, s.1, s.2, closer_begins close c s.0.kind s.3)
+
+  entry_apart : (n : ℕ) (m : MapEntry Expr) → IsEntry In n m → (t : Token) × (more : Words) × (entry_words words m ≡ t ∷ more) × (is_mark mark.CloseBrace t.kind ≡ false)
+  entry_apart n m p = let s = items_apart mark.CloseBrace refl p.0 m.key p.2 in (s.0, s.1 ++ marked mark.Colon m.colon ∷ words m.value, ap (λ z. z ++ marked mark.Colon m.colon ∷ words m.value) s.2, s.3)
+
+  member_apart : (n : ℕ) (m : MemberEntry Expr) → IsMember In n m → (t : Token) × (more : Words) × (member_words words m ≡ t ∷ more) × (is_mark mark.CloseBrace t.kind ≡ false)
+  member_apart n m p = (ident m.name, marked mark.Colon m.colon ∷ words m.value, refl, refl)
+
+  items_is : (close : Mark) → begins (kind.Mark close) ≡ false → (is_mark close (kind.Mark close) ≡ true) × (goes_on 6 (kind.Mark close) ≡ false) × (is_mark mark.Comma (kind.Mark close) ≡ false)
+      → (its : List (ListItem Expr)) (d : ℕ) (c : Span) (rest : Words) → Listed (In rule.Expr) its 0 d → list_of (inner rule.Expr) close (items_words words its ++ marked close c ∷ rest) ≡ Ok (record { items = its; inside = d; closing = c }, rest)
+  items_is close apart closer its d c rest l = list_is (In rule.Expr) words (inner rule.Expr) close inner_exact (items_apart close apart) closer its d c rest l
+
+  -- ---- parts of a string
+
+  no_option : (ws tail : Words) → Begins ws → (t : Token) (rest : Words) → tail ≡ t ∷ rest → is_mark mark.Assign t.kind ≡ false → option_start (ws ++ tail) ≡ None
+  no_option ws tail b t rest h q = ap (λ z. option_start (z ++ tail)) b.2 ∙ behind b.0.kind b.0.span b.1 b.4
+    where
+      second : (more : Words) → no_assign more ≡ true → eat mark.Assign (more ++ tail) ≡ None
+      second [] p = ap (eat mark.Assign) h ∙ cond_false (is_mark mark.Assign t.kind) _ _ q
+      second (u ∷ more) p = cond_false (is_mark mark.Assign u.kind) _ _ (flip (is_mark mark.Assign u.kind) p)
+        where
+          flip : (b : Bool) → not b ≡ true → b ≡ false
+          flip false p = refl
+          flip true p = cc
+
+      behind : (k : Kind) (s : Span) (more : Words) → calm k more ≡ true → option_start (at k s ∷ (more ++ tail)) ≡ None
+      behind (kind.Word w) s more p = found_none (eat mark.Assign (more ++ tail)) _ _ (second more p)
+      behind _ s more p = refl
+
+  hole_full : (h : Placeholder Expr) (n : ℕ) → In rule.Expr n h.expr → (z : Words) → r.hole inner h.mark h.opening (options_words h.options ++ (words h.expr ++ at kind.HoleClose h.closing ∷ z)) ≡ Ok (tall (part.Placeholder h) n, z)
+  unfolding r.hole
+  hole_full h n i z =
+      let tail : Words = at kind.HoleClose h.closing ∷ z in
+      let s = starts rule.Expr n h.expr i in
+      then_is _ _ (h.options, words h.expr ++ tail) (options_full h.options (words h.expr ++ tail) (no_option (words h.expr) tail s (at kind.HoleClose h.closing) z refl refl))
+      ∙ then_is (inner rule.Expr (words h.expr ++ tail)) _ (tall h.expr n, tail) (inner_exact n h.expr i tail refl)
+      ∙ found_some (eat_if is_hole_close tail) _ _ (h.closing, z) refl
+
+  hole_part : (h : Placeholder Expr) (n : ℕ) → In rule.Expr n h.expr → (z : Words) → r.part_at inner (part_words words (part.Placeholder h) ++ z) ≡ Ok (Some (tall (part.Placeholder h) n), z)
+  hole_part h n i z =
+      let rest : Words = options_words h.options ++ (words h.expr ++ at kind.HoleClose h.closing ∷ z) in
+      let text : part_words words (part.Placeholder h) ++ z ≡ at (kind.HoleOpen h.mark) h.opening ∷ rest = simp append_assoc in
+      ap (r.part_at inner) text ∙ then_is (r.hole inner h.mark h.opening rest) _ (tall (part.Placeholder h) n, z) (hole_full h n i z)
+
+  -- the mark that ends the parts is none of them
+  abbrev Ends : Token → Type 0
+  Ends t = (rest : Words) → r.part_at inner (t ∷ rest) ≡ Ok (None, t ∷ rest)
+
+  parts_full : (turns : ℕ) (all ps : List (StringPart Expr)) (i n : ℕ) (t : Token) (rest : Words) → Ends t → Parts In ps i n → length (parts_words words ps) < turns
+      → r.parts_from inner turns all i (parts_words words ps ++ t ∷ rest) ≡ Ok (tall (all ++ ps) n, t ∷ rest)
+  unfolding r.parts_from
+  parts_full zero all ps i n t rest ends p fits = absurd (omega arith)
+  parts_full (suc turns) all [] i n t rest ends p fits = then_is (r.part_at inner (t ∷ rest)) _ (None, t ∷ rest) (ends rest) ∙ ap (λ z. Ok (tall z i, t ∷ rest)) (sym (append-nil all)) ∙ ap (λ z. Ok (tall (all ++ []) z, t ∷ rest)) (sym p)
+  parts_full (suc turns) all (part.Chars c ∷ more) i n t rest ends p fits =
+      let same : max i 0 ≡ i = grind arith in
+      then_is (r.part_at inner (parts_words words (part.Chars c ∷ more) ++ t ∷ rest)) _ (Some (tall (part.Chars c) 0), parts_words words more ++ t ∷ rest) refl
+      ∙ ap (λ z. r.parts_from inner turns (all ++ part.Chars c ∷ []) z (parts_words words more ++ t ∷ rest)) same
+      ∙ parts_full turns (all ++ part.Chars c ∷ []) more i n t rest ends p (omega arith) ∙ ap (λ z. Ok (tall z n, t ∷ rest)) (append_assoc all (part.Chars c ∷ []) more)
+  parts_full (suc turns) all (part.Placeholder h ∷ more) i n t rest ends p fits =
+      let tail : Words = parts_words words more ++ t ∷ rest in
+      let shorter : length (parts_words words more) < turns = omega (arith, length-append (part_words words (part.Placeholder h)) (parts_words words more)) in
+      ap (r.parts_from inner (suc turns) all i) (append_assoc (part_words words (part.Placeholder h)) (parts_words words more) (t ∷ rest))
+      ∙ then_is (r.part_at inner (part_words words (part.Placeholder h) ++ tail)) _ (Some (tall (part.Placeholder h) p.0), tail) (hole_part h p.0 p.1 tail)
+      ∙ parts_full turns (all ++ part.Placeholder h ∷ []) more (max i p.0) n t rest ends p.2 shorter ∙ ap (λ z. Ok (tall z n, t ∷ rest)) (append_assoc all (part.Placeholder h ∷ []) more)
+
+  -- all parts up to the end of their string or command
+  pub parts_is : (ps : List (StringPart Expr)) (n : ℕ) (t : Token) (rest : Words) → Ends t → Parts In ps 0 n → r.parts inner (parts_words words ps ++ t ∷ rest) ≡ Ok (tall ps n, t ∷ rest)
+  parts_is ps n t rest ends p = parts_full (length (parts_words words ps ++ t ∷ rest)) [] ps 0 n t rest ends p (omega (arith, length-append (parts_words words ps) (t ∷ rest)))
+
+  -- ---- primaries
+
+  abbrev Names : Ident → Words → Type 0
+  Names n tail = (r.named depth inner n tail ≡ Ok (tall (e.Name n) 1, tail)) ⊎ ((calls tail ≡ true) × Longer (r.named depth inner n tail) tail)
+
+  -- a node behind the brackets at the head of the tail
+  bracketed : (tail mid after : Words) (s : Span) (i : ℕ) (x : Expr) (o : Outcome (Tall Expr)) → o ≡ grown depth s 0 i x after → length after < length tail → Longer o tail
+  bracketed tail mid after s i x o h less = go (at_most_grown depth s 0 i x after)
+    where
+      go : AtMost (grown depth s 0 i x after) after → Longer o tail
+      go (inl d) = inl (d.0, h ∙ d.1)
+      go (inr y) = inr (y.0, h ∙ y.1, omega (arith, y.2, less))
+
+  abbrev Args : Ident → Span → Words → Words → Type 0
+  Args n o rest tail = (r.arguments depth inner n o rest tail ≡ Ok (tall (e.Name n) 1, tail)) ⊎ Longer (r.arguments depth inner n o rest tail) tail
+
+  args_bare : (n : Ident) (o : Span) (rest tail : Words) (l : Closed Expr × Words) → tail ≡ marked mark.OpenParen o ∷ rest → list_of (inner rule.Expr) mark.CloseParen rest ≡ Ok l → (b : Bool) → ends_bare l.0.items ≡ b → Args n o rest tail
+  unfolding r.arguments
+  args_bare n o rest tail l h got true q =
+      let takes = said (IsList (In rule.Expr) words (inner rule.Expr) mark.CloseParen rest) rest _ l (list_sound (In rule.Expr) words (inner rule.Expr) mark.CloseParen (sound rule.Expr) rest) got in
+      let less : length l.1 < length tail = omega (arith, ap length h, ap length takes.0, length-append (items_words words l.0.items) (marked mark.CloseParen l.0.closing ∷ l.1)) in
+      inr (bracketed tail rest l.1 o l.0.inside (e.Call n o l.0.items l.0.closing) _ (attempt_is (list_of (inner rule.Expr) mark.CloseParen rest) _ _ l got ∙ cond_true (ends_bare l.0.items) _ _ q) less)
+  args_bare n o rest tail l h got false q = inl (attempt_is (list_of (inner rule.Expr) mark.CloseParen rest) _ _ l got ∙ cond_false (ends_bare l.0.items) _ _ q)
+
+  args_by : (n : Ident) (o : Span) (rest tail : Words) → tail ≡ marked mark.OpenParen o ∷ rest → (l : Outcome (Closed Expr)) → list_of (inner rule.Expr) mark.CloseParen rest ≡ l → Args n o rest tail
+  unfolding r.arguments
+  args_by n o rest tail h (Ok l) q = args_bare n o rest tail l h q (ends_bare l.0.items) refl
+  args_by n o rest tail h (Err Missing) q = inl (attempt_missing (list_of (inner rule.Expr) mark.CloseParen rest) _ _ q)
+  args_by n o rest tail h (Err (Bad f)) q = inr (inl (f, attempt_bad (list_of (inner rule.Expr) mark.CloseParen rest) _ _ f q))
+
+  name_paren : (n : Ident) (o : Span) (rest tail : Words) → tail ≡ marked mark.OpenParen o ∷ rest → r.named depth inner n tail ≡ r.call depth inner n o rest tail → (c : Option ℕ) → left_out n.name ≡ c → Names n tail
+  unfolding r.call
+  name_paren n o rest tail h start (Some c) q = inr (ap calls h, inl (_, start ∙ ap (λ z. r.call_by depth inner z n o rest tail) q))
+  name_paren n o rest tail h start None q = go (args_by n o rest tail h (list_of (inner rule.Expr) mark.CloseParen rest) refl)
+    where
+      along : r.named depth inner n tail ≡ r.arguments depth inner n o rest tail
+      along = start ∙ ap (λ z. r.call_by depth inner z n o rest tail) q
+
+      go : Args n o rest tail → Names n tail
+      go (inl s) = inl (along ∙ s)
+      go (inr l) = inr (ap calls h, longer_along _ _ tail along l)
+
+  name_brace : (n : Ident) (o : Span) (rest tail : Words) → tail ≡ marked mark.OpenBrace o ∷ rest → r.named depth inner n tail ≡ r.struct_literal depth inner n o rest tail
+      → (l : Outcome (Closed (MemberEntry Expr))) → list_of (r.member inner) mark.CloseBrace rest ≡ l → Names n tail
+  unfolding r.struct_literal
+  name_brace n o rest tail h start (Ok l) q =
+      let takes = said (IsList (IsMember In) (member_words words) (r.member inner) mark.CloseBrace rest) rest _ l (list_sound (IsMember In) (member_words words) (r.member inner) mark.CloseBrace (member_sound In depth inner sound) rest) q in
+      let less : length l.1 < length tail = omega (arith, ap length h, ap length takes.0, length-append (items_words (member_words words) l.0.items) (marked mark.CloseBrace l.0.closing ∷ l.1)) in
+      inr (ap calls h, bracketed tail rest l.1 o l.0.inside (e.Struct n o l.0.items l.0.closing) _ (start ∙ attempt_is (list_of (r.member inner) mark.CloseBrace rest) _ _ l q) less)
+  name_brace n o rest tail h start (Err Missing) q = inl (start ∙ attempt_missing (list_of (r.member inner) mark.CloseBrace rest) _ _ q)
+  name_brace n o rest tail h start (Err (Bad f)) q = inr (ap calls h, inl (f, start ∙ attempt_bad (list_of (r.member inner) mark.CloseBrace rest) _ _ f q))
+
+  name_alone : (n : Ident) (tail : Words) → eat mark.OpenParen tail ≡ None → (o : Option (Span × Words)) → eat mark.OpenBrace tail ≡ o → Names n tail
+  unfolding r.named
+  name_alone n tail p None q = inl (found_none (eat mark.OpenParen tail) _ _ p ∙ found_none (eat mark.OpenBrace tail) _ _ q)
+  name_alone n tail p (Some o) q = name_brace n o.0 o.1 tail (ate mark.OpenBrace tail o q) (found_none (eat mark.OpenParen tail) _ _ p ∙ found_some (eat mark.OpenBrace tail) _ _ o q) (list_of (r.member inner) mark.CloseBrace o.1) refl
+
+  name_by : (n : Ident) (tail : Words) (o : Option (Span × Words)) → eat mark.OpenParen tail ≡ o → Names n tail
+  unfolding r.named
+  name_by n tail None q = name_alone n tail q (eat mark.OpenBrace tail) refl
+  name_by n tail (Some o) q = name_paren n o.0 o.1 tail (ate mark.OpenParen tail o q) (found_some (eat mark.OpenParen tail) _ _ o q) (left_out n.name) refl
+
+  call_full : (n : Ident) (o : Span) (its : List (ListItem Expr)) (c : Span) (d : ℕ) (z : Words) → left_out n.name ≡ None → Listed (In rule.Expr) its 0 d → ends_bare its ≡ true → suc d ≤ suc depth
+      → r.named depth inner n (marked mark.OpenParen o ∷ (items_words words its ++ marked mark.CloseParen c ∷ z)) ≡ Ok (tall (e.Call n o its c) (suc d), z)
+  unfolding r.named r.call r.arguments
+  call_full n o its c d z out l bare fits =
+      let rest : Words = items_words words its ++ marked mark.CloseParen c ∷ z in
+      let tail : Words = marked mark.OpenParen o ∷ rest in
+      found_some (eat mark.OpenParen tail) _ _ (o, rest) refl
+      ∙ ap (λ k. r.call_by depth inner k n o rest tail) out
+      ∙ attempt_is (list_of (inner rule.Expr) mark.CloseParen rest) _ _ (record { items = its; inside = d; closing = c }, z) (items_is mark.CloseParen refl (refl, refl, refl) its d c z l)
+      ∙ cond_true (ends_bare its) _ _ bare
+      ∙ grown_is depth o d (e.Call n o its c) z fits
+
+  struct_full : (n : Ident) (o : Span) (ms : List (ListItem (MemberEntry Expr))) (c : Span) (d : ℕ) (z : Words) → Listed (IsMember In) ms 0 d → suc d ≤ suc depth
+      → r.named depth inner n (marked mark.OpenBrace o ∷ (items_words (member_words words) ms ++ marked mark.CloseBrace c ∷ z)) ≡ Ok (tall (e.Struct n o ms c) (suc d), z)
+  unfolding r.named r.struct_literal
+  struct_full n o ms c d z l fits =
+      let rest : Words = items_words (member_words words) ms ++ marked mark.CloseBrace c ∷ z in
+      let tail : Words = marked mark.OpenBrace o ∷ rest in
+      found_none (eat mark.OpenParen tail) _ _ refl
+      ∙ found_some (eat mark.OpenBrace tail) _ _ (o, rest) refl
+      ∙ attempt_is (list_of (r.member inner) mark.CloseBrace rest) _ _ (record { items = ms; inside = d; closing = c }, z) (list_is (IsMember In) (member_words words) (r.member inner) mark.CloseBrace member_exact member_apart (refl, refl, refl) ms d c z l)
+      ∙ grown_is depth o d (e.Struct n o ms c) z fits
+
+  group_full : (o : Span) (x : Expr) (c : Span) (n : ℕ) (z : Words) → In rule.Expr n x → suc n ≤ suc depth → r.paren depth inner o (words x ++ marked mark.CloseParen c ∷ z) ≡ Ok (tall (e.Group o x c) (suc n), z)
+  unfolding r.paren
+  group_full o x c n z i fits =
+      let tail : Words = marked mark.CloseParen c ∷ z in
+      then_is (inner rule.Expr (words x ++ tail)) _ (tall x n, tail) (inner_exact n x i tail refl)
+      ∙ found_some (eat mark.CloseParen tail) _ _ (c, z) refl
+      ∙ grown_is depth o n (e.Group o x c) z fits
+
+  pair_full : (o : Span) (l : Expr) (k : Span) (x : Expr) (c : Span) (a b : ℕ) (z : Words) → In rule.Expr a l → In rule.Expr b x → suc (max a b) ≤ suc depth
+      → r.paren depth inner o (words l ++ marked mark.Comma k ∷ (words x ++ marked mark.CloseParen c ∷ z)) ≡ Ok (tall (e.Pair o l k x c) (suc (max a b)), z)
+  unfolding r.paren r.pair_end
+  pair_full o l k x c a b z i j fits =
+      let last : Words = marked mark.CloseParen c ∷ z in
+      let tail : Words = marked mark.Comma k ∷ (words x ++ last) in
+      then_is (inner rule.Expr (words l ++ tail)) _ (tall l a, tail) (inner_exact a l i tail refl)
+      ∙ found_none (eat mark.CloseParen tail) _ _ refl
+      ∙ found_some (eat mark.Comma tail) _ _ (k, words x ++ last) refl
+      ∙ then_is (inner rule.Expr (words x ++ last)) _ (tall x b, last) (inner_exact b x j last refl)
+      ∙ found_some (eat mark.CloseParen last) _ _ (c, z) refl
+      ∙ grown_is depth o (max a b) (e.Pair o l k x c) z fits
+
+  list_full : (o : Span) (its : List (ListItem Expr)) (c : Span) (n : ℕ) (z : Words) → Listed (In rule.Expr) its 0 n → suc n ≤ suc depth
+      → r.list depth inner o (items_words words its ++ marked mark.CloseBracket c ∷ z) ≡ Ok (tall (e.List o its c) (suc n), z)
+  unfolding r.list
+  list_full o its c n z l fits = then_is _ _ (record { items = its; inside = n; closing = c }, z) (items_is mark.CloseBracket refl (refl, refl, refl) its n c z l) ∙ grown_is depth o n (e.List o its c) z fits
+
+  map_full : (o : Span) (es : List (ListItem (MapEntry Expr))) (c : Span) (n : ℕ) (z : Words) → Listed (IsEntry In) es 0 n → suc n ≤ suc depth
+      → r.map_literal depth inner o (items_words (entry_words words) es ++ marked mark.CloseBrace c ∷ z) ≡ Ok (tall (e.Map o es c) (suc n), z)
+  unfolding r.map_literal
+  map_full o es c n z l fits =
+      then_is _ _ (record { items = es; inside = n; closing = c }, z) (list_is (IsEntry In) (entry_words words) (r.entry inner) mark.CloseBrace entry_exact entry_apart (refl, refl, refl) es n c z l)
+      ∙ grown_is depth o n (e.Map o es c) z fits
+
+  text_full : (q : Quote) (o : Span) (ps : List (StringPart Expr)) (c : Span) (n : ℕ) (z : Words) → Parts In ps 0 n → suc n ≤ suc depth
+      → r.text depth inner q o (parts_words words ps ++ at kind.StrClose c ∷ z) ≡ Ok (tall (e.Str (record { quote = q; opening = o; parts = ps; closing = c })) (suc n), z)
+  unfolding r.text
+  text_full q o ps c n z p fits =
+      then_is _ _ (tall ps n, at kind.StrClose c ∷ z) (parts_is ps n (at kind.StrClose c) z (λ rest. refl) p)
+      ∙ found_some (eat_if is_str_close (at kind.StrClose c ∷ z)) _ _ (c, z) refl
+      ∙ grown_is depth o n (e.Str (record { quote = q; opening = o; parts = ps; closing = c })) z fits
+
+  -- a name is read as one
+  worded_name : (n : Ident) (ts : Words) → is_name n.name ≡ true → r.primary depth inner (ident n ∷ ts) ≡ r.named depth inner n ts
+  unfolding r.primary r.worded
+  worded_name n ts h = cond_true (is_name n.name) _ _ h
+
+  abbrev pub Primaries : ℕ → Expr → Words → Type 0
+  Primaries n x tail = (r.primary depth inner (words x ++ tail) ≡ Ok (tall x n, tail)) ⊎ ((calls tail ≡ true) × Longer (r.primary depth inner (words x ++ tail)) tail)
+
+  literal_true : (s : Span) (tail : Words) → r.primary depth inner (keyword (codes "true") s ∷ tail) ≡ Ok (tall (e.True s) 1, tail)
+  unfolding r.primary r.worded r.literal
+  literal_true s tail = cond_false (is_name (codes "true")) _ _ true_reserved
+
+  literal_false : (s : Span) (tail : Words) → r.primary depth inner (keyword (codes "false") s ∷ tail) ≡ Ok (tall (e.False s) 1, tail)
+  unfolding r.primary r.worded r.literal
+  literal_false s tail = cond_false (is_name (codes "false")) _ _ false_reserved
+
+  literal_none : (s : Span) (tail : Words) → r.primary depth inner (keyword (codes "None") s ∷ tail) ≡ Ok (tall (e.None s) 1, tail)
+  unfolding r.primary r.worded r.literal
+  literal_none s tail = cond_false (is_name (codes "None")) _ _ none_reserved
+
+  pub primary_full : (n : ℕ) (x : Expr) → IsPrimary In n x → n ≤ suc depth → (tail : Words) → Primaries n x tail
+  unfolding r.primary
+  primary_full n x (g.yes_ s) fits tail = inl (ap (λ w. r.primary depth inner (w ++ tail)) (words_true s) ∙ literal_true s tail)
+  primary_full n x (g.no_ s) fits tail = inl (ap (λ w. r.primary depth inner (w ++ tail)) (words_false s) ∙ literal_false s tail)
+  primary_full n x (g.none s) fits tail = inl (ap (λ w. r.primary depth inner (w ++ tail)) (words_none s) ∙ literal_none s tail)
+  primary_full n x (g.int v s) fits tail = inl (ap (λ w. r.primary depth inner (w ++ tail)) (words_int v s))
+  primary_full n x (g.name k named) fits tail =
+      let text : r.primary depth inner (words (e.Name k) ++ tail) ≡ r.named depth inner k tail = ap (λ w. r.primary depth inner (w ++ tail)) (words_name k) ∙ worded_name k tail named in
+      go text (name_by k tail (eat mark.OpenParen tail) refl)
+    where
+      go : r.primary depth inner (words (e.Name k) ++ tail) ≡ r.named depth inner k tail → Names k tail → Primaries 1 (e.Name k) tail
+      go q (inl h) = inl (q ∙ h)
+      go q (inr h) = inr (h.0, longer_along _ _ tail q h.1)
+  primary_full n x (g.call k o its c d named out l bare) fits tail =
+      let text : words (e.Call k o its c) ++ tail ≡ ident k ∷ marked mark.OpenParen o ∷ (items_words words its ++ marked mark.CloseParen c ∷ tail) = simp (words_call, append_assoc) in
+      inl (ap (r.primary depth inner) text ∙ worded_name k _ named ∙ call_full k o its c d tail out l bare fits)
+  primary_full n x (g.group o y c d i) fits tail =
+      let text : words (e.Group o y c) ++ tail ≡ marked mark.OpenParen o ∷ (words y ++ marked mark.CloseParen c ∷ tail) = simp (words_group, append_assoc) in
+      inl (ap (r.primary depth inner) text ∙ group_full o y c d tail i fits)
+  primary_full n x (g.pair o l k y c a b i j) fits tail =
+      let text : words (e.Pair o l k y c) ++ tail ≡ marked mark.OpenParen o ∷ (words l ++ marked mark.Comma k ∷ (words y ++ marked mark.CloseParen c ∷ tail)) = simp (words_pair, append_assoc) in
+      inl (ap (r.primary depth inner) text ∙ pair_full o l k y c a b tail i j fits)
+  primary_full n x (g.list o its c d l) fits tail =
+      let text : words (e.List o its c) ++ tail ≡ marked mark.OpenBracket o ∷ (items_words words its ++ marked mark.CloseBracket c ∷ tail) = simp (words_list, append_assoc) in
+      inl (ap (r.primary depth inner) text ∙ list_full o its c d tail l fits)
+  primary_full n x (g.map o es c d l) fits tail =
+      let text : words (e.Map o es c) ++ tail ≡ marked mark.OpenBrace o ∷ (items_words (entry_words words) es ++ marked mark.CloseBrace c ∷ tail) = simp (words_map, append_assoc) in
+      inl (ap (r.primary depth inner) text ∙ map_full o es c d tail l fits)
+  primary_full n x (g.struct_ k o ms c d named l) fits tail =
+      let text : words (e.Struct k o ms c) ++ tail ≡ ident k ∷ marked mark.OpenBrace o ∷ (items_words (member_words words) ms ++ marked mark.CloseBrace c ∷ tail) = simp (words_struct, append_assoc) in
+      inl (ap (r.primary depth inner) text ∙ worded_name k _ named ∙ struct_full k o ms c d tail l fits)
+  primary_full n x (g.str q o ps c d p) fits tail =
+      let text : words (e.Str (record { quote = q; opening = o; parts = ps; closing = c })) ++ tail ≡ at (kind.StrOpen q) o ∷ (parts_words words ps ++ at kind.StrClose c ∷ tail) = simp (words_str, append_assoc) in
+      inl (ap (r.primary depth inner) text ∙ text_full q o ps c d tail p fits)

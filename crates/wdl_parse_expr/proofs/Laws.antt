@@ -1,0 +1,98 @@
+-- What reading answers, by the grammar alone.
+use Rattle.std.proofs.Common.{◌≡◌, ℕ, ◌<◌, true, false, ◌⊎◌, inl, inr, [], ◌++◌, length, Ok, Err, refl, ap, sym, ◌∙◌, subst, arith}
+use Rattle.std.proofs.lemmas.List.{append-nil}
+use Rattle.wdl_ast.specs.declared.expr.Expr.{Expr}
+use Rattle.wdl_ast.specs.declared.type_tree.TypeTree.{TypeTree}
+use Rattle.wdl_ast.specs.Words.{Words, words, type_words}
+use Rattle.wdl_parse_expr.specs.declared.fault.Fault.{Fault}
+use Rattle.wdl_parse_expr.specs.declared.fault.Refusal.{Refusal}
+use Rattle.wdl_parse_expr.specs.declared.fault.Refusal.TheVariants.{Missing, Bad}
+use Rattle.wdl_parse_expr.specs.declared.fault.Stop.{Stop}
+use Rattle.wdl_parse_expr.specs.declared.fault.Stop.TheVariants as stop
+use Rattle.wdl_parse_expr.specs.declared.fault.ParseFault.{ParseFault}
+use Rattle.wdl_parse_expr.specs.declared.fault.ParseFault.TheVariants as fault
+use Rattle.wdl_parse_expr.specs.declared.tall.Tall.{Tall}
+use Rattle.wdl_parse_expr.specs.declared.tall.Rule.TheVariants as rule
+use Rattle.wdl_parse_expr.specs.Outcome.{Outcome, then_, tall, missing, bad, Fails}
+use Rattle.wdl_parse_expr.specs.Grammar.{Tree, max_depth, IsExpr}
+use Rattle.wdl_parse_expr.specs.TypeGrammar.{IsType, max_type_depth}
+use Rattle.wdl_parse_expr.specs.Reading.{expr}
+use Rattle.wdl_parse_expr.specs.TypeReading.{type_at}
+use Rattle.wdl_parse_expr.specs.Contract.{expr_continues, Fronts, IsLongest, StartsNone, MayGoOn, Blames, IfBad, RefusesExpr, RefusesType, FaultOf}
+use Rattle.wdl_parse_expr.proofs.Steps.{same, done, then_is}
+use Rattle.wdl_parse_expr.proofs.Says.{Takes, said, blamed}
+use Rattle.wdl_parse_expr.proofs.Sound.{tall_words, expr_sound}
+use Rattle.wdl_parse_expr.proofs.Full.{Hard, Reaches}
+use Rattle.wdl_parse_expr.proofs.Chains.{expr_full}
+use Rattle.wdl_parse_expr.proofs.TypeLaws.{ReachesType, type_sound, type_full}
+
+-- ---- expressions
+
+abbrev Whole : Tall Expr → Type 0
+Whole t = Tree max_depth rule.Expr t.depth t.tree
+
+pub is_front : (ts : Words) (t : Tall Expr) (tail : Words) → expr max_depth rule.Expr ts ≡ Ok (t, tail) → Fronts IsExpr words ts t.tree tail
+is_front ts t tail h = let s = said (Takes Whole tall_words ts) ts _ (t, tail) (expr_sound max_depth rule.Expr ts) h in record { text = s.0; sound = (t.depth, s.1) }
+
+-- what stands at the front is read, or more
+front : (ts : Words) (y : Expr) (rest : Words) (f : Fronts IsExpr words ts y rest) → Reaches 6 (expr max_depth rule.Expr ts) (tall y f.sound.0) rest
+front ts y rest f = subst (λ z. Reaches 6 (expr max_depth rule.Expr z) (tall y f.sound.0) rest) (sym f.text) (expr_full max_depth rule.Expr f.sound.0 y f.sound.1 rest)
+
+pub is_longest : (ts : Words) (t : Tall Expr) (tail : Words) → expr max_depth rule.Expr ts ≡ Ok (t, tail) → IsLongest IsExpr words ts t.tree tail
+is_longest ts t tail h y rest f = go (front ts y rest f)
+  where
+    go : Reaches 6 (expr max_depth rule.Expr ts) (tall y f.sound.0) rest → ((y ≡ t.tree) × (rest ≡ tail)) ⊎ (length tail < length rest)
+    go (inl q) = let s = same (tall y f.sound.0, rest) (t, tail) (sym q ∙ h) in inl (ap (λ (z : Tall Expr). z.tree) s.0, s.1)
+    go (inr (c, inl d)) = (let n = sym h ∙ d.1 in let z : ⊥ = cc in absurd z)
+    go (inr (c, inr o)) = let s = same o.0 (t, tail) (sym o.1 ∙ h) in inr (omega (arith, o.2, ap length s.1))
+
+pub starts_none : (ts : Words) → expr max_depth rule.Expr ts ≡ Err Missing → StartsNone IsExpr words ts
+starts_none ts h y rest f = go (front ts y rest f)
+  where
+    go : Reaches 6 (expr max_depth rule.Expr ts) (tall y f.sound.0) rest → ⊥
+    go (inl q) = let n = sym h ∙ q in cc
+    go (inr (c, inl d)) = let n = sym h ∙ d.1 in cc
+    go (inr (c, inr o)) = let n = sym h ∙ o.1 in cc
+
+pub may_go_on : (ts : Words) (b : Fault) → expr max_depth rule.Expr ts ≡ Err (Bad b) → MayGoOn ts
+may_go_on ts b h y rest f = go (front ts y rest f)
+  where
+    go : Reaches 6 (expr max_depth rule.Expr ts) (tall y f.sound.0) rest → expr_continues rest ≡ true
+    go (inl q) = (let n = sym h ∙ q in let z : ⊥ = cc in absurd z)
+    go (inr (c, _)) = c
+
+pub is_blamed : (ts : Words) (b : Fault) → expr max_depth rule.Expr ts ≡ Err (Bad b) → Blames b.code b.span ts
+is_blamed ts b h = blamed (Takes Whole tall_words ts) ts _ b (expr_sound max_depth rule.Expr ts) h
+
+pub refused : (ts : Words) (s : Stop) (f : ParseFault) → FaultOf s f → Fails (expr max_depth rule.Expr ts) s → IfBad {A = Expr} (RefusesExpr ts) (Err f)
+refused ts stop.NoMemory f q h = subst (λ z. IfBad {A = Expr} (RefusesExpr ts) (Err z)) (sym q) tt
+refused ts (stop.Refused Missing) f q h = subst (λ z. IfBad {A = Expr} (RefusesExpr ts) (Err z)) (sym q.1) (inl (refl, starts_none ts h))
+refused ts (stop.Refused (Bad b)) f q h = subst (λ z. IfBad {A = Expr} (RefusesExpr ts) (Err z)) (sym q) (inr (is_blamed ts b h, may_go_on ts b h))
+
+-- ---- types
+
+pub is_type_front : (ts : Words) (t : TypeTree) (tail : Words) → type_at max_type_depth ts ≡ Ok (t, tail) → Fronts IsType type_words ts t tail
+is_type_front ts t tail h = let s = said (Takes IsType type_words ts) ts _ (t, tail) (type_sound max_type_depth ts) h in record { text = s.0; sound = s.1 }
+
+type_front : (ts : Words) (y : TypeTree) (rest : Words) → Fronts IsType type_words ts y rest → ReachesType (type_at max_type_depth ts) y rest
+type_front ts y rest f = subst (λ z. ReachesType (type_at max_type_depth z) y rest) (sym f.text) (type_full max_type_depth y f.sound rest)
+
+pub is_longest_type : (ts : Words) (t : TypeTree) (tail : Words) → type_at max_type_depth ts ≡ Ok (t, tail) → IsLongest IsType type_words ts t tail
+is_longest_type ts t tail h y rest f = go (type_front ts y rest f)
+  where
+    go : ReachesType (type_at max_type_depth ts) y rest → ((y ≡ t) × (rest ≡ tail)) ⊎ (length tail < length rest)
+    go (inl q) = inl (same (y, rest) (t, tail) (sym q ∙ h))
+    go (inr (c, o)) = let s = same o.0 (t, tail) (sym o.1 ∙ h) in inr (omega (arith, o.2, ap length s.1))
+
+no_type : (ts : Words) (f : Refusal) → type_at max_type_depth ts ≡ Err f → StartsNone IsType type_words ts
+no_type ts f h y rest k = go (type_front ts y rest k)
+  where
+    go : ReachesType (type_at max_type_depth ts) y rest → ⊥
+    go (inl q) = let n = sym h ∙ q in cc
+    go (inr (c, o)) = let n = sym h ∙ o.1 in cc
+
+pub refused_type : (ts : Words) (s : Stop) (f : ParseFault) → FaultOf s f → Fails (type_at max_type_depth ts) s → IfBad {A = TypeTree} (RefusesType ts) (Err f)
+refused_type ts stop.NoMemory f q h = subst (λ z. IfBad {A = TypeTree} (RefusesType ts) (Err z)) (sym q) tt
+refused_type ts (stop.Refused Missing) f q h = subst (λ z. IfBad {A = TypeTree} (RefusesType ts) (Err z)) (sym q.1) (inl refl, no_type ts Missing h)
+refused_type ts (stop.Refused (Bad b)) f q h =
+    subst (λ z. IfBad {A = TypeTree} (RefusesType ts) (Err z)) (sym q) (inr (blamed (Takes IsType type_words ts) ts (type_at max_type_depth ts) b (type_sound max_type_depth ts) h), no_type ts (Bad b) h)

@@ -1,0 +1,15 @@
+pub mod Turns
+pub mod Ends
+pub mod Told
+pub mod Steps
+pub mod Says
+pub mod Tables
+pub mod Lists
+pub mod Strings
+pub mod Sound
+pub mod Full
+pub mod Chains
+pub mod TypeLaws
+pub mod Laws
+pub mod Places
+pub mod Readers

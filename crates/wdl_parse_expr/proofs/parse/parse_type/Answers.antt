@@ -1,0 +1,32 @@
+use Rattle.std.proofs.Common.{◌≡◌, ◌-◌, ap, subst, sym, ◌∙◌, arith, length, drop, Ok}
+use Rattle.wdl_ast.specs.Words.{type_words}
+use Rattle.wdl_parse_expr.specs.Outcome.{Fails}
+use Rattle.wdl_parse_expr.specs.TypeGrammar.{max_type_depth, IsType}
+use Rattle.wdl_parse_expr.specs.TypeReading.{type_at}
+use Rattle.wdl_parse_expr.specs.Contract.{Fronts, IsLongest}
+use Rattle.wdl_parse_expr.proofs.Laws.{is_type_front, is_longest_type, refused_type}
+use Rattle.wdl_parse_expr.proofs.Places.{left_fits, front_at, longest_at}
+use Rattle.wdl_parse_expr.proofs.parse.parse_type.Goals as goal
+
+pub overflow_sub-result : goal.overflow_sub-result
+overflow_sub-result c =
+    let ts = c.args.tokens.now in
+    let read : type_at max_type_depth (drop c.args.at ts) ≡ Ok (c.in-Ok.ty, c.type_at.new.tokens) = ap (type_at max_type_depth) (sym c.cursor_at-cursor.ensures) ∙ c.in-Ok.ensures in
+    omega (arith, left_fits IsType type_words ts c.args.at c.in-Ok.ty c.type_at.new.tokens (is_type_front (drop c.args.at ts) c.in-Ok.ty c.type_at.new.tokens read), c.len-left.ensures)
+
+pub returns-in-Ok-clause-found : goal.returns-in-Ok-clause-found
+returns-in-Ok-clause-found c =
+    let ts = c.args.tokens.now in
+    let read : type_at max_type_depth (drop c.args.at ts) ≡ Ok (c.in-Ok.ty, c.type_at.new.tokens) = ap (type_at max_type_depth) (sym c.cursor_at-cursor.ensures) ∙ c.in-Ok.ensures in
+    subst (λ n. Fronts IsType type_words (drop c.args.at ts) c.in-Ok.ty (drop (length ts - n) ts)) (sym c.len-left.ensures)
+    (front_at IsType type_words ts c.args.at c.in-Ok.ty c.type_at.new.tokens (is_type_front (drop c.args.at ts) c.in-Ok.ty c.type_at.new.tokens read) c.requires)
+
+pub returns-in-Ok-clause-longest : goal.returns-in-Ok-clause-longest
+returns-in-Ok-clause-longest c =
+    let ts = c.args.tokens.now in
+    let read : type_at max_type_depth (drop c.args.at ts) ≡ Ok (c.in-Ok.ty, c.type_at.new.tokens) = ap (type_at max_type_depth) (sym c.cursor_at-cursor.ensures) ∙ c.in-Ok.ensures in
+    subst (λ n. IsLongest IsType type_words (drop c.args.at ts) c.in-Ok.ty (drop (length ts - n) ts)) (sym c.len-left.ensures)
+    (longest_at IsType type_words ts c.args.at c.in-Ok.ty c.type_at.new.tokens (is_type_front (drop c.args.at ts) c.in-Ok.ty c.type_at.new.tokens read) c.requires (is_longest_type (drop c.args.at ts) c.in-Ok.ty c.type_at.new.tokens read))
+
+pub returns-in-Err-clause-refused : goal.returns-in-Err-clause-refused
+returns-in-Err-clause-refused c = refused_type (drop c.args.at c.args.tokens.now) c.in-Err.stop c.fault_of.result c.fault_of.ensures (subst (λ z. Fails (type_at max_type_depth z) c.in-Err.stop) c.cursor_at-cursor.ensures c.in-Err.ensures)

@@ -1,0 +1,122 @@
+-- What the readers of expressions and types answer, by the grammar alone.
+use Rattle.std.specs.Prelude.{◌≡◌, ◌⊎◌, ◌<◌, ℕ, Bool, true, false, ◌||◌, nat_lt, List, [], ◌∷◌, ◌++◌, length, drop, Option, Some, None, Result, Ok, Err}
+use Rattle.wdl_base.specs.declared.span.Span.{Span}
+use Rattle.wdl_ast.specs.declared.token.Mark.{Mark}
+use Rattle.wdl_ast.specs.declared.token.Mark.TheVariants as mark
+use Rattle.wdl_ast.specs.declared.token.Kind.{Kind}
+use Rattle.wdl_ast.specs.declared.token.Kind.TheVariants as kind
+use Rattle.wdl_ast.specs.declared.token.Token.{Token}
+use Rattle.wdl_ast.specs.declared.string.StringPart.{StringPart}
+use Rattle.wdl_ast.specs.declared.expr.BinaryOperator.{BinaryOperator}
+use Rattle.wdl_ast.specs.declared.expr.Expr.{Expr}
+use Rattle.wdl_ast.specs.declared.type_tree.TypeTree.{TypeTree}
+use Rattle.wdl_ast.specs.Words.{Words, words, type_words}
+use Rattle.wdl_parse_expr.specs.declared.fault.ParseFault.{ParseFault}
+use Rattle.wdl_parse_expr.specs.declared.fault.ParseFault.TheVariants as fault
+use Rattle.wdl_parse_expr.specs.declared.fault.Refusal.TheVariants as refusal
+use Rattle.wdl_parse_expr.specs.declared.fault.Stop.{Stop}
+use Rattle.wdl_parse_expr.specs.declared.fault.Stop.TheVariants as stop
+use Rattle.wdl_parse_expr.specs.declared.tall.Tall.{Tall}
+use Rattle.wdl_parse_expr.specs.declared.tall.Rule.TheVariants as rule
+use Rattle.wdl_parse_expr.specs.Outcome.{Parser, then_}
+use Rattle.wdl_parse_expr.specs.Forms.{begins_form}
+use Rattle.wdl_parse_expr.specs.Grammar.{looseness, max_depth, IsExpr}
+use Rattle.wdl_parse_expr.specs.TypeGrammar.{max_type_depth, IsType}
+use Rattle.wdl_parse_expr.specs.Reading.{binary_of, parts, expr}
+use Rattle.wdl_parse_expr.specs.TypeReading.{type_at}
+
+-- ---- where a tree may go on
+
+abbrev pub is_suffix : Mark → Bool
+is_suffix mark.Dot = true
+is_suffix mark.OpenBracket = true
+is_suffix mark.OpenParen = true
+is_suffix mark.OpenBrace = true
+is_suffix _ = false
+
+abbrev pub is_below : ℕ → Option BinaryOperator → Bool
+is_below k (Some o) = nat_lt (looseness o) k
+is_below k None = false
+
+-- whether a token right behind a derivation of rule k can belong to a longer one
+abbrev pub goes_on : ℕ → Kind → Bool
+goes_on k (kind.Mark m) = is_suffix m || is_below k (binary_of m)
+goes_on k _ = false
+
+abbrev pub continues : ℕ → Words → Bool
+continues k [] = false
+continues k (t ∷ ts) = goes_on k t.kind
+
+-- behind an expression: `.`, an opening bracket, or an operator
+abbrev pub expr_continues : Words → Bool
+expr_continues = continues 6
+
+abbrev pub is_type_mark : Kind → Bool
+is_type_mark (kind.Mark mark.Question) = true
+is_type_mark (kind.Mark mark.Plus) = true
+is_type_mark _ = false
+
+-- behind a type: `?` or `+`
+abbrev pub type_continues : Words → Bool
+type_continues [] = false
+type_continues (t ∷ ts) = is_type_mark t.kind
+
+-- ---- what stands at the front of the tokens
+
+-- Is says which trees are sound, and spelled gives their tokens
+module _ {A : Type 0} (Is : A → Type 0) (spelled : A → Words) where
+  pub record Fronts (ts : Words) (x : A) (tail : Words) : Type 0 where
+    pub text : ts ≡ spelled x ++ tail
+    pub sound : Is x
+
+  -- there is no other one, but for shorter ones
+  abbrev pub IsLongest : Words → A → Words → Type 0
+  IsLongest ts x tail = (y : A) (rest : Words) → Fronts ts y rest → ((y ≡ x) × (rest ≡ tail)) ⊎ (length tail < length rest)
+
+  -- none stands there
+  abbrev pub StartsNone : Words → Type 0
+  StartsNone ts = (y : A) (rest : Words) → Fronts ts y rest → ⊥
+
+abbrev pub FrontsExpr : Words → Expr → Words → Type 0
+FrontsExpr = Fronts IsExpr words
+
+-- each expression that stands there may go on
+abbrev pub MayGoOn : Words → Type 0
+MayGoOn ts = (y : Expr) (rest : Words) → FrontsExpr ts y rest → expr_continues rest ≡ true
+
+-- ---- refusals
+
+-- One of the tokens has that span. With 111 reading met the limit of depth there; with 120 to 123 a form of that code begins with it.
+abbrev pub Blames : ℕ → Span → Words → Type 0
+Blames c s ts = (before : Words) × (t : Token) × (after : Words) × (ts ≡ before ++ t ∷ after) × (t.span ≡ s) × ((c ≡ 111) ⊎ (begins_form c t.kind after ≡ true))
+
+-- 110 where no expression starts there; else the code is true of its token, and each expression that starts there may go on
+abbrev pub RefusesExpr : Words → ℕ → Span → Type 0
+RefusesExpr ts c s = ((c ≡ 110) × StartsNone IsExpr words ts) ⊎ (Blames c s ts × MayGoOn ts)
+
+-- no type starts there; with a code other than 110 the code is true of its token
+abbrev pub RefusesType : Words → ℕ → Span → Type 0
+RefusesType ts c s = ((c ≡ 110) ⊎ Blames c s ts) × StartsNone IsType type_words ts
+
+abbrev pub IfBad : {A : Type 0} → (ℕ → Span → Type 0) → Result A ParseFault → Type 0
+IfBad P (Ok a) = Unit {0}
+IfBad P (Err fault.NoMemory) = Unit {0}
+IfBad P (Err (fault.Bad c s)) = P c s
+
+-- ---- the readers as functions, for whoever reads what such trees are parts of
+
+unfoldable pub read_expr : Parser Expr
+read_expr ts = then_ (expr max_depth rule.Expr ts) (λ x rest. Ok (x.tree, rest))
+
+unfoldable pub read_type : Parser TypeTree
+read_type = type_at max_type_depth
+
+-- the parts of a command, up to its end
+unfoldable pub read_parts : Parser (List (StringPart Expr))
+read_parts ts = then_ (parts (expr max_depth) ts) (λ x rest. Ok (x.tree, rest))
+
+-- what a refusal of reading is to the caller
+abbrev pub FaultOf : Stop → ParseFault → Type 0
+FaultOf stop.NoMemory f = f ≡ fault.NoMemory
+FaultOf (stop.Refused refusal.Missing) f = (s : Span) × (f ≡ fault.Bad 110 s)
+FaultOf (stop.Refused (refusal.Bad b)) f = f ≡ fault.Bad b.code b.span

@@ -1,0 +1,229 @@
+ghost use Rattle.std.specs.Prelude.{◌≡◌, IfOk, List};
+ghost use Rattle.wdl_ast.specs.declared.token.Token.{Token};
+ghost use Rattle.wdl_parse_expr.specs.Outcome.{Reads};
+ghost use Rattle.wdl_parse_expr.specs.Reading as spec;
+ghost use Rattle.wdl_parse_expr.specs.Nests.{Nests};
+ghost use Rattle.wdl_parse_expr.specs.declared.tall.Chain.{Chain};
+
+use crate::cursor::Cursor;
+use crate::fault::{Refusal, Stop};
+use crate::grammar::Grammar;
+use crate::read::{deeper, linked};
+use crate::tall::{Chain, Rule, Tall};
+use sqlite_items::Boxed;
+use std::alloc::Global;
+use wdl_ast::{BinaryOperator, Expr, Ident, Mark, UnaryOperator};
+use wdl_value::{NoMemory, Span};
+
+fn chained(left: Tall<Expr>) -> Chain
+    ensures { result ≡ spec.chained left }
+{
+    Chain {
+        links: 0,
+        inside: left.depth,
+        left,
+    }
+}
+
+fn member(alloc: Global, base: Expr, dot: Span, name: Ident) -> Result<Expr, NoMemory>
+    ensures { IfOk result (λ x. x ≡ Expr.Member base dot name) }
+{
+    Ok(Expr::Member {
+        base: Boxed::new(alloc, base)?,
+        dot,
+        name,
+    })
+}
+
+fn index(
+    alloc: Global,
+    base: Expr,
+    opening: Span,
+    index: Expr,
+    closing: Span,
+) -> Result<Expr, NoMemory>
+    ensures { IfOk result (λ x. x ≡ Expr.Index base opening index closing) }
+{
+    Ok(Expr::Index {
+        base: Boxed::new(alloc, base)?,
+        opening,
+        index: Boxed::new(alloc, index)?,
+        closing,
+    })
+}
+
+fn binary(
+    alloc: Global,
+    left: Expr,
+    operator: BinaryOperator,
+    sign: Span,
+    right: Expr,
+) -> Result<Expr, NoMemory>
+    ensures { IfOk result (λ x. x ≡ Expr.Binary left operator sign right) }
+{
+    Ok(Expr::Binary {
+        left: Boxed::new(alloc, left)?,
+        operator,
+        sign,
+        right: Boxed::new(alloc, right)?,
+    })
+}
+
+fn signed(
+    alloc: Global,
+    operator: UnaryOperator,
+    sign: Span,
+    operand: Expr,
+) -> Result<Expr, NoMemory>
+    ensures { IfOk result (λ x. x ≡ Expr.Unary operator sign operand) }
+{
+    Ok(Expr::Unary {
+        operator,
+        sign,
+        operand: Boxed::new(alloc, operand)?,
+    })
+}
+
+impl<F: Fn(Global, &mut Cursor<'_>, usize, Rule) -> Result<Tall<Expr>, Stop>> Grammar<F> {
+    /// One more link.
+    fn linked(
+        &self,
+        span: Span,
+        links: usize,
+        inside: usize,
+        tree: Expr,
+    ) -> Result<(Chain, bool), Stop>
+        requires { Nests self.now.depth (F.pre self.now.expr) (F.post self.now.expr) }
+        ensures { (chain : Chain) (ts : List Token) → Reads (spec.told chain (spec.step (spec.linked self.now.depth span links inside tree ts))) result ts }
+    {
+        match linked(self.depth, span, links, inside, tree) {
+            Ok(chain) => Ok((chain, true)),
+            Err(stop) => Err(stop),
+        }
+    }
+
+    /// The member or the index behind an expression, and whether one stands there.
+    #[tactic(auto, using(std::proofs::lemmas::Grind::common_steps), unfolding(crate::specs::Outcome::attempt, crate::specs::Outcome::found, crate::specs::Reading::suffix))]
+    fn suffix(&self, tokens: &mut Cursor<'_>, chain: Chain) -> Result<(Chain, bool), Stop>
+        requires { Nests self.now.depth (F.pre self.now.expr) (F.post self.now.expr) }
+        ensures { Reads (spec.told chain (spec.suffix self.now.depth (spec.expr self.now.depth) chain tokens.old)) result tokens.new }
+    {
+        let before = tokens.rest();
+        if let Some(dot) = tokens.eat(Mark::Dot) {
+            return match tokens.ident(self.alloc)? {
+                Some(name) => {
+                    let tree = member(self.alloc, chain.left.tree, dot, name)?;
+                    self.linked(dot, chain.links, chain.inside, tree)
+                }
+                None => {
+                    tokens.back(before);
+                    Ok((chain, false))
+                }
+            };
+        }
+        let Some(opening) = tokens.eat(Mark::OpenBracket) else {
+            return Ok((chain, false));
+        };
+        match self.inner(tokens, Rule::Expr) {
+            Ok(at) => match tokens.eat(Mark::CloseBracket) {
+                Some(closing) => {
+                    let inside = deeper(chain.inside, at.depth);
+                    let tree = index(self.alloc, chain.left.tree, opening, at.tree, closing)?;
+                    self.linked(opening, chain.links, inside, tree)
+                }
+                None => {
+                    tokens.back(before);
+                    Ok((chain, false))
+                }
+            },
+            Err(Stop::Refused(Refusal::Missing)) => {
+                tokens.back(before);
+                Ok((chain, false))
+            }
+            Err(stop) => Err(stop),
+        }
+    }
+
+    #[tactic(auto, using(std::proofs::lemmas::Grind::common_steps), unfolding(crate::specs::Outcome::then_, crate::specs::Reading::post, crate::specs::Reading::turns))]
+    fn post(&self, tokens: &mut Cursor<'_>) -> Result<Tall<Expr>, Stop>
+        requires { Nests self.now.depth (F.pre self.now.expr) (F.post self.now.expr) }
+        ensures { Reads (spec.post self.now.depth (spec.expr self.now.depth) tokens.old) result tokens.new }
+    {
+        let mut chain = chained(self.primary(tokens)?);
+        for _turn in 0..tokens.len() {
+            let (longer, more) = self.suffix(tokens, chain)?;
+            chain = longer;
+            if !more {
+                return Ok(chain.left);
+            }
+        }
+        Ok(chain.left)
+    }
+
+    /// Reads a unary expression.
+    #[tactic(auto, using(std::proofs::lemmas::Grind::common_steps), unfolding(crate::specs::Outcome::then_, crate::specs::Outcome::found, crate::specs::Reading::unary))]
+    pub fn unary(&self, tokens: &mut Cursor<'_>) -> Result<Tall<Expr>, Stop>
+        requires { Nests self.now.depth (F.pre self.now.expr) (F.post self.now.expr) }
+        ensures { Reads (spec.unary self.now.depth (spec.expr self.now.depth) tokens.old) result tokens.new }
+    {
+        match tokens.unary() {
+            Some((operator, sign)) => {
+                let operand = self.inner(tokens, Rule::Unary)?;
+                let tree = signed(self.alloc, operator, sign, operand.tree)?;
+                self.grown(sign, operand.depth, tree)
+            }
+            None => self.post(tokens),
+        }
+    }
+
+    /// One more operand, and whether its operator stands there.
+    #[cycle(rules)]
+    #[tactic(auto, using(std::proofs::lemmas::Grind::common_steps), unfolding(crate::specs::Outcome::attempt, crate::specs::Outcome::found, crate::specs::Reading::operation))]
+    fn operation(
+        &self,
+        tokens: &mut Cursor<'_>,
+        k: usize,
+        chain: Chain,
+    ) -> Result<(Chain, bool), Stop>
+        requires { Nests self.now.depth (F.pre self.now.expr) (F.post self.now.expr) }
+        ensures { Reads (spec.told chain (spec.operation self.now.depth (spec.expr self.now.depth) (spec.rule_at self.now.depth (spec.expr self.now.depth) k) k chain tokens.old)) result tokens.new }
+    {
+        let before = tokens.rest();
+        let Some((operator, sign)) = tokens.binary(k) else {
+            return Ok((chain, false));
+        };
+        match self.rule(tokens, k) {
+            Ok(right) => {
+                let inside = deeper(chain.inside, right.depth);
+                let tree = binary(self.alloc, chain.left.tree, operator, sign, right.tree)?;
+                self.linked(sign, chain.links, inside, tree)
+            }
+            Err(Stop::Refused(Refusal::Missing)) => {
+                tokens.back(before);
+                Ok((chain, false))
+            }
+            Err(stop) => Err(stop),
+        }
+    }
+
+    /// Reads rule `k`: 0 is a unary expression, 1 a product, and 6 a disjunction.
+    #[cycle(rules)]
+    #[tactic(auto, using(std::proofs::lemmas::Grind::common_steps), unfolding(crate::specs::Outcome::then_, crate::specs::Reading::turns, crate::specs::Reading::rule_at))]
+    pub fn rule(&self, tokens: &mut Cursor<'_>, k: usize) -> Result<Tall<Expr>, Stop>
+        requires { Nests self.now.depth (F.pre self.now.expr) (F.post self.now.expr) }
+        ensures { Reads (spec.rule_at self.now.depth (spec.expr self.now.depth) k tokens.old) result tokens.new }
+    {
+        if k == 0 {
+            return self.unary(tokens);
+        }
+        let mut chain = chained(self.rule(tokens, k - 1)?);
+        for _turn in 0..tokens.len() {
+            let (longer, more) = self.operation(tokens, k - 1, chain)?;
+            chain = longer;
+            if !more {
+                return Ok(chain.left);
+            }
+        }
+        Ok(chain.left)
+    }
+}

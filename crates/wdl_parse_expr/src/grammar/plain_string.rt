@@ -1,0 +1,99 @@
+ghost use Rattle.std.specs.Prelude.{◌≡◌};
+ghost use Rattle.wdl_parse_expr.specs.Outcome.{Reads};
+ghost use Rattle.wdl_parse_expr.specs.Reading as spec;
+
+use crate::cursor::Cursor;
+use crate::fault::Stop;
+use crate::operator::{OptionWord, same_option};
+use crate::read::missing;
+use std::alloc::Global;
+use wdl_ast::{PlaceholderOption, PlaceholderOptions, PlainString};
+use wdl_value::Span;
+
+/// Reads a string without a placeholder.
+#[tactic(auto, using(std::proofs::lemmas::Grind::common_steps), unfolding(crate::specs::Outcome::found, crate::specs::Reading::plain))]
+pub fn plain(alloc: Global, tokens: &mut Cursor<'_>) -> Result<PlainString, Stop>
+    ensures { Reads (spec.plain tokens.old) result tokens.new }
+{
+    let Some((quote, opening)) = tokens.quote() else {
+        return missing();
+    };
+    let chars = tokens.chars(alloc)?;
+    match tokens.string_end() {
+        Some(closing) => Ok(PlainString {
+            quote,
+            opening,
+            chars,
+            closing,
+        }),
+        None => missing(),
+    }
+}
+
+#[tactic(auto, using(std::proofs::lemmas::Grind::common_steps), unfolding(crate::specs::Outcome::then_, crate::specs::Reading::option_end))]
+fn option_end(
+    alloc: Global,
+    tokens: &mut Cursor<'_>,
+    spans: (Span, Span),
+) -> Result<PlaceholderOption, Stop>
+    ensures { Reads (spec.option_end spans tokens.old) result tokens.new }
+{
+    let value = plain(alloc, tokens)?;
+    Ok(PlaceholderOption {
+        word: spans.0,
+        assign: spans.1,
+        value,
+    })
+}
+
+/// The second of `true` and `false`.
+#[tactic(auto, using(std::proofs::lemmas::Grind::common_steps), unfolding(crate::specs::Outcome::found, crate::specs::Reading::other_option))]
+fn other_option(
+    alloc: Global,
+    tokens: &mut Cursor<'_>,
+    word: OptionWord,
+) -> Result<PlaceholderOption, Stop>
+    ensures { Reads (spec.other_option word tokens.old) result tokens.new }
+{
+    match tokens.option_start() {
+        Some((found, spans)) if same_option(found, word) => option_end(alloc, tokens, spans),
+        _ => missing(),
+    }
+}
+
+#[tactic(auto, using(std::proofs::lemmas::Grind::common_steps), unfolding(crate::specs::Outcome::then_))]
+fn options_by(
+    alloc: Global,
+    tokens: &mut Cursor<'_>,
+    word: OptionWord,
+    spans: (Span, Span),
+) -> Result<PlaceholderOptions, Stop>
+    ensures { Reads (spec.options_by word spans tokens.old) result tokens.new }
+{
+    match word {
+        OptionWord::Sep => Ok(PlaceholderOptions::Sep(option_end(alloc, tokens, spans)?)),
+        OptionWord::Default => Ok(PlaceholderOptions::Default(option_end(alloc, tokens, spans)?)),
+        OptionWord::True => {
+            let accepted = option_end(alloc, tokens, spans)?;
+            let refused = other_option(alloc, tokens, OptionWord::False)?;
+            Ok(PlaceholderOptions::TrueFalse(accepted, refused))
+        }
+        OptionWord::False => {
+            let refused = option_end(alloc, tokens, spans)?;
+            let accepted = other_option(alloc, tokens, OptionWord::True)?;
+            Ok(PlaceholderOptions::FalseTrue(refused, accepted))
+        }
+        OptionWord::Other => missing(),
+    }
+}
+
+/// Reads the options of a placeholder.
+#[tactic(auto, using(std::proofs::lemmas::Grind::common_steps), unfolding(crate::specs::Outcome::found, crate::specs::Reading::options_at))]
+pub fn options(alloc: Global, tokens: &mut Cursor<'_>) -> Result<PlaceholderOptions, Stop>
+    ensures { Reads (spec.options_at tokens.old) result tokens.new }
+{
+    match tokens.option_start() {
+        Some((word, spans)) => options_by(alloc, tokens, word, spans),
+        None => Ok(PlaceholderOptions::Plain),
+    }
+}

@@ -1,0 +1,126 @@
+ghost use Rattle.std.specs.Prelude.{◌≡◌, ◌≤◌, length, drop, IfOk};
+ghost use Rattle.wdl_ast.specs.Words.{words, type_words};
+ghost use Rattle.wdl_parse_expr.specs.Grammar.{IsExpr};
+ghost use Rattle.wdl_parse_expr.specs.TypeGrammar.{IsType};
+ghost use Rattle.wdl_parse_expr.specs.Contract.{Fronts, IsLongest, IfBad, RefusesExpr, RefusesType, FaultOf};
+
+use crate::cursor::Cursor;
+use crate::fault::{ParseFault, Refusal, Stop};
+use crate::grammar::expr;
+use crate::tall::Rule;
+use crate::type_reader::type_at;
+use std::alloc::Global;
+use wdl_ast::{Expr, Token, TypeTree};
+use wdl_value::Span;
+
+/// How deep an expression may be.
+pub const MAX_DEPTH: usize = 64;
+
+/// How deep a type may be.
+pub const MAX_TYPE_DEPTH: usize = 8;
+
+/// An expression, and the place of the token behind it.
+#[derive(Drop)]
+pub struct ParsedExpr {
+    pub expr: Expr,
+    pub next: usize,
+}
+
+/// A type, and the place of the token behind it.
+#[derive(Drop)]
+pub struct ParsedType {
+    pub ty: TypeTree,
+    pub next: usize,
+}
+
+/// The span of the token before which so many are left; of the last one, where none is.
+fn span_before(tokens: &[Token], left: usize) -> Span {
+    match tokens.get(tokens.len().saturating_sub(left)) {
+        Some(token) => token.span,
+        None => match tokens.last() {
+            Some(token) => token.span,
+            None => Span {
+                doc: 0,
+                start: 0,
+                end: 0,
+            },
+        },
+    }
+}
+
+/// What a refusal of reading is to the caller. `left` tells how many tokens were left where nothing could be read.
+pub fn fault_of(stop: Stop, tokens: &[Token], left: usize) -> ParseFault
+    ensures { FaultOf stop result }
+{
+    match stop {
+        Stop::NoMemory => ParseFault::NoMemory,
+        Stop::Refused(Refusal::Missing) => ParseFault::Bad {
+            code: 110,
+            span: span_before(tokens, left),
+        },
+        Stop::Refused(Refusal::Bad(fault)) => ParseFault::Bad {
+            code: fault.code,
+            span: fault.span,
+        },
+    }
+}
+
+/// A cursor at a place.
+fn cursor_at(tokens: &[Token], at: usize) -> Cursor<'_>
+    requires { at ≤ length tokens.now }
+    ensures { result ≡ drop at tokens.now }
+{
+    Cursor::new(&tokens[at..])
+}
+
+/// The longest expression that starts at a place of the tokens, in time linear in its tokens (OpenWDL 1.1,
+/// "Expressions"). Its depth is at most 64: a literal, name, call, string, or anything in brackets counts once, an `if` once,
+/// and an operator, a member or an index once. Fractions, objects, and the functions that need them are refused by
+/// codes of their own where reading meets them.
+pub fn parse_expr(alloc: Global, tokens: &[Token], at: usize) -> Result<ParsedExpr, ParseFault>
+    requires { at ≤ length tokens.now }
+    ensures within { IfOk result (λ r. r.next ≤ length tokens.now) }
+    // It stands there.
+    ensures found { IfOk result (λ r. Fronts IsExpr words (drop at tokens.now) r.expr (drop r.next tokens.now)) }
+    // No other one does that is as long.
+    ensures longest { IfOk result (λ r. IsLongest IsExpr words (drop at tokens.now) r.expr (drop r.next tokens.now)) }
+    // 110 where none starts there; any other code is true of a token, and each that starts there may go on.
+    ensures refused { IfBad (RefusesExpr (drop at tokens.now)) result }
+{
+    let mut cursor = cursor_at(tokens, at);
+    match expr(alloc, &mut cursor, MAX_DEPTH, Rule::Expr) {
+        Ok(tall) => {
+            let left = cursor.len();
+            Ok(ParsedExpr {
+                expr: tall.tree,
+                next: tokens.len() - left,
+            })
+        }
+        Err(stop) => Err(fault_of(stop, tokens, cursor.left_at_most())),
+    }
+}
+
+/// The longest type that starts at a place of the tokens, in time linear in its tokens (OpenWDL 1.1, "Types"). Its
+/// depth is at most 8, each type inside another counting once. `Float` and `Object` are refused by codes of their own.
+pub fn parse_type(alloc: Global, tokens: &[Token], at: usize) -> Result<ParsedType, ParseFault>
+    requires { at ≤ length tokens.now }
+    ensures within { IfOk result (λ r. r.next ≤ length tokens.now) }
+    // It stands there.
+    ensures found { IfOk result (λ r. Fronts IsType type_words (drop at tokens.now) r.ty (drop r.next tokens.now)) }
+    // No other one does that is as long.
+    ensures longest { IfOk result (λ r. IsLongest IsType type_words (drop at tokens.now) r.ty (drop r.next tokens.now)) }
+    // None starts there; a code other than 110 is true of a token.
+    ensures refused { IfBad (RefusesType (drop at tokens.now)) result }
+{
+    let mut cursor = cursor_at(tokens, at);
+    match type_at(alloc, &mut cursor, MAX_TYPE_DEPTH) {
+        Ok(ty) => {
+            let left = cursor.len();
+            Ok(ParsedType {
+                ty,
+                next: tokens.len() - left,
+            })
+        }
+        Err(stop) => Err(fault_of(stop, tokens, cursor.left_at_most())),
+    }
+}

@@ -1,0 +1,34 @@
+use sqlite_items::Items;
+use wdl_ast::{Expr, ListItem};
+use wdl_value::Span;
+
+/// A tree with its depth.
+#[derive(Drop)]
+pub struct Tall<T> {
+    pub tree: T,
+    pub depth: usize,
+}
+
+/// The elements of a list up to its closing mark, with the depth of the deepest.
+#[derive(Drop)]
+pub struct Closed<T> {
+    pub items: Items<ListItem<T>>,
+    pub inside: usize,
+    pub closing: Span,
+}
+
+/// What was read of a node with operators, members or indices: how many, and the depth of its deepest part. The
+/// depth of the tree is the sum of both.
+#[derive(Drop)]
+pub struct Chain {
+    pub left: Tall<Expr>,
+    pub links: usize,
+    pub inside: usize,
+}
+
+/// Where an expression stands: behind an operator of its own, or alone.
+#[derive(Clone, Copy, Debug, PartialEq, Eq)]
+pub enum Rule {
+    Unary,
+    Expr,
+}
