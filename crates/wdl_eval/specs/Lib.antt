@@ -1,0 +1,6 @@
+pub mod Laws
+pub mod Marks
+pub mod Meets
+pub mod Nodes
+pub mod PartMaps
+pub mod Ready
