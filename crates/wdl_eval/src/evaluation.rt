@@ -4,6 +4,7 @@ ghost use Rattle.std.specs.Prelude.{◌≡◌, ◌+◌};
 ghost use Rattle.std.specs.Option.{option_copied};
 ghost use Rattle.wdl_stdlib.specs.Gives.{Gives};
 ghost use Rattle.wdl_typed.specs.Evaluation as spec;
+ghost use Rattle.wdl_eval.specs.Found.{Finds};
 ghost use Rattle.wdl_eval.specs.Meets.{Meets};
 ghost use Rattle.wdl_eval.specs.Nodes as nodes;
 ghost use Rattle.wdl_eval.specs.Nodes.{setting_of};
@@ -14,6 +15,7 @@ use crate::forms::{
     applied, cast_to, item_of, map_of, member_of, neg_of, not_of, only_bool, operated, pair_of,
     struct_of, value_of,
 };
+use crate::lent::{Found, lent};
 use crate::outcome::{copied, limited};
 use crate::placeholder::{with_chars, with_hole};
 use crate::setting::Setting;
@@ -52,26 +54,30 @@ pub fn eval<L: Ledger>(
     }
 }
 
-/// The same for any expression, well typed or not, without a step: `Wrong` where a part is of a kind that no well-typed
-/// expression has there.
+/// The value of any expression, well typed or not, or its code; no step is counted. It is `Wrong` where a part is of a kind
+/// that no well-typed expression has there.
 #[cycle(evaluate)]
 #[tactic(auto, using(crate::proofs::Limited::limited_once))]
-pub fn evaluate(alloc: Global, e: &TExpr, setting: &Setting<'_>) -> Result<Value, NodeFault>
+pub fn evaluate<'a>(
+    alloc: Global,
+    e: &'a TExpr,
+    setting: &'a Setting<'a>,
+) -> Result<Value, NodeFault>
     ensures { Meets (spec.value_met (setting_of setting.now) e.now) result }
 {
     match e {
         TExpr::Lit(value) => copied(alloc, value),
         TExpr::Get(key) => value_of(alloc, key, setting),
-        TExpr::Member(a, name) => member_of(alloc, &evaluate(alloc, a.get(), setting)?, name),
+        TExpr::Member(a, name) => member_of(alloc, found(alloc, a.get(), setting)?.get(), name),
         TExpr::At(a, b) => {
-            let value = evaluate(alloc, a.get(), setting)?;
-            at(alloc, b.get(), &value, setting)
+            let value = found(alloc, a.get(), setting)?;
+            at(alloc, b.get(), value.get(), setting)
         }
         TExpr::Not(a) => not_of(&evaluate(alloc, a.get(), setting)?),
         TExpr::Neg(a) => neg_of(&evaluate(alloc, a.get(), setting)?),
         TExpr::Binary(op, a, b) => {
-            let left = evaluate(alloc, a.get(), setting)?;
-            after_left(alloc, b.get(), *op, &left, setting)
+            let left = found(alloc, a.get(), setting)?;
+            after_left(alloc, b.get(), *op, left.get(), setting)
         }
         TExpr::Choose(c, a, b) => {
             match evaluate(alloc, c.get(), setting)? {
@@ -97,13 +103,29 @@ pub fn evaluate(alloc: Global, e: &TExpr, setting: &Setting<'_>) -> Result<Value
             setting,
         ),
         TExpr::Strung(parts) => limited(Value::Str(text(alloc, parts.as_slice(), setting)?)),
-        TExpr::Cast(a, t) => cast_to(alloc, &evaluate(alloc, a.get(), setting)?, t),
+        TExpr::Cast(a, t) => cast_to(alloc, found(alloc, a.get(), setting)?.get(), t),
     }
+}
+
+/// The value of an expression, lent where it can be.
+#[cycle(evaluate)]
+fn found<'a>(alloc: Global, e: &'a TExpr, setting: &'a Setting<'a>) -> Result<Found<'a>, NodeFault>
+    ensures { Finds (spec.value_met (setting_of setting.now) e.now) result }
+{
+    if let Some(value) = lent(e, setting)? {
+        return Ok(Found::Lent(value));
+    }
+    Ok(Found::Made(evaluate(alloc, e, setting)?))
 }
 
 /// `left[right]`, once the left side has a value.
 #[cycle(evaluate)]
-fn at(alloc: Global, right: &TExpr, left: &Value, setting: &Setting<'_>) -> Result<Value, NodeFault>
+fn at<'a>(
+    alloc: Global,
+    right: &'a TExpr,
+    left: &Value,
+    setting: &'a Setting<'a>,
+) -> Result<Value, NodeFault>
     ensures { Meets (nodes.within (nodes.at_met left.now (spec.value_met (setting_of setting.now) right.now))) result }
 {
     item_of(alloc, left, &evaluate(alloc, right, setting)?)
@@ -111,12 +133,12 @@ fn at(alloc: Global, right: &TExpr, left: &Value, setting: &Setting<'_>) -> Resu
 
 /// An operator, once its left side has a value.
 #[cycle(evaluate)]
-fn after_left(
+fn after_left<'a>(
     alloc: Global,
-    right: &TExpr,
+    right: &'a TExpr,
     op: Op,
     left: &Value,
-    setting: &Setting<'_>,
+    setting: &'a Setting<'a>,
 ) -> Result<Value, NodeFault>
     ensures { Meets (nodes.within (spec.after_left op left.now (spec.value_met (setting_of setting.now) right.now))) result }
 {
@@ -131,17 +153,17 @@ fn after_left(
             Value::Bool(false) => only_bool(&evaluate(alloc, right, setting)?),
             _ => Err(NodeFault::Wrong),
         },
-        _ => operated(alloc, op, left, &evaluate(alloc, right, setting)?),
+        _ => operated(alloc, op, left, found(alloc, right, setting)?.get()),
     }
 }
 
 /// `(left, right)`, once the left side has a value.
 #[cycle(evaluate)]
-fn paired(
+fn paired<'a>(
     alloc: Global,
-    right: &TExpr,
+    right: &'a TExpr,
     left: Value,
-    setting: &Setting<'_>,
+    setting: &'a Setting<'a>,
 ) -> Result<Value, NodeFault>
     ensures { Meets (nodes.within (nodes.pair_met left (spec.value_met (setting_of setting.now) right.now))) result }
 {
@@ -149,7 +171,11 @@ fn paired(
 }
 
 #[cycle(evaluate)]
-fn values(alloc: Global, es: &[TExpr], setting: &Setting<'_>) -> Result<Items<Value>, NodeFault>
+fn values<'a>(
+    alloc: Global,
+    es: &'a [TExpr],
+    setting: &'a Setting<'a>,
+) -> Result<Items<Value>, NodeFault>
     ensures { Meets (nodes.values_met (setting_of setting.now) es.now) result }
 {
     let mut values = Items::new(alloc);
@@ -160,10 +186,10 @@ fn values(alloc: Global, es: &[TExpr], setting: &Setting<'_>) -> Result<Items<Va
 }
 
 #[cycle(evaluate)]
-fn rows(
+fn rows<'a>(
     alloc: Global,
-    pairs: &[TPair<TExpr>],
-    setting: &Setting<'_>,
+    pairs: &'a [TPair<TExpr>],
+    setting: &'a Setting<'a>,
 ) -> Result<Items<MapRow<Value>>, NodeFault>
     ensures { Meets (nodes.rows_met (setting_of setting.now) pairs.now) result }
 {
@@ -177,10 +203,10 @@ fn rows(
 }
 
 #[cycle(evaluate)]
-fn fields(
+fn fields<'a>(
     alloc: Global,
-    members: &[TField<TExpr>],
-    setting: &Setting<'_>,
+    members: &'a [TField<TExpr>],
+    setting: &'a Setting<'a>,
 ) -> Result<Items<Field<Value>>, NodeFault>
     ensures { Meets (nodes.fields_met (setting_of setting.now) members.now) result }
 {
@@ -194,7 +220,11 @@ fn fields(
 }
 
 #[cycle(evaluate)]
-fn text(alloc: Global, parts: &[TPart<TExpr>], setting: &Setting<'_>) -> Result<Text, NodeFault>
+fn text<'a>(
+    alloc: Global,
+    parts: &'a [TPart<TExpr>],
+    setting: &'a Setting<'a>,
+) -> Result<Text, NodeFault>
     ensures { Meets (nodes.text_met (setting_of setting.now) parts.now) result }
 {
     let mut text = Text::empty(alloc);
@@ -202,8 +232,8 @@ fn text(alloc: Global, parts: &[TPart<TExpr>], setting: &Setting<'_>) -> Result<
         text = match part {
             TPart::Chars(chars) => with_chars(text, chars)?,
             TPart::Hole(hole) => {
-                let value = evaluate(alloc, &hole.expr, setting)?;
-                with_hole(alloc, text, &hole.choice, value)?
+                let value = found(alloc, &hole.expr, setting)?;
+                with_hole(alloc, text, &hole.choice, value.get())?
             }
         };
     }

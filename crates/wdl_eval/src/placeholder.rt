@@ -68,8 +68,9 @@ fn or_default(alloc: Global, text: &Text, value: &Value) -> Result<Text, NodeFau
     }
 }
 
-/// The text that a placeholder prints. An undefined value prints nothing where no option says otherwise.
-fn hole_text(alloc: Global, choice: &Choice, value: &Value) -> Result<Text, NodeFault>
+/// The text that a placeholder prints for a value: by its option, and nothing for an undefined value where no option says
+/// otherwise. `Wrong` comes exactly where the option takes no such value.
+pub fn hole_text(alloc: Global, choice: &Choice, value: &Value) -> Result<Text, NodeFault>
     ensures { Meets (spec.hole_text choice.now (out-Value value.now)) result }
 {
     match choice {
@@ -85,11 +86,11 @@ pub fn with_hole(
     alloc: Global,
     mut text: Text,
     choice: &Choice,
-    value: Value,
+    value: &Value,
 ) -> Result<Text, NodeFault>
-    ensures { Meets (spec.then_ (spec.hole_text choice.now (out-Value value)) (λ s. Ok (text ++ s))) result }
+    ensures { Meets (spec.then_ (spec.hole_text choice.now (out-Value value.now)) (λ s. Ok (text ++ s))) result }
 {
-    text.push_str(hole_text(alloc, choice, &value)?.as_str())?;
+    text.push_str(hole_text(alloc, choice, value)?.as_str())?;
     Ok(text)
 }
 

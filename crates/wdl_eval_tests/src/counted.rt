@@ -1,6 +1,4 @@
-ghost use Rattle.std.specs.Prelude.{◌≡◌, ◌+◌, ◌<◌, not, IsOk, Ok};
-ghost use Rattle.wdl_value.specs.declared.value.Value.TheVariants as v;
-ghost use Rattle.wdl_stdlib.specs.Gives.{Gives};
+ghost use Rattle.std.specs.Prelude.{◌≡◌, ◌+◌, ◌<◌, IsOk};
 
 use std::alloc::Global;
 use std::marker::Brand;
@@ -11,12 +9,7 @@ use wdl_typed::TExpr;
 use wdl_value::{Boxed, Env, Items, Steps, Text, Value};
 
 /// The value of `!b`, which is one step.
-fn negation<L: Ledger>(
-    alloc: Global,
-    b: bool,
-    steps: &mut Steps<L>,
-) -> Result<Value, EvalFault>
-    ensures value { Gives (Ok (v.Bool (not b))) result }
+fn negation<L: Ledger>(alloc: Global, b: bool, steps: &mut Steps<L>) -> Result<Value, EvalFault>
     ensures one_step { IsOk result → steps.new ≡ steps.old + 1 }
 {
     let e = TExpr::Not(Boxed::new(alloc, TExpr::Lit(Value::Bool(b)))?);

@@ -1,6 +1,7 @@
 use Rattle.std.proofs.Common.{◌≡◌, ◌++◌, Ok, sym, ◌∙◌}
 use Rattle.wdl_typed.specs.Evaluation.{hole_text, then_}
 use Rattle.wdl_value.specs.declared.value.Value.{out-Value}
+use Rattle.wdl_eval.specs.Found.{held}
 use Rattle.wdl_eval.specs.Nodes.{setting_of}
 use Rattle.wdl_eval.proofs.Pieces.{chars_next, hole_next}
 use Rattle.wdl_eval.proofs.evaluation.+evaluate.Goals as goal
@@ -17,6 +18,6 @@ text-loop-part-preserved t c =
           chars_next s c.args.parts.now i c.part-item.result c.loop-part.text c.match-part.text c.part-item.is c.loop-part-test.true c.loop-part.invariant w.in-Chars.chars w.in-Chars.is next
       | text-in-Hole+in_ok-value-in-Hole+in_ok-text-in-Hole w ↦ let is = w.text-is in
           let made = w.in_ok-text-in-Hole.ensures in
-          let next : then_ (hole_text w.in-Hole.hole.choice (out-Value w.in_ok-value-in-Hole.value)) (λ x. Ok (c.loop-part.text ++ x)) ≡ Ok c.match-part.text = cc in
-          hole_next s c.args.parts.now i c.part-item.result c.loop-part.text c.match-part.text c.part-item.is c.loop-part-test.true c.loop-part.invariant w.in-Hole.hole w.in_ok-value-in-Hole.value w.in-Hole.is w.in_ok-value-in-Hole.ensures next
+          let next : then_ (hole_text w.in-Hole.hole.choice (out-Value (held w.in_ok-value-in-Hole.value))) (λ x. Ok (c.loop-part.text ++ x)) ≡ Ok c.match-part.text = cc in
+          hole_next s c.args.parts.now i c.part-item.result c.loop-part.text c.match-part.text c.part-item.is c.loop-part-test.true c.loop-part.invariant w.in-Hole.hole (held w.in_ok-value-in-Hole.value) w.in-Hole.is w.in_ok-value-in-Hole.ensures next
     ]
