@@ -1,11 +1,11 @@
 -- What keeps the limits of values keeps them again.
-use Rattle.std.proofs.Common.{◌≡◌, Bool, true, false, cond, Some, None, Ok, Err, sym, ap, ◌∙◌, refl}
+use Rattle.std.proofs.Common.{◌≡◌, Bool, true, false, cond, Ok, Err, sym, ap, ◌∙◌, refl}
 use Rattle.wdl_base.specs.declared.fault.EvalCode.TheVariants.{TooLarge}
 use Rattle.wdl_value.specs.declared.value.Value.{Value}
 use Rattle.wdl_value.specs.Limits.{is_within, limited}
 use Rattle.wdl_value.specs.Outcome.{Outcome, and_then}
 use Rattle.wdl_typed.specs.declared.expr.TExpr.{TExpr, map-TExpr, out-TExpr, fold_out-TExpr}
-use Rattle.wdl_typed.specs.Evaluation.{Met, Setting, met, node_step, then_, value_met, value_step}
+use Rattle.wdl_typed.specs.Evaluation.{Met, Setting, met, node_step, value_met, value_step}
 use Rattle.wdl_eval.specs.Nodes.{within}
 
 twice : (x : Value) → within (met (limited x)) ≡ met (limited x)

@@ -1,5 +1,5 @@
 -- Map literals.
-use Rattle.std.proofs.Common.{◌≡◌, Bool, true, false, cond, ◌&&◌, List, [], ◌∷◌, ◌++◌, map, Option, Some, None, Ok, Err, option_and_then, sym, ap, ◌∙◌, subst, refl}
+use Rattle.std.proofs.Common.{◌≡◌, Bool, true, false, cond, ◌&&◌, List, [], ◌∷◌, ◌++◌, map, Some, Ok, option_and_then, subst, refl}
 use Rattle.std.proofs.lemmas.Bool.{false≢true, and_parts, and_from}
 use Rattle.wdl_base.specs.declared.fault.EvalCode.TheVariants.{RepeatedKey}
 use Rattle.wdl_base.specs.declared.name.Key.{Key}
@@ -16,7 +16,7 @@ use Rattle.wdl_value.proofs.FitsForms.{map_fits, rows_fit}
 use Rattle.wdl_value.proofs.SameTypeLemmas.{same_type-true}
 use Rattle.wdl_typed.specs.declared.expr.TExpr.{TExpr}
 use Rattle.wdl_typed.specs.declared.expr.TPair.{TPair}
-use Rattle.wdl_typed.specs.Evaluation.{Met, Setting, all_rows, coded, map_of, then_, value_met}
+use Rattle.wdl_typed.specs.Evaluation.{Setting, coded, map_of, then_, value_met}
 use Rattle.wdl_typed.specs.Scope.{names_of, row_names}
 use Rattle.wdl_typed.specs.Typing.{Context, Typing, all_same, all_types, keys_in, map_type, type_of, values_in}
 use Rattle.wdl_eval.specs.Laws.{IsMet, IsSound}

@@ -1,5 +1,5 @@
 -- Two keys are one where their marks are, and a set of marks that were seen.
-use Rattle.std.proofs.Common.{◌≡◌, ℕ, ℤ, pos, negsuc, ◌<◌, ◌+◌, Bool, true, false, cond, not, ◌&&◌, ◌||◌, List, [], ◌∷◌, length, get_or, drop, Option, Some, None, String, string_bytes, arith, sym, ap, ◌∙◌, subst, refl}
+use Rattle.std.proofs.Common.{◌≡◌, ℕ, ℤ, pos, negsuc, ◌<◌, ◌+◌, Bool, true, false, cond, not, ◌&&◌, ◌||◌, List, [], ◌∷◌, length, get_or, drop, Option, Some, None, String, string_bytes, arith, sym, ap, ◌∙◌, refl}
 use Rattle.std.specs.BTreeSet.{BTreeSet, contains_text}
 use Rattle.std.specs.Cmp.Lexicographic.{slice_cmp}
 use Rattle.std.specs.Fmt.{signed_decimal}
@@ -20,7 +20,7 @@ use Rattle.wdl_value.specs.Keyed.{distinct_keys, has_key}
 use Rattle.wdl_value.specs.SameValue.{same_value}
 use Rattle.wdl_value.specs.ValueText.{bool_text}
 use Rattle.wdl_value.proofs.SameValueLemmas.{same_value-refl, same_value-true}
-use Rattle.wdl_eval.specs.Marks.{bool_mark, int_mark, mark_at, mark_of}
+use Rattle.wdl_eval.specs.Marks.{int_mark, mark_at, mark_of}
 
 -- ---- equal marks
 

@@ -1,5 +1,5 @@
 -- Struct literals.
-use Rattle.std.proofs.Common.{◌≡◌, Bool, true, false, ◌&&◌, List, [], ◌∷◌, ◌++◌, map, Option, Some, None, Ok, Err, option_and_then, sym, ap, ◌∙◌, subst, refl}
+use Rattle.std.proofs.Common.{◌≡◌, Bool, true, ◌&&◌, List, [], ◌∷◌, map, Option, Some, None, Ok, ap, refl}
 use Rattle.std.specs.Str.{bytes_eq}
 use Rattle.std.proofs.lemmas.Bool.{false≢true, and_parts, and_from}
 use Rattle.wdl_base.specs.declared.name.Key.{Key}
@@ -10,14 +10,13 @@ use Rattle.wdl_value.specs.declared.value.Field.{Field}
 use Rattle.wdl_value.specs.declared.value.Value.{Value}
 use Rattle.wdl_value.specs.declared.value.Value.TheVariants as v
 use Rattle.wdl_value.specs.Fits.{fits, members_of}
-use Rattle.wdl_value.specs.SameType.{same_type}
 use Rattle.wdl_value.proofs.SameTypeLemmas.{same_type-true}
 use Rattle.wdl_typed.specs.declared.expr.TExpr.{TExpr}
 use Rattle.wdl_typed.specs.declared.expr.TField.{TField}
-use Rattle.wdl_typed.specs.Evaluation.{Met, Setting, then_, value_met}
+use Rattle.wdl_typed.specs.Evaluation.{Setting, then_, value_met}
 use Rattle.wdl_typed.specs.Scope.{field_names, names_of}
 use Rattle.wdl_typed.specs.Typing.{Context, Typing, fields_have, fields_in, is_type, struct_type, type_of, when}
-use Rattle.wdl_eval.specs.Laws.{IsMet, IsSound}
+use Rattle.wdl_eval.specs.Laws.{IsMet}
 use Rattle.wdl_eval.specs.Nodes.{fields_met}
 use Rattle.wdl_eval.specs.Ready.{FitsNames}
 use Rattle.wdl_eval.proofs.Known.{Known, fields}

@@ -1,9 +1,9 @@
 -- Literals, names, operators, `if` and casts.
-use Rattle.std.proofs.Common.{◌≡◌, ℤ, neg_ℤ, Bool, true, false, not, cond, ◌&&◌, ◌||◌, Option, Some, None, Ok, Err, option_and_then, sym, ap, ◌∙◌, subst, refl}
-use Rattle.std.proofs.lemmas.Bool.{false≢true, and_parts, and_from}
+use Rattle.std.proofs.Common.{◌≡◌, neg_ℤ, Bool, true, false, not, cond, ◌&&◌, ◌||◌, Option, Some, None, Ok, Err, option_and_then, sym, ap, ◌∙◌, subst, refl}
+use Rattle.std.proofs.lemmas.Bool.{and_parts, and_from}
 use Rattle.wdl_value.specs.declared.operator.Op.{Op}
 use Rattle.wdl_value.specs.declared.operator.Op.TheVariants as op
-use Rattle.wdl_value.specs.declared.ty.Ty.{Ty, Ty-F, out-Ty}
+use Rattle.wdl_value.specs.declared.ty.Ty.{Ty, Ty-F}
 use Rattle.wdl_value.specs.declared.ty.Ty.TheVariants as ty
 use Rattle.wdl_value.specs.declared.typing.OpTyping.{OpTyping}
 use Rattle.wdl_value.specs.declared.value.Value.{Value, Value-F, out-Value, roll-Value, roll-out-Value, map-Value}
@@ -12,7 +12,7 @@ use Rattle.wdl_value.specs.declared.value.Value.TheOpen as layer
 use Rattle.wdl_value.specs.Bare.{is_optional}
 use Rattle.wdl_value.specs.Cast.{Checked, cast}
 use Rattle.wdl_value.specs.Coerces.{coerces}
-use Rattle.wdl_value.specs.Fits.{Structs, fits, is_int as in_range, takes, takes_at, takes_step}
+use Rattle.wdl_value.specs.Fits.{Structs, is_int as in_range, takes, takes_at, takes_step}
 use Rattle.wdl_value.specs.Keyed.{keyed, keyed_out, keyed_step}
 use Rattle.wdl_value.specs.Kinds.{is_bool, is_int}
 use Rattle.wdl_value.specs.Operate.{negate, operate}

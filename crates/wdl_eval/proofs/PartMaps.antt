@@ -1,6 +1,6 @@
 -- The pieces of a string, piece by piece.
 use Rattle.std.proofs.Common.{◌≡◌, List, [], ◌∷◌, map, ap, refl}
-use Rattle.wdl_typed.specs.declared.expr.TExpr.{TExpr-F, map-TExpr}
+use Rattle.wdl_typed.specs.declared.expr.TExpr.{map-TExpr}
 use Rattle.wdl_typed.specs.declared.expr.TExpr.TheOpen as layer
 use Rattle.wdl_typed.specs.declared.expr.TPart.{TPart}
 use Rattle.wdl_typed.specs.declared.expr.TPart.TheVariants as part

@@ -1,5 +1,5 @@
 -- One more piece of a string.
-use Rattle.std.proofs.Common.{◌≡◌, ℕ, ◌+◌, ◌<◌, List, [], ◌∷◌, ◌++◌, drop, length, get_or, Ok, Err, append_assoc, sym, ap, ◌∙◌, subst, refl}
+use Rattle.std.proofs.Common.{◌≡◌, ℕ, ◌+◌, ◌<◌, List, ◌∷◌, ◌++◌, drop, length, get_or, Ok, Err, append_assoc, sym, ap, ◌∙◌, subst, refl}
 use Rattle.std.proofs.lemmas.List.{drop_more}
 use Rattle.wdl_value.specs.declared.value.Value.{Value, out-Value}
 use Rattle.wdl_typed.specs.declared.expr.TExpr.{TExpr}

@@ -1,7 +1,6 @@
 -- Soundness, by an induction whose step is one layer of the expression.
-use Rattle.std.proofs.Common.{◌≡◌, ◌++◌, Bool, List, Option, Some, sym, ap, ◌∙◌, subst}
+use Rattle.std.proofs.Common.{◌≡◌, ◌++◌, Bool, List, Some, sym, ap, ◌∙◌, subst}
 use Rattle.wdl_base.specs.declared.name.Key.{Key}
-use Rattle.wdl_value.specs.declared.ty.Ty.{Ty}
 use Rattle.wdl_value.specs.declared.value.Value.{Value}
 use Rattle.wdl_typed.specs.declared.expr.TExpr.{TExpr, TExpr-F, map-TExpr, roll-TExpr, ind-TExpr, fold-roll-TExpr}
 use Rattle.wdl_typed.specs.declared.expr.TExpr.TheOpen as layer

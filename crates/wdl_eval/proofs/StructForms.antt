@@ -1,10 +1,10 @@
 -- The values that fit a struct, and how they are made.
-use Rattle.std.proofs.Common.{◌≡◌, Bool, true, false, ◌&&◌, ◌||◌, List, [], ◌∷◌, Option, Some, None, sym, ap, ◌∙◌, subst, refl}
+use Rattle.std.proofs.Common.{◌≡◌, Bool, true, false, ◌&&◌, ◌||◌, List, [], ◌∷◌, Some, sym, ap, ◌∙◌, refl}
 use Rattle.std.specs.Str.{bytes_eq}
 use Rattle.std.proofs.lemmas.Bool.{false≢true, and_parts, and_from}
 use Rattle.std.proofs.lemmas.Slice.Eq.{bytes_eq-Decides}
 use Rattle.wdl_value.specs.declared.ty.Member.{Member}
-use Rattle.wdl_value.specs.declared.ty.Ty.{Ty, Ty-F, out-Ty}
+use Rattle.wdl_value.specs.declared.ty.Ty.{Ty, Ty-F}
 use Rattle.wdl_value.specs.declared.ty.Ty.TheVariants as ty
 use Rattle.wdl_value.specs.declared.ty.Ty.TheOpen as type
 use Rattle.wdl_value.specs.declared.value.Field.{Field}

@@ -1,19 +1,17 @@
 -- Placeholders, and strings that have them.
-use Rattle.std.proofs.Common.{◌≡◌, ◌⊎◌, inl, inr, ℕ, Bool, true, false, cond, ◌&&◌, ◌||◌, List, [], ◌∷◌, ◌++◌, map, Option, Some, None, Ok, Err, sym, ap, ◌∙◌, subst, refl}
+use Rattle.std.proofs.Common.{◌≡◌, ◌⊎◌, inl, inr, ℕ, Bool, true, cond, List, [], ◌∷◌, Option, Some, None, Ok, sym, ap, ◌∙◌, subst, refl}
 use Rattle.std.specs.List.{join_by}
 use Rattle.std.proofs.lemmas.Bool.{false≢true, and_parts, or_cases}
-use Rattle.wdl_base.specs.declared.name.Key.{Key}
 use Rattle.wdl_value.specs.declared.ty.Ty.{Ty, Ty-F, out-Ty, roll-Ty, roll-out-Ty}
 use Rattle.wdl_value.specs.declared.ty.Ty.TheVariants as ty
 use Rattle.wdl_value.specs.declared.ty.Ty.TheOpen as type
 use Rattle.wdl_value.specs.declared.value.Value.{Value, Value-F, out-Value}
-use Rattle.wdl_value.specs.declared.value.Value.TheVariants as v
 use Rattle.wdl_value.specs.declared.value.Value.TheOpen as layer
 use Rattle.wdl_value.specs.Bare.{bare}
 use Rattle.wdl_value.specs.Fits.{Structs, fits}
-use Rattle.wdl_value.specs.Kinds.{is_absent, is_bool, is_scalar}
+use Rattle.wdl_value.specs.Kinds.{is_absent, is_scalar}
 use Rattle.wdl_value.specs.ValueText.{has_text_at, text_at}
-use Rattle.wdl_value.proofs.FitsForms.{a_list, all_fit, str_fits}
+use Rattle.wdl_value.proofs.FitsForms.{a_list, all_fit}
 use Rattle.wdl_typed.specs.declared.expr.Choice.{Choice}
 use Rattle.wdl_typed.specs.declared.expr.Choice.TheVariants as choice
 use Rattle.wdl_typed.specs.Evaluation.{Met, hole_text, one_of_two, or_default, separated, text_met, texts_met, then_, wrong}

@@ -1,5 +1,5 @@
 -- Soundness: an expression of a type has a value that fits it, or a code.
-use Rattle.std.specs.Prelude.{◌≡◌, Bool, true, Option, Some, None, Ok, Err}
+use Rattle.std.specs.Prelude.{◌≡◌, Bool, true, Some, None, Ok, Err}
 use Rattle.wdl_value.specs.declared.ty.Ty.{Ty}
 use Rattle.wdl_value.specs.declared.value.Value.{Value}
 use Rattle.wdl_value.specs.Fits.{Structs, fits}

@@ -1,8 +1,6 @@
 -- What is met at the nodes of an expression, and at the lists of its parts.
-use Rattle.std.specs.Prelude.{ℕ, List, map, Option, Ok}
+use Rattle.std.specs.Prelude.{ℕ, List, map, Ok}
 use Rattle.std.specs.Option.{option_copied}
-use Rattle.wdl_base.specs.declared.answer.Answer.{Answer}
-use Rattle.wdl_value.specs.declared.env.Bind.{Bind}
 use Rattle.wdl_value.specs.declared.value.Field.{Field}
 use Rattle.wdl_value.specs.declared.value.MapRow.{MapRow}
 use Rattle.wdl_value.specs.declared.value.Value.{Value, out-Value}

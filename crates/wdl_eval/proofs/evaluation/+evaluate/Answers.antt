@@ -1,4 +1,4 @@
-use Rattle.std.proofs.Common.{◌≡◌, ◌++◌, Ok, sym, ◌∙◌}
+use Rattle.std.proofs.Common.{◌≡◌, ◌++◌, Ok}
 use Rattle.wdl_typed.specs.Evaluation.{hole_text, then_}
 use Rattle.wdl_value.specs.declared.value.Value.{out-Value}
 use Rattle.wdl_eval.specs.Found.{held}

@@ -1,4 +1,4 @@
-use Rattle.std.proofs.Common.{◌≡◌, Err, ap, ◌∙◌, sym, subst}
+use Rattle.std.proofs.Common.{◌≡◌, sym, subst}
 use Rattle.std.specs.Option.{option_copied}
 use Rattle.wdl_typed.specs.Evaluation.{Met, Setting, value_met, wrong}
 use Rattle.wdl_eval.specs.Laws.{IsSound}

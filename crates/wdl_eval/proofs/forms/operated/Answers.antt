@@ -1,7 +1,5 @@
 use Rattle.std.proofs.Common.{sym, subst}
-use Rattle.wdl_value.specs.Limits.{limited}
 use Rattle.wdl_value.specs.Operate.{operate, operated}
-use Rattle.wdl_typed.specs.Evaluation.{met}
 use Rattle.wdl_eval.specs.Meets.{Meets}
 use Rattle.wdl_eval.proofs.Limited.{met_within}
 use Rattle.wdl_eval.proofs.forms.operated.Goals as goal
