@@ -1,0 +1,17 @@
+pub mod Limited
+pub mod Steps
+pub mod Names
+pub mod Scalars
+pub mod StructForms
+pub mod Known
+pub mod Operators
+pub mod Indices
+pub mod Lists
+pub mod Maps
+pub mod Members
+pub mod Texts
+pub mod PartMaps
+pub mod Pieces
+pub mod Strings
+pub mod Sound
+pub mod Marks

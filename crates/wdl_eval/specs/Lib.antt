@@ -1,0 +1,7 @@
+pub mod Found
+pub mod Laws
+pub mod Marks
+pub mod Meets
+pub mod Nodes
+pub mod PartMaps
+pub mod Ready

@@ -1,0 +1,22 @@
+//! The values of typed expressions (OpenWDL 1.1, "Expressions").
+#![tactic(auto)]
+
+mod env;
+mod evaluation;
+mod fault;
+mod forms;
+mod keys;
+mod laws;
+mod lent;
+mod outcome;
+mod parts;
+mod placeholder;
+mod setting;
+
+pub use env::lookup;
+pub use evaluation::{eval, evaluate};
+pub use fault::NodeFault;
+pub use laws::values_fit;
+pub use placeholder::hole_text;
+pub use setting::Setting;
+pub use wdl_stdlib::EvalFault;
