@@ -1,7 +1,7 @@
 use crate::notation::{is, values};
 use std::alloc::Global;
 use std::test::Fail;
-use wdl_stdlib::{apply, negate, operate};
+use wdl_stdlib::{EvalFault, apply, negate, operate};
 use wdl_value::{Answer, Body, Func, Items, Op, Seen, Text, Value};
 
 // ---- operators
@@ -29,23 +29,23 @@ fn operators_have_the_values_of_the_table(rt: HostRuntime) -> Result<(), Fail> {
     for (op, cases) in [
         (
             Op::Mul,
-            "4294967296 2147483648=Overflow|-4294967296 2147483648=-9223372036854775808|3 -2=-6",
+            "4294967296 2147483648=Overflow|-4294967296 2147483648=-9223372036854775808|-9223372036854775808 -1=Overflow|-9223372036854775807 -1=9223372036854775807|3 -2=-6|0 -9223372036854775808=0",
         ),
         (
             Op::Div,
-            "-7 2=-3|7 -2=-3|7 2=3|1 0=ZeroDivisor|-9223372036854775808 -1=Overflow",
+            "-7 2=-3|7 -2=-3|7 2=3|-7 -2=3|0 7=0|1 0=ZeroDivisor|-9223372036854775808 -1=Overflow|-9223372036854775807 -1=9223372036854775807|-9223372036854775808 1=-9223372036854775808",
         ),
         (
             Op::Rem,
-            "-7 2=-1|7 -2=1|1 0=ZeroDivisor|-9223372036854775808 -1=0",
+            "-7 2=-1|7 -2=1|-7 -2=-1|6 3=0|1 0=ZeroDivisor|-9223372036854775808 -1=0|9223372036854775807 -9223372036854775808=9223372036854775807",
         ),
         (
             Op::Add,
-            "9223372036854775807 1=Overflow|9223372036854775807 0=9223372036854775807|'a 'b='ab|</x -1='/x-1|true </x='true/x|'a true='atrue",
+            "9223372036854775807 1=Overflow|9223372036854775807 0=9223372036854775807|-9223372036854775808 -1=Overflow|-9223372036854775807 -1=-9223372036854775808|'a 'b='ab|</x -1='/x-1|true </x='true/x|'a true='atrue",
         ),
         (
             Op::Sub,
-            "-9223372036854775808 1=Overflow|-1 9223372036854775807=-9223372036854775808",
+            "-9223372036854775808 1=Overflow|-1 9223372036854775807=-9223372036854775808|0 -9223372036854775808=Overflow|-1 -9223372036854775808=9223372036854775807",
         ),
         (
             Op::AddMaybe,
@@ -104,8 +104,14 @@ fn applies(alloc: Global, f: Func, answer: Option<&Answer>, cases: &str) -> Resu
 fn functions_of_numbers_and_lists_have_their_values(rt: HostRuntime) -> Result<(), Fail> {
     let alloc = rt.alloc();
     for (f, cases) in [
-        (Func::Min, "2 -3=-3|-3 2=-3"),
-        (Func::Max, "2 -3=2|-3 2=2"),
+        (
+            Func::Min,
+            "2 -3=-3|-3 2=-3|-9223372036854775808 9223372036854775807=-9223372036854775808",
+        ),
+        (
+            Func::Max,
+            "2 -3=2|-3 2=2|-9223372036854775808 9223372036854775807=9223372036854775807",
+        ),
         (Func::Length, "[ 4 5 ]=2|[ ]=0"),
         (
             Func::Range,
@@ -150,20 +156,29 @@ fn functions_of_maps_and_texts_have_their_values(rt: HostRuntime) -> Result<(), 
         ),
         (
             Func::AsMap,
-            "[ ( 'b 1 ) ( 'a 2 ) ]={ 'b 1 ; 'a 2 ; }|[ ( 'a 1 ) ( 'b 2 ) ( 'a 3 ) ]=RepeatedKey|[ ( 1 1 ) ( -1 2 ) ( 1 3 ) ]=RepeatedKey",
+            "[ ]={ }|[ ( 'b 1 ) ( 'a 2 ) ]={ 'b 1 ; 'a 2 ; }|[ ( 'a 1 ) ( 'b 2 ) ( 'a 3 ) ]=RepeatedKey|[ ( 1 1 ) ( -1 2 ) ( 1 3 ) ]=RepeatedKey",
         ),
-        (Func::Keys, "{ 'b 1 ; 'a 2 ; }=[ 'b 'a ]"),
+        (Func::Keys, "{ 'b 1 ; 'a 2 ; }=[ 'b 'a ]|{ }=[ ]"),
         (
             Func::CollectByKey,
-            "[ ( 'b 1 ) ( 'a 2 ) ( 'b 3 ) ]={ 'b [ 1 3 ] ; 'a [ 2 ] ; }|[ ( true 1 ) ( false 2 ) ( true 3 ) ]={ true [ 1 3 ] ; false [ 2 ] ; }",
+            "[ ]={ }|[ ( 'b 1 ) ( 'a 2 ) ( 'b 3 ) ]={ 'b [ 1 3 ] ; 'a [ 2 ] ; }|[ ( true 1 ) ( false 2 ) ( true 3 ) ]={ true [ 1 3 ] ; false [ 2 ] ; }",
         ),
         (
             Func::Prefix,
             "'- [ -1 2 ]=[ '--1 '-2 ]|'- [ true ]=[ '-true ]|'- [ </x ]=[ '-/x ]|'- [ ]=[ ]",
         ),
-        (Func::Suffix, "'- [ 1 ]=[ '1- ]"),
-        (Func::Quote, "[ 1 2 ]=[ '\"1\" '\"2\" ]"),
-        (Func::Squote, "[ 'a ]=[ ''a' ]"),
+        (
+            Func::Suffix,
+            "'- [ -1 2 ]=[ '-1- '2- ]|'- [ true ]=[ 'true- ]|'- [ </x ]=[ '/x- ]|'- [ ]=[ ]",
+        ),
+        (
+            Func::Quote,
+            "[ 1 2 ]=[ '\"1\" '\"2\" ]|[ 'a\" ]=[ '\"a\"\" ]|[ ]=[ ]",
+        ),
+        (
+            Func::Squote,
+            "[ 'a ]=[ ''a' ]|[ 1 true ]=[ ''1' ''true' ]|[ ]=[ ]",
+        ),
         (
             Func::Sep,
             "'-- [ 1 2 3 ]='1--2--3|'-- [ ]='|'-- [ </x ]='/x",
@@ -212,11 +227,23 @@ fn of_many(alloc: Global, f: Func, x: &Value, expected: &str) -> Result<bool, Fa
     )
 }
 
+/// What a list of 100,000 numbers and one of so many are together.
+fn flattened(alloc: Global, more: usize) -> Result<Result<Value, EvalFault>, Fail> {
+    let mut lists = Items::new(alloc);
+    lists.push(many(alloc, 100_000, &Value::Int(1))?)?;
+    lists.push(many(alloc, more, &Value::Int(1))?)?;
+    let dir = Text::new(alloc, "/d/say")?;
+    Ok(apply(alloc, Func::Flatten, &[Value::List(lists)], &dir, None))
+}
+
 #[test]
 fn what_is_past_a_limit_is_not_built(rt: HostRuntime) -> Result<(), Fail> {
     let alloc = rt.alloc();
     let most = many(alloc, 100_000, &Value::Int(1))?;
     assert!(rt; of_many(alloc, Func::Cross, &most, "TooLarge")?);
+    let two = many(alloc, 2, &Value::Int(1))?;
+    assert!(rt; of_many(alloc, Func::Cross, &two, "TooLarge")?);
+    assert!(rt; is(alloc, flattened(alloc, 1)?, "TooLarge")?);
     let megabyte = long(alloc, 1_048_576)?;
     assert!(rt; of_many(alloc, Func::Prefix, &megabyte, "TooLarge")?);
     assert!(rt; of_many(alloc, Func::Suffix, &megabyte, "TooLarge")?);
@@ -236,6 +263,12 @@ fn the_largest_values_are_made(rt: HostRuntime) -> Result<(), Fail> {
     let dir = Text::new(alloc, "/d/say")?;
     let most = apply(alloc, Func::Range, &[Value::Int(100_000)], &dir, None);
     assert!(rt; most.is_ok());
+    let crossed = [
+        many(alloc, 1, &Value::Int(1))?,
+        many(alloc, 100_000, &Value::Int(1))?,
+    ];
+    assert!(rt; apply(alloc, Func::Cross, &crossed, &dir, None).is_ok());
+    assert!(rt; flattened(alloc, 0)?.is_ok());
     let text = long(alloc, 4_194_303)?;
     assert!(rt; sum_is(alloc, &text, "", true)?);
     assert!(rt; sum_is(alloc, &text, "a", false)?);
