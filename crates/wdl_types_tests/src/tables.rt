@@ -1,7 +1,7 @@
 use crate::notation::{are, types};
-use crate::{coerces, function_type, join, operator_type};
 use std::alloc::Global;
 use std::test::Fail;
+use wdl_types::{coerces, function_type, join, operator_type};
 use wdl_value::{Func, Op, Ty};
 
 /// Whether each pair of types between bars coerces, or not.
