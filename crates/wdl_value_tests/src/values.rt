@@ -1,9 +1,9 @@
-use crate::{
+use std::alloc::Global;
+use std::test::Fail;
+use wdl_value::{
     Boxed, CastFault, Items, MapRow, NoMemory, Text, Ty, Value, cast, fits, same_value, size,
     text_of,
 };
-use std::alloc::Global;
-use std::test::Fail;
 
 /// A map of two keys to Absent.
 fn map_of(alloc: Global, first: i64, second: i64) -> Result<Value, NoMemory> {
