@@ -2,7 +2,7 @@
 ghost use Rattle.std.specs.Prelude.{◌≡◌, false};
 ghost use Rattle.wdl_base.specs.Plain.{has_nul};
 
-use crate::{MigrateFault, RowFault, entry_of, migrate, row_text};
+use run_keeper::{MigrateFault, RowFault, entry_of, migrate, row_text};
 use sqlite_items::Items;
 use std::alloc::Global;
 use std::test::Fail;
