@@ -1,7 +1,7 @@
-use crate::{LexFault, lex, one_reading_of_texts};
 use std::alloc::Global;
 use std::test::Fail;
 use wdl_ast::{Kind, Token};
+use wdl_lex::{LexFault, lex, one_reading_of_texts};
 
 fn shown_kind(alloc: Global, kind: &Kind) -> Result<String, Fail> {
     Ok(match kind {
