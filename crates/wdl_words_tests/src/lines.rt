@@ -1,7 +1,7 @@
-use crate::{Wants, WordFault, read_words};
 use std::alloc::Global;
 use std::test::Fail;
 use wdl_value::Text;
+use wdl_words::{Wants, WordFault, read_words};
 
 /// The words of a line, between its bars.
 fn words_of(alloc: Global, line: &str) -> Result<Vec<String>, Fail> {
