@@ -1,7 +1,6 @@
 //! Runs in memory, and the real files and streams.
 ghost use Rattle.std.specs.Prelude.{◌≡◌, ◌<◌};
 
-use crate::{Ended, FileShelf, StreamSink, workflow};
 use report_text::number_of;
 use sqlite_items::Items;
 use std::alloc::Global;
@@ -13,6 +12,7 @@ use wdl_port::{
     MemoryShelf, MemorySink, NoKeeper, PathFile, ReadFault, Shelf, Sink, TableLauncher, TableRow,
 };
 use wdl_value::{Answer, Body, Name, Place, Segment, Step, Steps, Text, place_text};
+use workflow_cli::{Ended, FileShelf, StreamSink, workflow};
 
 const DOCUMENT: &str = "\
 version 1.1
