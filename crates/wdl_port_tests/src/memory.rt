@@ -1,13 +1,13 @@
 //! The objects in memory.
 ghost use Rattle.std.specs.Prelude.{◌≡◌, None, OnOk, IsSome};
 
-use crate::{
-    KeepFault, Keeper, LaunchFault, Launcher, MapKeeper, MemoryShelf, MemorySink, NoKeeper,
-    PathFile, ReadFault, Shelf, Sink, TableLauncher, TableRow,
-};
 use sqlite_items::Items;
 use std::alloc::Global;
 use std::test::Fail;
+use wdl_port::{
+    KeepFault, Keeper, LaunchFault, Launcher, MapKeeper, MemoryShelf, MemorySink, NoKeeper,
+    PathFile, ReadFault, Shelf, Sink, TableLauncher, TableRow,
+};
 use wdl_value::{
     Answer, Body, Entry, Name, NameFault, Place, Request, Segment, Source, Text, TextFault,
 };
