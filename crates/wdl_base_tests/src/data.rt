@@ -1,9 +1,9 @@
-use crate::{
+use std::alloc::Global;
+use std::test::Fail;
+use wdl_base::{
     Answer, Body, Entry, Items, Laid, Name, Place, PlaceFault, Request, Seen, Segment, Source,
     Text, place_of, place_text, same_place, same_request,
 };
-use std::alloc::Global;
-use std::test::Fail;
 
 fn is_text(alloc: Global, s: &str) -> bool {
     match Text::new(alloc, s) {
