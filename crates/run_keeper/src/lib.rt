@@ -7,8 +7,6 @@ mod member;
 mod migration;
 mod part;
 mod read;
-#[cfg(test)]
-mod tests;
 mod write;
 
 pub use error::{MigrateFault, RowFault};

@@ -17,8 +17,6 @@ mod span;
 mod step;
 mod steps;
 mod template;
-#[cfg(test)]
-mod tests;
 mod text;
 
 pub use answer::Answer;

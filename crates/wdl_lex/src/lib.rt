@@ -10,8 +10,6 @@ mod gaps;
 mod marks;
 mod numbers;
 mod open;
-#[cfg(test)]
-mod tests;
 mod text;
 mod tokens;
 

@@ -15,8 +15,6 @@ mod shelf;
 mod sink;
 mod table_launcher;
 mod table_row;
-#[cfg(test)]
-mod tests;
 
 pub use fault::{KeepFault, LaunchFault, ReadFault, WriteFault};
 pub use keeper::Keeper;

@@ -5,11 +5,7 @@ mod coercion;
 mod function;
 mod joining;
 mod kind;
-#[cfg(test)]
-mod notation;
 mod operator;
-#[cfg(test)]
-mod tests;
 
 pub use coercion::coerces;
 pub use function::function_type;

@@ -12,8 +12,6 @@ mod laws;
 mod limits;
 mod measure;
 mod operator;
-#[cfg(test)]
-mod tests;
 mod ty;
 mod typing;
 mod value;

@@ -10,6 +10,3 @@ mod wants;
 pub use error::WordFault;
 pub use reading::read_words;
 pub use wants::Wants;
-
-#[cfg(test)]
-mod tests;

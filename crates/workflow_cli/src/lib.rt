@@ -14,6 +14,3 @@ pub use ended::Ended;
 pub use file_shelf::FileShelf;
 pub use stream_sink::StreamSink;
 pub use top::workflow;
-
-#[cfg(test)]
-mod tests;
