@@ -43,13 +43,6 @@ set_before flags i j l h =
     let n : j ≢ i = λ e. both_ways _ h (subst (λ x. is_set (slice_set flags i true) x ≡ true) (sym e) (set_same flags i l)) in
     (n, sym (set_other flags i j n) ∙ h)
 
-pub none_set : (count p : ℕ) → is_set (replicate count false) p ≡ false
-none_set count p =
-    elim (cases_lt p count) [
-      | inl l ↦ get_or-replicate count p false false l
-      | inr l ↦ get_or_past (replicate count false) p false (omega (arith, length-replicate count false))
-    ]
-
 pub none_contained : (s : BTreeSet ℕ) (p : ℕ) → length s.keys ≡ 0 → contains nat_cmp s p ≡ false
 none_contained s p h = ap (list_any (is_at (nat_cmp p))) (nil_from_length s.keys h)
 

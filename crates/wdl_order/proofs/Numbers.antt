@@ -1,8 +1,9 @@
 -- Lists of numbers: what they have, and what holds of each.
-use Rattle.std.proofs.Common.{◌≡◌, ℕ, zero, suc, ◌+◌, ◌-◌, ◌<◌, ◌≤◌, Bool, true, false, not, ◌==◌, ◌||◌, ◌⊎◌, inl, inr, List, [], ◌∷◌, ◌++◌, length, get_or, take, refl, sym, ap, ◌∙◌, subst, arith}
+use Rattle.std.proofs.Common.{◌≡◌, ℕ, zero, suc, ◌+◌, ◌-◌, ◌<◌, ◌≤◌, Bool, true, false, not, ◌==◌, ◌||◌, ◌⊎◌, inl, inr, List, [], ◌∷◌, ◌++◌, length, get_or, slice_get, Some, take, refl, sym, ap, ◌∙◌, subst, arith}
 use Rattle.std.proofs.lemmas.Bool.{false≢true, and_parts, and_from, or_cases, or_left, or_right, or_parts, or_from, not-true, both_ways, ne_eqb, eq-eqb, eqb-true, cases_eq, ltb-true}
 use Rattle.std.proofs.lemmas.Cmp.{nat_eq_equiv}
 use Rattle.std.specs.Bool.{nat_eq}
+use Rattle.std.proofs.lemmas.Option.{same_Some}
 use Rattle.std.specs.List.{AllByRecursion, IsDistinct, list_all, list_any, range_with_len}
 use Rattle.wdl_typed.specs.Lists.{are_below, has_number, numbers_differ}
 
@@ -114,3 +115,8 @@ differ_at (n ∷ ns) (suc i) d l =
     or_from (n == get_or ns i 0) (has_number (get_or ns i 0) (take i ns))
     (ne_eqb n (get_or ns i 0) (λ e. both_ways (has_number n ns) (not-true _ p.0) (subst (λ x. has_number x ns ≡ true) (sym e) (has_at ns i (omega arith)))))
     (differ_at ns i p.1 (omega arith))
+
+pub has_got : (ns : List ℕ) (i k : ℕ) → slice_get ns i ≡ Some k → has_number k ns ≡ true
+has_got [] i k e = cc
+has_got (n ∷ ns) zero k e = or_left (n == k) _ (eq-eqb n k (same_Some n k e))
+has_got (n ∷ ns) (suc i) k e = has_later k n ns (has_got ns i k e)

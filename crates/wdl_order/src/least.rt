@@ -2,8 +2,7 @@ ghost use Rattle.std.specs.Prelude.{◌≡◌, length, IfOk};
 ghost use Rattle.wdl_order.specs.Rows.{AreWithin, has};
 ghost use Rattle.wdl_order.specs.Working.{Answers};
 
-use crate::rows::first_unset;
-use crate::working::Working;
+use crate::working::{Working, take_first};
 use sqlite_items::Items;
 use std::alloc::Global;
 use wdl_base::NoMemory;
@@ -25,8 +24,8 @@ pub fn least_order(alloc: Global, needs: Vec<Items<usize>>) -> Result<Found, NoM
     let mut work = Working::new(alloc, needs)?;
     let mut order = Vec::with_capacity(alloc, count)?;
     for _ in 0..count {
-        let Some(member) = work.ready.pop_first() else {
-            return Ok(Found::Stuck(first_unset(work.placed.as_slice()).unwrap_or(0)));
+        let Some(member) = take_first(&mut work.ready) else {
+            return Ok(Found::Stuck(work.on_circle()));
         };
         order.push(member)?;
         work.place(alloc, member)?;

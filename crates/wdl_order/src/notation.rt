@@ -9,7 +9,7 @@ use wdl_value::{Items, Key, Name, Span, Ty};
 /// The span of a member: it starts at the member's number.
 pub fn span(at: usize) -> Span {
     Span {
-        doc: 7,
+        doc: 0,
         start: u32::try_from(at).unwrap_or(0),
         end: 0,
     }

@@ -52,17 +52,20 @@ pub fn order(alloc: Global, list: Items<Statement>) -> Result<Items<Statement>, 
 }
 
 /// The inputs in dependency order, as `order` has it for statements; one without a default refers to nothing.
-pub fn order_inputs(alloc: Global, list: Items<TInput>) -> Result<Items<TInput>, OrderFault>
-    ensures ordered { IfOk result (IsOrdered input_needing list) }
-    ensures fault { IfErr result (IsFault input_needing input_span list) }
+pub fn order_inputs(alloc: Global, inputs: Items<TInput>) -> Result<Items<TInput>, OrderFault>
+    ensures ordered { IfOk result (IsOrdered input_needing inputs) }
+    ensures fault { IfErr result (IsFault input_needing input_span inputs) }
 {
-    ordered(alloc, list)
+    ordered(alloc, inputs)
 }
 
 /// Private declarations or outputs in dependency order, as `order` has it for statements.
-pub fn order_declarations(alloc: Global, list: Items<TDecl>) -> Result<Items<TDecl>, OrderFault>
-    ensures ordered { IfOk result (IsOrdered declaration_needing list) }
-    ensures fault { IfErr result (IsFault declaration_needing declaration_span list) }
+pub fn order_declarations(
+    alloc: Global,
+    declarations: Items<TDecl>,
+) -> Result<Items<TDecl>, OrderFault>
+    ensures ordered { IfOk result (IsOrdered declaration_needing declarations) }
+    ensures fault { IfErr result (IsFault declaration_needing declaration_span declarations) }
 {
-    ordered(alloc, list)
+    ordered(alloc, declarations)
 }

@@ -1,9 +1,11 @@
-ghost use Rattle.std.specs.Prelude.{◌≡◌, ◌<◌, true, false, ℕ, Bool, List, [], ◌∷◌, ◌⊎◌, length, replicate, slice_set, IfOk, OnOk, MatchOption};
+ghost use Rattle.std.specs.Prelude.{◌≡◌, ◌<◌, true, false, ℕ, Bool, List, [], ◌∷◌, ◌⊎◌, length, replicate, slice_set, IfOk, OnOk, IfSome, IfNone, MatchOption};
+ghost use Rattle.std.specs.BTreeSet.{contains, IsLowerBound, Updates};
+ghost use Rattle.std.specs.Ordering.{nat_cmp};
 ghost use Rattle.wdl_typed.specs.Lists.{has_number};
 ghost use Rattle.wdl_order.specs.Rows.{AllBelow, AreWithin, has, is_set, row};
-ghost use Rattle.wdl_order.specs.Working.{Trims, IsKept, IsFree};
+ghost use Rattle.wdl_order.specs.Working.{AreSized, Trims, IsKept, IsFree};
 
-use crate::rows::{empty_rows, push_at, take_at};
+use crate::rows::{empty_rows, first_unset, push_at, take_at};
 use sqlite_items::Items;
 use std::alloc::Global;
 use std::collections::BTreeSet;
@@ -49,6 +51,16 @@ fn trim(
     next_unset(&mut left[member], placed)
 }
 
+/// Takes the first in number of the members that are ready.
+pub fn take_first(ready: &mut BTreeSet<usize>) -> Option<usize>
+    ensures member { IfSome result (λ m. contains nat_cmp ready.old m ≡ true) }
+    ensures least { IfSome result (IsLowerBound nat_cmp ready.old) }
+    ensures taken { IfSome result (λ m. Updates nat_cmp ready.old ready.new m false) }
+    ensures none { IfNone result (length ready.old.keys ≡ 0) }
+{
+    ready.pop_first()
+}
+
 impl Working {
     /// Finds what the member still waits for: one of its needs that is not placed, or else it is ready.
     fn settle(&mut self, member: usize) -> Result<(), NoMemory>
@@ -86,6 +98,22 @@ impl Working {
             self.settle(*waiter)?;
         }
         Ok(())
+    }
+
+    /// Where none is ready, a member that needs itself by way of others: what one that is not placed waits for, and so on.
+    pub fn on_circle(&self) -> usize
+        requires some { 0 < length self.now.left.items }
+        requires sized { AreSized self.now.left.items self.now.waiting.items self.now.placed.items }
+        ensures { result < length self.now.left.items }
+    {
+        let mut at = first_unset(self.placed.as_slice()).unwrap_or(0);
+        for _ in 0..self.left.len() {
+            let Some(need) = self.left[at].as_slice().last() else {
+                return at;
+            };
+            at = *need;
+        }
+        at
     }
 
     /// Members that need these, none of them placed.

@@ -12,9 +12,15 @@ use Rattle.wdl_order.specs.Rows.{has, is_set}
 use Rattle.wdl_typed.specs.Lists.{has_number}
 use Rattle.wdl_order.proofs.least.least_order.Goals as goal
 
-some_below : (o : Option ℕ) (n : ℕ) → IfSome o (λ a. a < n) → 0 < n → unwrap_or o 0 < n
-some_below None n h l = l
-some_below (Some a) n h l = h
+pub on_circle-requires-clause-some : goal.on_circle-requires-clause-some
+on_circle-requires-clause-some c =
+    let k = c.loop.invariant.kept in
+    let count : length c.loop.work.left.items ≡ length c.args.needs.items = sym k.sized.flags ∙ c.loop.invariant.flags in
+    let turn : c.loop.counter < length c.args.needs.items = search rules in
+    omega (arith, count, turn)
+
+pub on_circle-requires-clause-sized : goal.on_circle-requires-clause-sized
+on_circle-requires-clause-sized c = c.loop.invariant.kept.sized
 
 pub returns-in_default : goal.returns-in_default
 returns-in_default c =
@@ -23,18 +29,17 @@ returns-in_default c =
     let k = c.loop.invariant.kept in
     let count : length c.loop.work.left.items ≡ length c.args.needs.items = sym k.sized.flags ∙ i.flags in
     let turn : c.loop.counter < length c.args.needs.items = search rules in
-    let short : length c.loop.order.items < length c.loop.work.left.items = omega (arith, count, turn, i.long) in
-    let empty : length c.loop.work.ready.keys ≡ 0 = grind (arith, common_steps) in
-    let placed : length c.as_slice.result.now ≡ length c.args.needs.items = ap length c.as_slice.ensures.value ∙ i.flags in (
-      rw c.unwrap_or.ensures (some_below c.first_unset.result _ (subst (λ n. IfSome c.first_unset.result (λ a. a < n)) placed c.first_unset.ensures) (omega (arith, turn))),
+    let short : length c.loop.order.items < length c.loop.work.left.items = omega (arith, count, turn, i.long) in (
+      subst (λ n. c.on_circle.result < n) count c.on_circle.ensures,
       subst (λ n. HasNone n need) count
-          (stuck_none _ need c.loop.order.items (stuck_empty need _ _ _ _ c.loop.order.items k i.placed (λ p. none_contained c.loop.work.ready p empty) short)),
+          (stuck_none _ need c.loop.order.items
+          (stuck_empty need _ _ _ _ c.loop.order.items k i.placed (λ p. none_contained c.loop.work.ready p c.in_default.ensures.none) short)),
     )
 
 pub place-requires : goal.place-requires
 place-requires c =
     let member : contains nat_cmp c.loop.work.ready c.in-Some.member ≡ true = search rules in
-    let p = kept_popped (has c.args.needs.items) _ _ _ _ _ c.in-Some.member c.loop.invariant.kept member c.in-Some.ensures.updates in
+    let p = kept_popped (has c.args.needs.items) _ _ _ _ _ c.in-Some.member c.loop.invariant.kept member c.in-Some.ensures.taken in
     (has c.args.needs.items, p.0, p.1)
 
 pub loop-preserved : goal.loop-preserved
@@ -44,7 +49,7 @@ loop-preserved c =
     let k = c.loop.invariant.kept in
     let count : length c.loop.work.left.items ≡ length c.args.needs.items = sym k.sized.flags ∙ i.flags in
     let member : contains nat_cmp c.loop.work.ready c.in-Some.member ≡ true = search rules in
-    let p = kept_popped need _ _ _ _ _ c.in-Some.member k member c.in-Some.ensures.updates in
+    let p = kept_popped need _ _ _ _ _ c.in-Some.member k member c.in-Some.ensures.taken in
     let next = next_popped need _ _ _ _ c.loop.order.items c.in-Some.member k i.placed member c.in-Some.ensures.least in
     let pushed : c.push.new.self.items ≡ c.loop.order.items ++ c.in-Some.member ∷ [] = c.in_ok-push.ensures.items in
     let inside : c.in-Some.member < length c.loop.work.placed.items = subst (λ n. c.in-Some.member < n) (sym k.sized.flags) next.within in
