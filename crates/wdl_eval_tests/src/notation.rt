@@ -130,9 +130,12 @@ fn choose(alloc: Global, c: TExpr, a: TExpr, b: TExpr) -> Result<TExpr, Fail> {
 /// The rows of a map, whose keys and values stand by turns.
 fn rows(alloc: Global, parts: Vec<TExpr>) -> Result<TExpr, Fail> {
     let mut rows = Items::new(alloc);
-    let mut parts = parts.into_iter();
-    while let (Some(key), Some(value)) = (parts.next(), parts.next()) {
-        rows.push(TPair { key, value })?;
+    let mut pending: Option<TExpr> = None;
+    for part in parts {
+        match pending.take() {
+            Some(key) => rows.push(TPair { key, value: part })?,
+            None => pending = Some(part),
+        }
     }
     Ok(TExpr::MapOf(rows))
 }
