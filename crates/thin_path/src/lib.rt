@@ -16,8 +16,6 @@ mod scan;
 mod sound;
 mod stop;
 mod tell;
-#[cfg(test)]
-mod tests;
 mod tokens;
 mod words;
 

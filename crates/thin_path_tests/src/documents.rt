@@ -1,6 +1,6 @@
-use crate::{Stop, read_document};
 use std::alloc::{AllocError, Global};
 use std::test::Fail;
+use thin_path::{Stop, read_document};
 
 const SAY: &str =
     "version 1.1\ntask say {\n  input { String s }\n  command <<<\n    echo ~{s}\n  >>>\n  output { String r = read_string(stdout()) }\n}\n";
