@@ -9,8 +9,6 @@ mod parse;
 mod read;
 mod reader;
 mod tall;
-#[cfg(test)]
-mod tests;
 mod type_reader;
 
 pub use cursor::Cursor;
