@@ -1,7 +1,6 @@
 -- What is in the grammar is read, or more than that.
-use Rattle.std.proofs.Common.{◌≡◌, ℕ, ℤ, zero, suc, ◌+◌, ◌<◌, ◌≤◌, max, Bool, true, false, cond, not, ◌||◌, ◌⊎◌, inl, inr, List, [], ◌∷◌, ◌++◌, length, ◌==◌, Option, Some, None, Result, Ok, Err, refl, ap, sym, ◌∙◌, subst, append_assoc, length-append, arith, nat_le, nat_lt, codes}
+use Rattle.std.proofs.Common.{◌≡◌, ℕ, zero, suc, ◌+◌, ◌<◌, ◌≤◌, max, Bool, true, false, cond, not, ◌||◌, ◌⊎◌, inl, inr, List, [], ◌∷◌, ◌++◌, length, Option, Some, None, Ok, Err, refl, ap, sym, ◌∙◌, append_assoc, length-append, arith, nat_le, nat_lt, codes}
 use Rattle.std.proofs.lemmas.List.{append-nil}
-use Rattle.std.proofs.lemmas.Bool.{eqb-true, eq-eqb}
 use Rattle.std.proofs.lemmas.Bool.Decides.{nat_tests}
 use Rattle.std.proofs.lemmas.Slice.Eq.{bytes_eq-Decides}
 use Rattle.std.specs.Str.{bytes_eq}
@@ -26,28 +25,27 @@ use Rattle.wdl_ast.specs.declared.expr.MapEntry.{MapEntry}
 use Rattle.wdl_ast.specs.declared.expr.MemberEntry.{MemberEntry}
 use Rattle.wdl_ast.specs.declared.expr.Expr.{Expr}
 use Rattle.wdl_ast.specs.declared.expr.Expr.TheVariants as e
-use Rattle.wdl_ast.specs.Words.{Words, at, marked, keyword, ident, chars, entry_words, member_words, items_words, options_words, part_words, parts_words, string_words, binary_mark, unary_mark, words}
-use Rattle.wdl_ast.proofs.WordLaws.{words_if, words_binary, words_unary, words_member, words_index, words_true, words_false, words_none, words_int, words_str, words_name, words_call, words_group, words_pair, words_list, words_map, words_struct}
+use Rattle.wdl_ast.specs.Words.{Words, at, marked, keyword, ident, entry_words, member_words, items_words, options_words, part_words, parts_words, binary_mark, unary_mark, words}
+use Rattle.wdl_ast.proofs.WordLaws.{words_true, words_false, words_none, words_int, words_str, words_name, words_call, words_group, words_pair, words_list, words_map, words_struct}
 use Rattle.wdl_parse_expr.specs.declared.fault.Fault.{Fault}
 use Rattle.wdl_parse_expr.specs.declared.fault.Refusal.TheVariants.{Missing, Bad}
 use Rattle.wdl_parse_expr.specs.declared.tall.Tall.{Tall}
 use Rattle.wdl_parse_expr.specs.declared.tall.Closed.{Closed}
-use Rattle.wdl_parse_expr.specs.declared.tall.Chain.{Chain}
 use Rattle.wdl_parse_expr.specs.declared.tall.Rule.{Rule}
 use Rattle.wdl_parse_expr.specs.declared.tall.Rule.TheVariants as rule
-use Rattle.wdl_parse_expr.specs.Outcome.{Outcome, Parser, then_, attempt, found, is_mark, is_word, is_hole_close, is_str_close, eat_if, eat, eat_word, ident_at, tall, grown, missing, bad}
+use Rattle.wdl_parse_expr.specs.Outcome.{Outcome, Parser, then_, is_mark, is_hole_close, is_str_close, eat_if, eat, ident_at, tall, grown, bad}
 use Rattle.wdl_parse_expr.specs.Forms.{left_out}
 use Rattle.wdl_parse_expr.specs.Grammar as g
 use Rattle.wdl_parse_expr.specs.Grammar.{looseness, ends_bare, Listed, IsEntry, IsMember, Parts, IsPrimary, IsPost, IsUnary, IsRule, IsWhole, IsOf, Tree}
 use Rattle.wdl_parse_expr.specs.Reading as r
 use Rattle.wdl_parse_expr.specs.Reading.{binary_of, binary_at, unary_at, list_of, option_start, options_at, chained, linked, leaf, one_more, Step, step, expr}
 use Rattle.wdl_parse_expr.specs.Contract.{is_suffix, is_below, goes_on, continues}
-use Rattle.wdl_parse_expr.proofs.Steps.{marks, ate, ate_ident, sees_ident, cond_true, cond_false, then_is, then_bad, attempt_is, attempt_bad, attempt_missing, found_some, found_none, grown_is}
-use Rattle.wdl_parse_expr.proofs.Says.{Says, Takes, said}
-use Rattle.wdl_parse_expr.proofs.Tables.{binary_back, ate_binary, sees_binary, sees_unary}
+use Rattle.wdl_parse_expr.proofs.Steps.{marks, ate, sees_ident, cond_true, cond_false, then_is, then_bad, attempt_is, attempt_bad, attempt_missing, found_some, found_none, grown_is}
+use Rattle.wdl_parse_expr.proofs.Says.{said}
+use Rattle.wdl_parse_expr.proofs.Tables.{binary_back}
 use Rattle.wdl_parse_expr.proofs.Lists.{IsList, list_sound, list_is}
 use Rattle.wdl_parse_expr.proofs.Strings.{options_full}
-use Rattle.wdl_parse_expr.proofs.Sound.{IsSound, tall_words, Ruled, rule_sound, expr_sound, entry_sound, member_sound}
+use Rattle.wdl_parse_expr.proofs.Sound.{IsSound, member_sound}
 
 -- the rule that a token behind an expression may go on with
 abbrev pub level : Rule → ℕ

@@ -1,6 +1,5 @@
 -- What reading answers, by the grammar alone.
-use Rattle.std.proofs.Common.{◌≡◌, ℕ, ◌<◌, true, false, ◌⊎◌, inl, inr, [], ◌++◌, length, Ok, Err, refl, ap, sym, ◌∙◌, subst, arith}
-use Rattle.std.proofs.lemmas.List.{append-nil}
+use Rattle.std.proofs.Common.{◌≡◌, ◌<◌, true, ◌⊎◌, inl, inr, length, Ok, Err, refl, ap, sym, ◌∙◌, subst, arith}
 use Rattle.wdl_ast.specs.declared.expr.Expr.{Expr}
 use Rattle.wdl_ast.specs.declared.type_tree.TypeTree.{TypeTree}
 use Rattle.wdl_ast.specs.Words.{Words, words, type_words}
@@ -10,19 +9,18 @@ use Rattle.wdl_parse_expr.specs.declared.fault.Refusal.TheVariants.{Missing, Bad
 use Rattle.wdl_parse_expr.specs.declared.fault.Stop.{Stop}
 use Rattle.wdl_parse_expr.specs.declared.fault.Stop.TheVariants as stop
 use Rattle.wdl_parse_expr.specs.declared.fault.ParseFault.{ParseFault}
-use Rattle.wdl_parse_expr.specs.declared.fault.ParseFault.TheVariants as fault
 use Rattle.wdl_parse_expr.specs.declared.tall.Tall.{Tall}
 use Rattle.wdl_parse_expr.specs.declared.tall.Rule.TheVariants as rule
-use Rattle.wdl_parse_expr.specs.Outcome.{Outcome, then_, tall, missing, bad, Fails}
+use Rattle.wdl_parse_expr.specs.Outcome.{tall, Fails}
 use Rattle.wdl_parse_expr.specs.Grammar.{Tree, max_depth, IsExpr}
 use Rattle.wdl_parse_expr.specs.TypeGrammar.{IsType, max_type_depth}
 use Rattle.wdl_parse_expr.specs.Reading.{expr}
 use Rattle.wdl_parse_expr.specs.TypeReading.{type_at}
 use Rattle.wdl_parse_expr.specs.Contract.{expr_continues, Fronts, IsLongest, StartsNone, MayGoOn, Blames, IfBad, RefusesExpr, RefusesType, FaultOf}
-use Rattle.wdl_parse_expr.proofs.Steps.{same, done, then_is}
+use Rattle.wdl_parse_expr.proofs.Steps.{same}
 use Rattle.wdl_parse_expr.proofs.Says.{Takes, said, blamed}
 use Rattle.wdl_parse_expr.proofs.Sound.{tall_words, expr_sound}
-use Rattle.wdl_parse_expr.proofs.Full.{Hard, Reaches}
+use Rattle.wdl_parse_expr.proofs.Full.{Reaches}
 use Rattle.wdl_parse_expr.proofs.Chains.{expr_full}
 use Rattle.wdl_parse_expr.proofs.TypeLaws.{ReachesType, type_sound, type_full}
 

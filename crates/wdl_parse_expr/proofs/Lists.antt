@@ -1,17 +1,16 @@
 -- Lists that commas separate, read and written.
-use Rattle.std.proofs.Common.{◌≡◌, ℕ, zero, suc, max, ◌<◌, ◌≤◌, Bool, true, false, cond, List, [], ◌∷◌, ◌++◌, length, Option, Some, None, Ok, refl, ap, sym, ◌∙◌, subst, append_assoc, length-append, arith}
+use Rattle.std.proofs.Common.{◌≡◌, ℕ, zero, suc, max, ◌<◌, true, false, cond, List, [], ◌∷◌, ◌++◌, length, Option, Some, None, Ok, refl, ap, sym, ◌∙◌, subst, append_assoc, length-append, arith}
 use Rattle.std.proofs.lemmas.List.{append-nil}
 use Rattle.wdl_base.specs.declared.span.Span.{Span}
 use Rattle.wdl_ast.specs.declared.token.Mark.{Mark}
 use Rattle.wdl_ast.specs.declared.token.Mark.TheVariants as mark
-use Rattle.wdl_ast.specs.declared.token.Kind.{Kind}
 use Rattle.wdl_ast.specs.declared.token.Kind.TheVariants as kind
 use Rattle.wdl_ast.specs.declared.token.Token.{Token}
 use Rattle.wdl_ast.specs.declared.leaf.ListItem.{ListItem}
-use Rattle.wdl_ast.specs.Words.{Words, at, marked, comma, items_words}
+use Rattle.wdl_ast.specs.Words.{Words, marked, comma, items_words}
 use Rattle.wdl_parse_expr.specs.declared.tall.Tall.{Tall}
 use Rattle.wdl_parse_expr.specs.declared.tall.Closed.{Closed}
-use Rattle.wdl_parse_expr.specs.Outcome.{Outcome, Parser, then_, found, is_mark, eat, tall}
+use Rattle.wdl_parse_expr.specs.Outcome.{Parser, is_mark, eat, tall}
 use Rattle.wdl_parse_expr.specs.Grammar.{CommaFits, Listed}
 use Rattle.wdl_parse_expr.specs.Reading.{list_item, closed, list_from, list_of, ended}
 use Rattle.wdl_parse_expr.specs.Contract.{goes_on, continues}

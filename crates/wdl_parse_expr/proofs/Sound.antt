@@ -1,39 +1,31 @@
 -- What is read is a derivation, and its words are the tokens that were taken.
-use Rattle.std.proofs.Common.{◌≡◌, ℕ, ℤ, zero, suc, ◌+◌, ◌<◌, ◌≤◌, max, Bool, true, false, cond, ◌||◌, ◌&&◌, ◌⊎◌, inl, inr, List, [], ◌∷◌, ◌++◌, length, ◌==◌, Option, Some, None, Result, Ok, Err, refl, ap, sym, ◌∙◌, subst, append_assoc, arith, nat_le, codes}
+use Rattle.std.proofs.Common.{◌≡◌, ℕ, zero, suc, ◌+◌, ◌≤◌, max, Bool, true, false, cond, ◌||◌, ◌&&◌, inr, List, [], ◌∷◌, ◌++◌, length, ◌==◌, Option, Some, None, Ok, refl, ap, sym, ◌∙◌, subst, append_assoc, arith, nat_le, codes}
 use Rattle.std.proofs.lemmas.List.{append-nil}
-use Rattle.std.proofs.lemmas.Bool.{eqb-true, eq-eqb}
+use Rattle.std.proofs.lemmas.Bool.{eq-eqb}
 use Rattle.std.proofs.lemmas.Bool.Decides.{nat_tests}
 use Rattle.std.proofs.lemmas.Slice.Eq.{bytes_eq-Decides}
 use Rattle.std.specs.Str.{bytes_eq}
 use Rattle.wdl_base.specs.declared.span.Span.{Span}
 use Rattle.wdl_base.specs.Names.{is_name}
-use Rattle.wdl_ast.specs.declared.token.Mark.{Mark}
 use Rattle.wdl_ast.specs.declared.token.Mark.TheVariants as mark
 use Rattle.wdl_ast.specs.declared.token.Quote.{Quote}
 use Rattle.wdl_ast.specs.declared.token.HoleMark.{HoleMark}
 use Rattle.wdl_ast.specs.declared.token.Kind.{Kind}
 use Rattle.wdl_ast.specs.declared.token.Kind.TheVariants as kind
-use Rattle.wdl_ast.specs.declared.token.Token.{Token}
 use Rattle.wdl_ast.specs.declared.leaf.Ident.{Ident}
-use Rattle.wdl_ast.specs.declared.leaf.ListItem.{ListItem}
 use Rattle.wdl_ast.specs.declared.string.StringPart.{StringPart}
-use Rattle.wdl_ast.specs.declared.string.StringPart.TheVariants as part
 use Rattle.wdl_ast.specs.declared.string.PlaceholderOptions.{PlaceholderOptions}
-use Rattle.wdl_ast.specs.declared.expr.BinaryOperator.{BinaryOperator}
-use Rattle.wdl_ast.specs.declared.expr.UnaryOperator.{UnaryOperator}
 use Rattle.wdl_ast.specs.declared.expr.MapEntry.{MapEntry}
 use Rattle.wdl_ast.specs.declared.expr.MemberEntry.{MemberEntry}
 use Rattle.wdl_ast.specs.declared.expr.Expr.{Expr}
 use Rattle.wdl_ast.specs.declared.expr.Expr.TheVariants as e
-use Rattle.wdl_ast.specs.Words.{Words, at, marked, keyword, ident, chars, entry_words, member_words, items_words, options_words, placeholder_words, part_words, parts_words, string_words, binary_mark, unary_mark, words}
+use Rattle.wdl_ast.specs.Words.{Words, at, marked, keyword, ident, entry_words, member_words, options_words, part_words, parts_words, binary_mark, unary_mark, words}
 use Rattle.wdl_ast.proofs.WordLaws.{words_if, words_binary, words_unary, words_member, words_index, words_true, words_false, words_none, words_int, words_str, words_name, words_call, words_group, words_pair, words_list, words_map, words_struct}
-use Rattle.wdl_parse_expr.specs.declared.fault.Fault.{Fault}
 use Rattle.wdl_parse_expr.specs.declared.tall.Tall.{Tall}
-use Rattle.wdl_parse_expr.specs.declared.tall.Closed.{Closed}
 use Rattle.wdl_parse_expr.specs.declared.tall.Chain.{Chain}
 use Rattle.wdl_parse_expr.specs.declared.tall.Rule.{Rule}
 use Rattle.wdl_parse_expr.specs.declared.tall.Rule.TheVariants as rule
-use Rattle.wdl_parse_expr.specs.Outcome.{Outcome, Parser, then_, attempt, found, is_mark, is_hole_close, is_str_close, eat_if, eat, eat_word, ident_at, tall, grown, missing, bad}
+use Rattle.wdl_parse_expr.specs.Outcome.{Parser, is_hole_close, is_str_close, eat_if, eat, eat_word, ident_at, tall, bad}
 use Rattle.wdl_parse_expr.specs.Forms.{left_out, is_code, is_open_paren, begins_form}
 use Rattle.wdl_parse_expr.specs.Grammar as g
 use Rattle.wdl_parse_expr.specs.Grammar.{looseness, ends_bare, Listed, IsEntry, IsMember, Parts, IsPrimary, IsPost, IsUnary, IsRule, IsWhole, IsOf, Tree}
@@ -41,7 +33,7 @@ use Rattle.wdl_parse_expr.specs.Reading as r
 use Rattle.wdl_parse_expr.specs.Reading.{binary_at, unary_at, list_of, options_at, chained, linked, leaf, one_more, Step, step, turns, expr}
 use Rattle.wdl_parse_expr.specs.Contract.{Blames}
 use Rattle.wdl_parse_expr.proofs.Steps.{ate, ate_word, ate_ident, ate_hole_close, ate_str_close}
-use Rattle.wdl_parse_expr.proofs.Says.{Blamed, Says, Takes, Sound, deep_at, deep_sound, carry, says_then, says_attempt, says_found, says_cond, says_grown}
+use Rattle.wdl_parse_expr.proofs.Says.{Says, Takes, Sound, deep_at, deep_sound, carry, says_then, says_attempt, says_found, says_cond, says_grown}
 use Rattle.wdl_parse_expr.proofs.Tables.{ate_binary, ate_unary}
 use Rattle.wdl_parse_expr.proofs.Lists.{IsList, list_sound}
 use Rattle.wdl_parse_expr.proofs.Strings.{options_sound}

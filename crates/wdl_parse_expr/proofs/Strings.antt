@@ -1,6 +1,5 @@
 -- Plain strings and the options of placeholders, read and written.
-use Rattle.std.proofs.Common.{◌≡◌, ℕ, Bool, true, false, cond, inl, inr, List, [], ◌∷◌, ◌++◌, Option, Some, None, Ok, Err, refl, ap, sym, ◌∙◌, subst, append_assoc, codes}
-use Rattle.std.proofs.lemmas.List.{append-nil}
+use Rattle.std.proofs.Common.{◌≡◌, ℕ, Bool, true, false, cond, List, [], ◌∷◌, ◌++◌, Option, Some, None, Ok, refl, ap, sym, ◌∙◌, subst, append_assoc, codes}
 use Rattle.std.proofs.lemmas.Slice.Eq.{bytes_eq-Decides}
 use Rattle.std.specs.Str.{bytes_eq}
 use Rattle.wdl_base.specs.declared.span.Span.{Span}
@@ -8,18 +7,17 @@ use Rattle.wdl_ast.specs.declared.token.Mark.TheVariants as mark
 use Rattle.wdl_ast.specs.declared.token.Quote.{Quote}
 use Rattle.wdl_ast.specs.declared.token.Kind.{Kind}
 use Rattle.wdl_ast.specs.declared.token.Kind.TheVariants as kind
-use Rattle.wdl_ast.specs.declared.token.Token.{Token}
 use Rattle.wdl_ast.specs.declared.leaf.Chars.{Chars}
 use Rattle.wdl_ast.specs.declared.leaf.PlainString.{PlainString}
 use Rattle.wdl_ast.specs.declared.string.PlaceholderOption.{PlaceholderOption}
 use Rattle.wdl_ast.specs.declared.string.PlaceholderOptions.{PlaceholderOptions}
 use Rattle.wdl_ast.specs.declared.string.PlaceholderOptions.TheVariants as options
-use Rattle.wdl_ast.specs.Words.{Words, at, marked, keyword, chars, chars_words, plain_words, option_words, options_words}
+use Rattle.wdl_ast.specs.Words.{Words, at, marked, keyword, chars_words, plain_words, option_words, options_words}
 use Rattle.wdl_parse_expr.specs.declared.operator.OptionWord.{OptionWord}
 use Rattle.wdl_parse_expr.specs.declared.operator.OptionWord.TheVariants as word
-use Rattle.wdl_parse_expr.specs.Outcome.{Outcome, Parser, then_, found, is_mark, is_str_close, eat_if, eat}
-use Rattle.wdl_parse_expr.specs.Reading.{quote_of, quote_at, chars_of, chars_at, plain_end, plain, option_word, option_behind, option_from, option_start, option_end, same_option, other_option, options_by, options_at}
-use Rattle.wdl_parse_expr.proofs.Steps.{chosen, ate, ate_str_close, then_is, found_some, found_none, cond_true, cond_false}
+use Rattle.wdl_parse_expr.specs.Outcome.{found, is_str_close, eat_if, eat}
+use Rattle.wdl_parse_expr.specs.Reading.{quote_of, quote_at, chars_of, chars_at, plain_end, plain, option_word, option_from, option_start, option_end, same_option, other_option, options_by, options_at}
+use Rattle.wdl_parse_expr.proofs.Steps.{ate, ate_str_close, then_is, found_some, found_none, cond_true}
 use Rattle.wdl_parse_expr.proofs.Says.{Says, Takes, Sound, carry, says_then, says_found, says_cond}
 
 abbrev Any : {A : Type 0} → A → Type 0

@@ -1,5 +1,5 @@
 -- What a step along an expression says of what stood there.
-use Rattle.std.proofs.Common.{◌≡◌, ℕ, Bool, true, false, Option, Some, None, Ok, Err, refl, ap, sym, ◌∙◌}
+use Rattle.std.proofs.Common.{◌≡◌, Bool, true, false, Some, None, Ok, Err, ap, sym, ◌∙◌}
 use Rattle.wdl_ast.specs.Words.{Words}
 use Rattle.wdl_parse_expr.specs.declared.tall.Chain.{Chain}
 use Rattle.wdl_parse_expr.specs.declared.fault.Stop.{Stop}

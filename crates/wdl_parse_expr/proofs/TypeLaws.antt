@@ -1,5 +1,5 @@
 -- Types, read and written.
-use Rattle.std.proofs.Common.{◌≡◌, ℕ, zero, suc, ◌+◌, ◌<◌, ◌≤◌, Bool, true, false, cond, ◌||◌, ◌&&◌, ◌⊎◌, inl, inr, List, [], ◌∷◌, ◌++◌, length, ◌==◌, Option, Some, None, Result, Ok, Err, refl, ap, sym, ◌∙◌, subst, append_assoc, length-append, arith, codes}
+use Rattle.std.proofs.Common.{◌≡◌, ℕ, zero, suc, ◌<◌, ◌≤◌, Bool, true, false, ◌||◌, ◌&&◌, ◌⊎◌, inl, inr, List, [], ◌∷◌, ◌++◌, length, Option, Some, None, Ok, refl, ap, sym, ◌∙◌, subst, append_assoc, length-append, arith, codes}
 use Rattle.std.proofs.lemmas.List.{append-nil}
 use Rattle.std.proofs.lemmas.Slice.Eq.{bytes_eq-Decides}
 use Rattle.std.specs.Str.{bytes_eq}
@@ -9,15 +9,13 @@ use Rattle.wdl_ast.specs.declared.token.Mark.{Mark}
 use Rattle.wdl_ast.specs.declared.token.Mark.TheVariants as mark
 use Rattle.wdl_ast.specs.declared.token.Kind.{Kind}
 use Rattle.wdl_ast.specs.declared.token.Kind.TheVariants as kind
-use Rattle.wdl_ast.specs.declared.token.Token.{Token}
-use Rattle.wdl_ast.specs.declared.leaf.Ident.{Ident}
 use Rattle.wdl_ast.specs.declared.type_tree.BaseType.{BaseType}
 use Rattle.wdl_ast.specs.declared.type_tree.BaseType.TheVariants as base
-use Rattle.wdl_ast.specs.declared.type_tree.TypeTree.{TypeTree, roll-TypeTree}
-use Rattle.wdl_ast.specs.Words.{Words, at, marked, mark_words, keyword, ident, base_words, questions_words, type_words}
+use Rattle.wdl_ast.specs.declared.type_tree.TypeTree.{TypeTree}
+use Rattle.wdl_ast.specs.Words.{Words, at, marked, mark_words, keyword, base_words, questions_words, type_words}
 use Rattle.wdl_ast.proofs.WordLaws.{words_type}
 use Rattle.wdl_parse_expr.specs.declared.type_reader.Two.{Two}
-use Rattle.wdl_parse_expr.specs.Outcome.{Outcome, Parser, then_, found, is_mark, eat, missing, bad}
+use Rattle.wdl_parse_expr.specs.Outcome.{Outcome, Parser, found, is_mark, eat}
 use Rattle.wdl_parse_expr.specs.Forms.{left_out, is_code, is_open_paren, begins_form}
 use Rattle.wdl_parse_expr.specs.TypeGrammar as g
 use Rattle.wdl_parse_expr.specs.TypeGrammar.{type_tree, IsBase, IsTypeOver, TypeWithin}
@@ -25,7 +23,7 @@ use Rattle.wdl_parse_expr.specs.TypeReading as r
 use Rattle.wdl_parse_expr.specs.TypeReading.{optional, questions_from, questions, type_at}
 use Rattle.wdl_parse_expr.specs.Contract.{is_type_mark, type_continues}
 use Rattle.wdl_parse_expr.proofs.Steps.{ate, cond_true, cond_false, then_is, found_some, found_none}
-use Rattle.wdl_parse_expr.proofs.Says.{Says, Takes, Sound, deep_sound, says_then, says_found, says_cond, carry}
+use Rattle.wdl_parse_expr.proofs.Says.{Says, Takes, Sound, deep_sound, says_then, says_found, says_cond}
 
 -- ---- marks that may be absent
 

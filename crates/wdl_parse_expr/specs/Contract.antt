@@ -1,5 +1,5 @@
 -- What the readers of expressions and types answer, by the grammar alone.
-use Rattle.std.specs.Prelude.{◌≡◌, ◌⊎◌, ◌<◌, ℕ, Bool, true, false, ◌||◌, nat_lt, List, [], ◌∷◌, ◌++◌, length, drop, Option, Some, None, Result, Ok, Err}
+use Rattle.std.specs.Prelude.{◌≡◌, ◌⊎◌, ◌<◌, ℕ, Bool, true, false, ◌||◌, nat_lt, List, [], ◌∷◌, ◌++◌, length, Option, Some, None, Result, Ok, Err}
 use Rattle.wdl_base.specs.declared.span.Span.{Span}
 use Rattle.wdl_ast.specs.declared.token.Mark.{Mark}
 use Rattle.wdl_ast.specs.declared.token.Mark.TheVariants as mark
@@ -16,7 +16,6 @@ use Rattle.wdl_parse_expr.specs.declared.fault.ParseFault.TheVariants as fault
 use Rattle.wdl_parse_expr.specs.declared.fault.Refusal.TheVariants as refusal
 use Rattle.wdl_parse_expr.specs.declared.fault.Stop.{Stop}
 use Rattle.wdl_parse_expr.specs.declared.fault.Stop.TheVariants as stop
-use Rattle.wdl_parse_expr.specs.declared.tall.Tall.{Tall}
 use Rattle.wdl_parse_expr.specs.declared.tall.Rule.TheVariants as rule
 use Rattle.wdl_parse_expr.specs.Outcome.{Parser, then_}
 use Rattle.wdl_parse_expr.specs.Forms.{begins_form}

@@ -4,7 +4,6 @@ use Rattle.wdl_base.specs.declared.span.Span.{Span}
 use Rattle.wdl_base.specs.Names.{is_name}
 use Rattle.wdl_ast.specs.declared.token.Quote.{Quote}
 use Rattle.wdl_ast.specs.declared.leaf.Ident.{Ident}
-use Rattle.wdl_ast.specs.declared.leaf.Chars.{Chars}
 use Rattle.wdl_ast.specs.declared.leaf.ListItem.{ListItem}
 use Rattle.wdl_ast.specs.declared.string.StringPart.{StringPart}
 use Rattle.wdl_ast.specs.declared.string.StringPart.TheVariants as part

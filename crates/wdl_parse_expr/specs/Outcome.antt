@@ -1,5 +1,5 @@
 -- What reading at the front of a list of tokens gives: a tree and the tokens behind it, or a refusal.
-use Rattle.std.specs.Prelude.{◌≡◌, ℕ, zero, suc, ◌+◌, Bool, true, false, if◌then◌else◌, nat_le, List, [], ◌∷◌, Option, Some, None, Result, Ok, Err}
+use Rattle.std.specs.Prelude.{◌≡◌, ℕ, suc, ◌+◌, Bool, true, false, if◌then◌else◌, nat_le, List, [], ◌∷◌, Option, Some, None, Result, Ok, Err}
 use denote.Enum.Bare.{sameb}
 use Rattle.std.specs.Str.{bytes_eq}
 use Rattle.wdl_base.specs.declared.span.Span.{Span}
@@ -8,10 +8,8 @@ use Rattle.wdl_ast.specs.contracts.token.Mark.{the_type}
 use Rattle.wdl_ast.specs.declared.token.Mark.{Mark}
 use Rattle.wdl_ast.specs.declared.token.Kind.{Kind}
 use Rattle.wdl_ast.specs.declared.token.Kind.TheVariants as kind
-use Rattle.wdl_ast.specs.declared.token.Token.{Token}
 use Rattle.wdl_ast.specs.declared.leaf.Ident.{Ident}
 use Rattle.wdl_ast.specs.Words.{Words}
-use Rattle.wdl_parse_expr.specs.declared.fault.Fault.{Fault}
 use Rattle.wdl_parse_expr.specs.declared.fault.Refusal.{Refusal}
 use Rattle.wdl_parse_expr.specs.declared.fault.Refusal.TheVariants.{Missing, Bad}
 use Rattle.wdl_parse_expr.specs.declared.fault.Stop.{Stop}

@@ -1,5 +1,5 @@
 -- Reads the longest expression at the front of a list of tokens.
-use Rattle.std.specs.Prelude.{◌≡◌, ℕ, zero, suc, ◌+◌, max, Bool, true, false, ◌==◌, if◌then◌else◌, nat_le, List, [], ◌∷◌, ◌++◌, length, Option, Some, None, Result, Ok, Err, codes}
+use Rattle.std.specs.Prelude.{ℕ, zero, suc, ◌+◌, max, Bool, true, false, ◌==◌, if◌then◌else◌, nat_le, List, [], ◌∷◌, ◌++◌, length, Option, Some, None, Ok, Err, codes}
 use Rattle.std.specs.Str.{bytes_eq}
 use Rattle.wdl_base.specs.declared.span.Span.{Span}
 use Rattle.wdl_base.specs.Names.{is_name}
@@ -9,7 +9,6 @@ use Rattle.wdl_ast.specs.declared.token.Quote.{Quote}
 use Rattle.wdl_ast.specs.declared.token.HoleMark.{HoleMark}
 use Rattle.wdl_ast.specs.declared.token.Kind.{Kind}
 use Rattle.wdl_ast.specs.declared.token.Kind.TheVariants as kind
-use Rattle.wdl_ast.specs.declared.token.Token.{Token}
 use Rattle.wdl_ast.specs.declared.leaf.Ident.{Ident}
 use Rattle.wdl_ast.specs.declared.leaf.Chars.{Chars}
 use Rattle.wdl_ast.specs.declared.leaf.PlainString.{PlainString}
@@ -35,9 +34,9 @@ use Rattle.wdl_parse_expr.specs.declared.tall.Rule.{Rule}
 use Rattle.wdl_parse_expr.specs.declared.tall.Rule.TheVariants as rule
 use Rattle.wdl_parse_expr.specs.declared.operator.OptionWord.{OptionWord}
 use Rattle.wdl_parse_expr.specs.declared.operator.OptionWord.TheVariants as word
-use Rattle.wdl_parse_expr.specs.Outcome.{Outcome, Parser, missing, bad, then_, attempt, found, too_deep, is_mark, is_hole_close, is_str_close, eat_if, eat, eat_word, ident_at, tall, grown}
+use Rattle.wdl_parse_expr.specs.Outcome.{Outcome, Parser, missing, bad, then_, attempt, found, too_deep, is_hole_close, is_str_close, eat_if, eat, eat_word, ident_at, tall, grown}
 use Rattle.wdl_parse_expr.specs.Forms.{left_out}
-use Rattle.wdl_parse_expr.specs.Grammar.{looseness, ends_bare, max_depth}
+use Rattle.wdl_parse_expr.specs.Grammar.{looseness, ends_bare}
 
 -- ---- operators
 

@@ -1,5 +1,5 @@
 -- Reads the longest type at the front of a list of tokens.
-use Rattle.std.specs.Prelude.{◌≡◌, ℕ, zero, suc, Bool, true, false, if◌then◌else◌, List, [], ◌∷◌, ◌++◌, length, Option, Some, None, Ok, codes}
+use Rattle.std.specs.Prelude.{ℕ, zero, suc, if◌then◌else◌, List, [], ◌∷◌, ◌++◌, length, Option, Some, None, Ok, codes}
 use Rattle.std.specs.Str.{bytes_eq}
 use Rattle.wdl_base.specs.declared.span.Span.{Span}
 use Rattle.wdl_base.specs.Names.{is_name}
@@ -12,7 +12,7 @@ use Rattle.wdl_ast.specs.declared.type_tree.BaseType.TheVariants as base
 use Rattle.wdl_ast.specs.declared.type_tree.TypeTree.{TypeTree}
 use Rattle.wdl_ast.specs.Words.{Words}
 use Rattle.wdl_parse_expr.specs.declared.type_reader.Two.{Two}
-use Rattle.wdl_parse_expr.specs.Outcome.{Outcome, Parser, missing, bad, then_, found, too_deep, eat}
+use Rattle.wdl_parse_expr.specs.Outcome.{Parser, missing, bad, then_, found, too_deep, eat}
 use Rattle.wdl_parse_expr.specs.TypeGrammar.{type_tree}
 
 -- a mark, if it stands there

@@ -1,5 +1,4 @@
-use Rattle.std.proofs.Common.{◌≡◌, ap, arith, subst}
-use Rattle.wdl_parse_expr.specs.Outcome.{Reads}
+use Rattle.std.proofs.Common.{◌≡◌, arith}
 use Rattle.wdl_parse_expr.specs.TypeReading.{type_at}
 use Rattle.wdl_parse_expr.proofs.Turns.{deeper}
 use Rattle.wdl_parse_expr.proofs.type_reader.+type_at.Goals as goal

@@ -1,4 +1,4 @@
-use Rattle.std.proofs.Common.{Ok, Some, None, ap, sym, ◌∙◌, rules, arith}
+use Rattle.std.proofs.Common.{Ok, Some, None, ap, sym, ◌∙◌}
 use Rattle.wdl_parse_expr.specs.Reading.{expr, suffix, turns}
 use Rattle.wdl_parse_expr.proofs.Turns.{one_more}
 use Rattle.wdl_parse_expr.proofs.Steps.{then_is}
