@@ -1,0 +1,6 @@
+pub mod Calls
+pub mod Counts
+pub mod Members
+pub mod Readiness
+pub mod Tells
+pub mod Views

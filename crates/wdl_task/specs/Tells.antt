@@ -1,0 +1,19 @@
+-- What a call gives: what the definition says, unless memory runs out.
+use Rattle.std.specs.Prelude.{◌≡◌, ℕ, List, Result, Ok, Err}
+use Rattle.wdl_base.specs.declared.fault.Why.{Why}
+use Rattle.wdl_typed.specs.Requests.{Tried}
+use Rattle.wdl_task.specs.declared.fault.CallFault.{CallFault}
+use Rattle.wdl_task.specs.declared.fault.CallFault.TheVariants.{Bad, NoMemory as OutOfMemory}
+
+-- a failure of that name and cause, or want of memory
+abbrev pub Failed : List ℕ → Why → CallFault → Type 0
+Failed name why (Bad n w) = (n ≡ name) × (w ≡ why)
+Failed name why OutOfMemory = Unit {0}
+
+abbrev pub Fails : {A : Type 0} → Tried A → CallFault → Type 0
+Fails outcome (Bad n w) = outcome ≡ Err (record { name = n; why = w })
+Fails outcome OutOfMemory = Unit {0}
+
+abbrev pub Tells : {A : Type 0} → Tried A → Result A CallFault → Type 0
+Tells outcome (Ok a) = outcome ≡ Ok a
+Tells outcome (Err e) = Fails outcome e
