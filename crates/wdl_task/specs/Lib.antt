@@ -1,6 +1,0 @@
-pub mod Calls
-pub mod Counts
-pub mod Members
-pub mod Readiness
-pub mod Tells
-pub mod Views
