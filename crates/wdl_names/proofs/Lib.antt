@@ -1,0 +1,4 @@
+pub mod FreshLemmas
+mod NameMarks
+mod PlaceLemmas
+mod Skip

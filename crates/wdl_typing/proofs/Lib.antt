@@ -1,0 +1,5 @@
+mod DepthLemmas
+mod FindLemmas
+mod PieceLemmas
+mod PlainTypes
+mod WrittenLemmas

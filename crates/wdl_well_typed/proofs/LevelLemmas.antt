@@ -1,0 +1,62 @@
+-- Tables of the depths of workflows, and what stands in them.
+use Rattle.std.proofs.Common.{◌≡◌, ℕ, zero, suc, ◌+◌, ◌<◌, ◌≤◌, Bool, false, List, [], ◌∷◌, ◌++◌, Option, Some, None, option_map, length, map, sym, ap, ◌∙◌, refl, arith, length-append, ⊎_elim}
+use Rattle.std.specs.List.{slice_get}
+use Rattle.std.proofs.lemmas.Bool.{cases_lt}
+use Rattle.std.proofs.lemmas.Option.{slice_get-map}
+use Rattle.wdl_typed.specs.declared.flow.FlowDef.{FlowDef}
+use Rattle.wdl_typed.specs.declared.flow.Statement.{Statement, Statement-F}
+use Rattle.wdl_typed.specs.Bodies.{body_nests, flow_nests, is_decl, nests, nests_at}
+use Rattle.wdl_well_typed.specs.Levels.{nesting_level, nesting_levels}
+
+pub nests-none : (flows : List FlowDef) (y : Statement-F Statement) → nests flows zero y ≡ is_decl y
+unfolding nests
+nests-none flows y = refl
+
+nests-suc : (flows : List FlowDef) (n : ℕ) (y : Statement-F Statement) → nests flows (suc n) y ≡ nests_at (body_nests flows n) flows y
+unfolding nests
+nests-suc flows n y = refl
+
+pub nests-next : (flows : List FlowDef) (n m : ℕ) (y : Statement-F Statement) → n ≡ suc m → nests flows n y ≡ nests_at (body_nests flows m) flows y
+nests-next flows n m y is = ap (λ k. nests flows k y) is ∙ nests-suc flows m y
+
+length-nesting_levels : (flows : List FlowDef) (n : ℕ) → length (nesting_levels flows n) ≡ n
+unfolding nesting_levels
+length-nesting_levels flows zero = refl
+length-nesting_levels flows (suc n) = omega (arith, length-append (nesting_levels flows n) (nesting_level flows n ∷ []), length-nesting_levels flows n)
+
+slice_get-push : {X : Type 0} (xs : List X) (x : X) (k : ℕ) → k < length xs → slice_get (xs ++ x ∷ []) k ≡ slice_get xs k
+slice_get-push [] x k h = absurd (omega arith)
+slice_get-push (y ∷ ys) x zero h = refl
+slice_get-push (y ∷ ys) x (suc k) h = slice_get-push ys x k (omega arith)
+
+slice_get-last : {X : Type 0} (xs : List X) (x : X) → slice_get (xs ++ x ∷ []) (length xs) ≡ Some x
+slice_get-last [] x = refl
+slice_get-last (y ∷ ys) x = slice_get-last ys x
+
+pub nesting_levels-at : (flows : List FlowDef) (n k : ℕ) → k < n → slice_get (nesting_levels flows n) k ≡ Some (nesting_level flows k)
+unfolding nesting_levels
+nesting_levels-at flows zero k h = absurd (omega arith)
+nesting_levels-at flows (suc n) k h = ⊎_elim before last (cases_lt k n)
+  where
+    before : k < n → slice_get (nesting_levels flows (suc n)) k ≡ Some (nesting_level flows k)
+    before l = slice_get-push (nesting_levels flows n) (nesting_level flows n) k (omega (arith, length-nesting_levels flows n)) ∙ nesting_levels-at flows n k l
+
+    last : n ≤ k → slice_get (nesting_levels flows (suc n)) k ≡ Some (nesting_level flows k)
+    last l =
+        let is : k ≡ n = omega arith in
+        let at : k ≡ length (nesting_levels flows n) = omega (arith, length-nesting_levels flows n) in
+        ap (slice_get (nesting_levels flows (suc n))) at ∙ slice_get-last (nesting_levels flows n) (nesting_level flows n)
+        ∙ ap (λ m. Some (nesting_level flows m)) (sym is)
+
+-- a test that was made and held
+abbrev pub is_true : Option Bool → Bool
+is_true None = false
+is_true (Some b) = b
+
+pub flow_nests-map : (flows : List FlowDef) (level number : ℕ)
+    → flow_nests (body_nests flows level) (slice_get flows number) ≡ is_true (slice_get (nesting_level flows level) number)
+flow_nests-map flows level number = by_item (slice_get flows number) refl
+  where
+    by_item : (o : Option FlowDef) → slice_get flows number ≡ o → flow_nests (body_nests flows level) o ≡ is_true (slice_get (nesting_level flows level) number)
+    by_item None is = ap is_true (sym (ap (option_map (λ (f : FlowDef). body_nests flows level f.body)) is) ∙ sym (slice_get-map (λ (f : FlowDef). body_nests flows level f.body) flows number))
+    by_item (Some f) is = ap is_true (sym (ap (option_map (λ (f : FlowDef). body_nests flows level f.body)) is) ∙ sym (slice_get-map (λ (f : FlowDef). body_nests flows level f.body) flows number))

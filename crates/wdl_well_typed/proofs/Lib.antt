@@ -1,0 +1,5 @@
+mod GivenLemmas
+mod InputLemmas
+mod ItemsLemmas
+mod LevelLemmas
+mod NumberLemmas
