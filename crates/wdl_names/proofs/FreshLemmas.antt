@@ -79,7 +79,7 @@ bytes_eq-sym : (a b : List ℕ) → bytes_eq a b ≡ bytes_eq b a
 bytes_eq-sym a b = same_from_decides _ _ (bytes_eq-Decides a b) (Decides-like _ sym sym (bytes_eq-Decides b a))
 
 pub fresh-distinct : (ns : List (List ℕ)) → fresh [] ns ≡ are_distinct ns
-fresh-distinct = new-distinct (record { same_sym = bytes_eq-sym; has_none = λ _. refl; has_more = λ _ _ _. refl; distinct_none = refl; distinct_more = λ _ _. refl; new_none = λ _. refl; new_more = λ _ _ _. refl })
+fresh-distinct = new-distinct {same = bytes_eq} {has = has_name} {distinct = are_distinct} {new = fresh} (record { same_sym = bytes_eq-sym; has_none = λ _. refl; has_more = λ _ _ _. refl; distinct_none = refl; distinct_more = λ _ _. refl; new_none = λ _. refl; new_more = λ _ _ _. refl })
 
 pub fresh-append : (ts ns ms : List (List ℕ)) → fresh ts (ns ++ ms) ≡ (fresh ts ns && fresh (ts ++ ns) ms)
 fresh-append ts [] ms = ap (λ us. fresh us ms) (sym (append-nil ts))

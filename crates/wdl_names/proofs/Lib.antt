@@ -1,3 +1,4 @@
+mod FindLemmas
 pub mod FreshLemmas
 mod NameMarks
 mod PlaceLemmas

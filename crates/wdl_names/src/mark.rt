@@ -8,6 +8,7 @@ use wdl_value::{Key, Name};
 /// As many numbers as leave room for one more byte.
 const MARKS: u64 = 36_028_797_018_963_968;
 
+#[tactic(auto, unfolding(crate::specs::Marks::mixed))]
 fn mixed(mark: u64, byte: u8) -> u64
     ensures { result ≡ spec.mixed mark byte }
 {

@@ -27,6 +27,11 @@ impl Model for Names {
 
     ghost Value = { List Bound };
 
+    ghost use Rattle.std.specs.Coded.{coded_list};
+    ghost use Rattle.wdl_typed.specs.contracts.scope.Bound as bound;
+
+    ghost coded = { coded_list bound.the_row.coded };
+
     ghost view = { λ n. n.bounds };
 
     ghost invariant = { λ n. (n.keys ≡ key_marks n.bounds) × (n.calls ≡ call_marks n.bounds) };

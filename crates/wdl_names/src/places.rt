@@ -57,9 +57,13 @@ impl Places {
         ensures place { result ≡ first_place number self.now }
         ensures within { result ≤ length self.now }
     {
-        match self.firsts.get(&number) {
-            Some(place) if stands(self.numbers.as_slice(), *place, number) => *place,
-            _ => self.numbers.len(),
+        let Some(place) = self.firsts.get(&number) else {
+            return self.numbers.len();
+        };
+        if stands(self.numbers.as_slice(), *place, number) {
+            *place
+        } else {
+            self.numbers.len()
         }
     }
 
