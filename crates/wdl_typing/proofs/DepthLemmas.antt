@@ -2,6 +2,7 @@
 use Rattle.std.proofs.Common.{◌≡◌, ℕ, zero, suc, ◌<◌, Bool, true, false, cond, List, [], ◌∷◌, Option, Some, None, nat_lt, option_map, length, get_or, map, sym, ap, ◌∙◌, subst, refl, arith}
 use Rattle.std.specs.List.{find, list_all, slice_get}
 use Rattle.std.specs.Str.{bytes_eq}
+use Rattle.std.proofs.lemmas.Bool.{lt-ltb}
 use Rattle.std.proofs.lemmas.Option.{slice_get-map, get_or_from_slice_get}
 use Rattle.std.proofs.lemmas.Slice.Eq.{bytes_eq-Decides}
 use Rattle.wdl_value.specs.declared.ty.StructDef.{StructDef}
@@ -19,11 +20,11 @@ is_shallow-next n structs name = refl
 
 find-passes : {X : Type 0} (test : X → Bool) (xs : List X) (x : X) → find test xs ≡ Some x → test x ≡ true
 find-passes test [] x h = cc
-find-passes {X} test (y ∷ ys) x h = by_test (test y) refl h
+find-passes {X} test (y ∷ ys) x h = by_test (test y) refl (find-passes test ys x) h
   where
-    by_test : (b : Bool) → test y ≡ b → cond b (Some y) (find test ys) ≡ Some x → test x ≡ true
-    by_test true e h = let same : y ≡ x = cc in subst (λ (z : X). test z ≡ true) same e
-    by_test false e h = find-passes test ys x h
+    by_test : (b : Bool) → test y ≡ b → (find test ys ≡ Some x → test x ≡ true) → cond b (Some y) (find test ys) ≡ Some x → test x ≡ true
+    by_test true e rest h = let same : y ≡ x = cc in subst (λ (z : X). test z ≡ true) same e
+    by_test false e rest h = rest h
 
 some_at : {X : Type 0} (xs : List X) (k : ℕ) → k < length xs → slice_get xs k ≡ None → ⊥
 some_at [] k within missing = omega arith
@@ -46,5 +47,6 @@ level-found f name ds p e within found = by_item (slice_get ds p) refl
 pub level-missing : (level : ℕ) (structs : Structs) (name : List ℕ) → find (λ (d : StructDef). bytes_eq d.name name) structs ≡ None → nat_lt 0 level ≡ is_shallow level structs name
 level-missing zero structs name missing = sym (is_shallow-none structs name)
 level-missing (suc n) structs name missing =
-    sym (is_shallow-next n structs name
+    lt-ltb 0 (suc n) (omega arith)
+    ∙ sym (is_shallow-next n structs name
     ∙ ap (λ o. list_all (is_shallow n structs) (some_structs o)) (members_of-find structs name ∙ ap (option_map (λ (d : StructDef). d.members)) missing))

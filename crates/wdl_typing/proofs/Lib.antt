@@ -2,4 +2,3 @@ mod DepthLemmas
 mod FindLemmas
 mod PieceLemmas
 mod PlainTypes
-mod WrittenLemmas

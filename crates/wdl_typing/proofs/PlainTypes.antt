@@ -1,13 +1,17 @@
 -- An expression that is typed with its place has its plain type too.
-use Rattle.std.proofs.Common.{◌≡◌, Bool, List, [], ◌∷◌, map, sym, ap, ◌∙◌, subst, refl}
-use Rattle.wdl_typed.specs.declared.expr.TExpr.{TExpr, TExpr-F, roll-TExpr, map-TExpr, ind-TExpr, fold-TExpr, fold-roll-TExpr}
+use Rattle.std.proofs.Common.{◌≡◌, Bool, List, [], ◌∷◌, None, option_and_then, if◌then◌else◌, map, sym, ap, ◌∙◌, subst, refl}
+use Rattle.wdl_value.specs.declared.operator.Func.{Func}
+use Rattle.wdl_value.specs.FunctionTypes.{function_type, writes}
+use Rattle.wdl_typed.specs.declared.expr.TExpr.{TExpr, TExpr-F, roll-TExpr, map-TExpr, ind-TExpr, fold-TExpr, fold_out-TExpr, fold-roll-TExpr}
+use Rattle.wdl_typed.specs.declared.expr.TExpr.TheVariants as expr
 use Rattle.wdl_typed.specs.declared.expr.TExpr.TheOpen as layer
 use Rattle.wdl_typed.specs.declared.expr.TField.{TField}
 use Rattle.wdl_typed.specs.declared.expr.TPair.{TPair}
 use Rattle.wdl_typed.specs.declared.expr.TPart.{TPart}
 use Rattle.wdl_typed.specs.declared.expr.TPart.TheVariants as part
-use Rattle.wdl_typed.specs.Declarations.{Placed, placed_step, plain_of}
-use Rattle.wdl_typed.specs.Typing.{Context, Typing, type_of, type_step}
+use Rattle.wdl_typed.specs.Declarations.{Placed, either, or_type, placed_step, plain_of}
+use Rattle.wdl_typed.specs.Typing.{Context, Typing, all_types, exact_args, items_in, type_of, type_step}
+use Rattle.wdl_typing.specs.Types.{write_call}
 use Rattle.wdl_typing.proofs.PieceLemmas.{part_of, parts_map}
 
 module _ (c : Context) where
@@ -89,6 +93,16 @@ module _ (c : Context) where
       ∙ ap (type_step c) (layer_agree y)
       ∙ sym (fold-roll-TExpr Typing (type_step c) (plain y))))
 
+  -- an expression in its place has its plain type, or else that of a call of a function that writes a file
+  pub in_place : (e : TExpr) (b : Bool) → either (placed e) b ≡ or_type (type_of c e b) ((placed e).write b)
+  in_place e b = ap (λ (f : Typing). or_type (f b) ((placed e).write b)) (plain-type e)
+
   pub items-plain : (es : List TExpr) → map plain_of (map placed es) ≡ map (type_of c) es
   items-plain [] = refl
   items-plain (e ∷ es) = cc (plain-type e, items-plain es)
+
+  pub write-Apply : (f : Func) (es : List TExpr) (b : Bool) → (placed (expr.Apply f es)).write b ≡ write_call c f es b
+  write-Apply f es b =
+      ap (λ (q : Placed). q.write b)
+      (fold_out-TExpr Placed (placed_step c) (expr.Apply f es) ∙ ap (λ (y : TExpr-F TExpr). placed_step c (map-TExpr TExpr Placed placed y)) (expr.outs-Apply f es))
+      ∙ ap (λ ts. if writes f then option_and_then (λ us. option_and_then (exact_args us) (function_type f us)) (all_types (items_in ts b)) else None) (items-plain es)

@@ -3,6 +3,7 @@
 ghost use Rattle.std.specs.Prelude.{◌≡◌, ◌&&◌, ◌||◌, not, Option, IfOk, option_and_then};
 ghost use Rattle.std.specs.Option.{option_copied};
 ghost use Rattle.wdl_value.specs.Coerces.{coerces as coerces_to};
+ghost use Rattle.wdl_value.specs.Fits.{is_int as in_range};
 ghost use Rattle.wdl_value.specs.FunctionTypes as functions;
 ghost use Rattle.wdl_value.specs.Kinds as kinds;
 ghost use Rattle.wdl_value.specs.SameType as same;
@@ -16,13 +17,21 @@ use std::alloc::Global;
 use wdl_types::{FuncTyping, OpTyping, coerces, function_type, operator_type};
 use wdl_value::{Func, NoMemory, Op, Ty, Value};
 
+/// The type of a number, which has 64 bits.
+fn int_type(n: i64) -> Option<Ty>
+    ensures { result ≡ spec.when (in_range n) ty.Int }
+{
+    let _ = n;
+    Some(Ty::Int)
+}
+
 /// The type of a literal value; None at a value that no literal has.
 pub fn literal_type(x: &Value) -> Option<Ty>
     ensures { result ≡ spec.literal_type x.now }
 {
     match x {
         Value::Bool(_) => Some(Ty::Bool),
-        Value::Int(_) => Some(Ty::Int),
+        Value::Int(n) => int_type(*n),
         Value::Str(_) => Some(Ty::Str),
         Value::Absent => Some(Ty::Absent),
         _ => None,
@@ -122,7 +131,7 @@ fn all_same(t: &Ty, types: &[Ty]) -> bool
     ensures { result ≡ spec.all_same t.now types.now }
 {
     for u in types {
-        if !t.same(u) {
+        if !u.same(t) {
             return false;
         }
     }

@@ -14,7 +14,10 @@ use wdl_value::{Member, Name, NoMemory, StructDef, Ty};
 pub fn members_of<'a>(structs: &Indexed<'a, StructDef>, name: &Name) -> Option<&'a [Member]>
     ensures { option_copied result ≡ fits.members_of structs.now name.now }
 {
-    Some(structs.find(name)?.members.as_slice())
+    match structs.find(name) {
+        Some(def) => Some(def.members.as_slice()),
+        None => None,
+    }
 }
 
 fn type_among<'a>(members: &'a [Member], name: &Name) -> Option<&'a Ty>

@@ -75,6 +75,7 @@ fn is_shallow_next(name: &Name, level: u32, table: &[bool], structs: &Indexed<St
 }
 
 /// The table of level 0, at which no struct is.
+#[tactic(auto, unfolding(wdl_typed::specs::KnownTypes::is_shallow))]
 fn first_level(alloc: Global, structs: &Indexed<StructDef>) -> Result<Items<bool>, NoMemory>
     ensures { IfOk result (λ t. t ≡ spec.shallow_level zero structs.now) }
 {

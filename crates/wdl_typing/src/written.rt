@@ -1,11 +1,20 @@
 //! The types that a document writes.
 
 ghost use Rattle.std.specs.Prelude.{◌≡◌};
+ghost use Rattle.wdl_value.specs.Fits.{members_of as members_of_name};
 ghost use Rattle.wdl_typed.specs.KnownTypes as spec;
 
 use crate::kind::is_scalar;
+use crate::member::members_of;
 use wdl_names::Indexed;
-use wdl_value::{Member, StructDef, Ty, is_optional};
+use wdl_value::{Member, Name, StructDef, Ty, is_optional};
+
+/// Whether there is a struct of that name.
+fn is_known(structs: &Indexed<StructDef>, name: &Name) -> bool
+    ensures { result ≡ spec.is_some (members_of_name structs.now name.now) }
+{
+    matches!(members_of(structs, name), Some(_))
+}
 
 /// Whether a document can write the type: its structs are known, the keys of its maps are Boolean, Int, String or File,
 /// and no optional type is in an optional one. It takes no memory.
@@ -23,7 +32,7 @@ pub fn is_written(t: &Ty, structs: &Indexed<StructDef>) -> bool
         Ty::Pair { left, right } => {
             is_written(left.get(), structs) && is_written(right.get(), structs)
         }
-        Ty::Struct(name) => structs.find(name).is_some(),
+        Ty::Struct(name) => is_known(structs, name),
         Ty::Opt(inner) => is_written(inner.get(), structs) && !is_optional(inner.get()),
         Ty::Absent | Ty::Empty => false,
     }

@@ -29,6 +29,11 @@ impl<'a> Model for Levels<'a> {
 
     ghost Value = { List FlowDef × ℕ };
 
+    ghost use Rattle.std.specs.Coded.{codes};
+    ghost use Rattle.wdl_typed.specs.contracts.flow.FlowDef as flow;
+
+    ghost coded = { Prim.hlevel (codes, flow.the_row.coded) };
+
     ghost view = { λ l. (l.flows.now, length l.tables) };
 
     ghost invariant = { λ l. l.tables ≡ nesting_levels l.flows.now (length l.tables) };
