@@ -19,10 +19,18 @@ nests-suc flows n y = refl
 pub nests-next : (flows : List FlowDef) (n m : ℕ) (y : Statement-F Statement) → n ≡ suc m → nests flows n y ≡ nests_at (body_nests flows m) flows y
 nests-next flows n m y is = ap (λ k. nests flows k y) is ∙ nests-suc flows m y
 
-length-nesting_levels : (flows : List FlowDef) (n : ℕ) → length (nesting_levels flows n) ≡ n
+levels-none : (flows : List FlowDef) → nesting_levels flows zero ≡ []
 unfolding nesting_levels
-length-nesting_levels flows zero = refl
-length-nesting_levels flows (suc n) = omega (arith, length-append (nesting_levels flows n) (nesting_level flows n ∷ []), length-nesting_levels flows n)
+levels-none flows = refl
+
+pub levels-next : (flows : List FlowDef) (n : ℕ) → nesting_levels flows (suc n) ≡ nesting_levels flows n ++ nesting_level flows n ∷ []
+unfolding nesting_levels
+levels-next flows n = refl
+
+pub length-nesting_levels : (flows : List FlowDef) (n : ℕ) → length (nesting_levels flows n) ≡ n
+length-nesting_levels flows zero = ap length (levels-none flows)
+length-nesting_levels flows (suc n) =
+    ap length (levels-next flows n) ∙ omega (arith, length-append (nesting_levels flows n) (nesting_level flows n ∷ []), length-nesting_levels flows n)
 
 slice_get-push : {X : Type 0} (xs : List X) (x : X) (k : ℕ) → k < length xs → slice_get (xs ++ x ∷ []) k ≡ slice_get xs k
 slice_get-push [] x k h = absurd (omega arith)
@@ -34,18 +42,17 @@ slice_get-last [] x = refl
 slice_get-last (y ∷ ys) x = slice_get-last ys x
 
 pub nesting_levels-at : (flows : List FlowDef) (n k : ℕ) → k < n → slice_get (nesting_levels flows n) k ≡ Some (nesting_level flows k)
-unfolding nesting_levels
 nesting_levels-at flows zero k h = absurd (omega arith)
-nesting_levels-at flows (suc n) k h = ⊎_elim before last (cases_lt k n)
+nesting_levels-at flows (suc n) k h =
+    ap (λ ls. slice_get ls k) (levels-next flows n)
+    ∙ ⊎_elim (λ l. slice_get-push (nesting_levels flows n) (nesting_level flows n) k (omega (arith, length-nesting_levels flows n)) ∙ nesting_levels-at flows n k l) last (cases_lt k n)
   where
-    before : k < n → slice_get (nesting_levels flows (suc n)) k ≡ Some (nesting_level flows k)
-    before l = slice_get-push (nesting_levels flows n) (nesting_level flows n) k (omega (arith, length-nesting_levels flows n)) ∙ nesting_levels-at flows n k l
-
-    last : n ≤ k → slice_get (nesting_levels flows (suc n)) k ≡ Some (nesting_level flows k)
+    last : n ≤ k → slice_get (nesting_levels flows n ++ nesting_level flows n ∷ []) k ≡ Some (nesting_level flows k)
     last l =
         let is : k ≡ n = omega arith in
         let at : k ≡ length (nesting_levels flows n) = omega (arith, length-nesting_levels flows n) in
-        ap (slice_get (nesting_levels flows (suc n))) at ∙ slice_get-last (nesting_levels flows n) (nesting_level flows n)
+        ap (slice_get (nesting_levels flows n ++ nesting_level flows n ∷ [])) at
+        ∙ slice_get-last (nesting_levels flows n) (nesting_level flows n)
         ∙ ap (λ m. Some (nesting_level flows m)) (sym is)
 
 -- a test that was made and held
