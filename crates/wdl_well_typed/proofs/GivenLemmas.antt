@@ -1,13 +1,13 @@
 -- What statements give out, one after another, and what blocks do.
-use Rattle.std.proofs.Common.{◌≡◌, ℕ, Bool, List, [], ◌∷◌, ◌++◌, Option, Some, None, option_map, option_and_then, length, take, sym, ap, ◌∙◌, refl, append_assoc}
+use Rattle.std.proofs.Common.{◌≡◌, ℕ, Bool, true, if◌then◌else◌, List, [], ◌∷◌, ◌++◌, Option, Some, None, option_map, option_and_then, length, take, sym, ap, ◌∙◌, refl, append_assoc}
 use Rattle.std.proofs.Math.Seq.{take-append_seam}
 use Rattle.wdl_value.specs.declared.ty.Ty.{Ty, Ty-F, out-Ty}
 use Rattle.wdl_value.specs.declared.ty.Ty.TheVariants as ty
 use Rattle.wdl_value.specs.declared.ty.Ty.TheOpen as type
 use Rattle.wdl_typed.specs.declared.flow.Statement.{Statement}
 use Rattle.wdl_typed.specs.declared.scope.Bound.{Bound}
-use Rattle.wdl_typed.specs.Bodies.{Giving, Library, Seen, body_gives, gives, joined, retyped, scatter_over, with_item}
-use Rattle.wdl_well_typed.specs.Blocks.{items_at}
+use Rattle.wdl_typed.specs.Bodies.{Giving, Library, Seen, body_gives, gives, if_over, joined, optional, retyped, scatter_over, with_item}
+use Rattle.wdl_well_typed.specs.Blocks.{bool_type, items_at}
 use Rattle.wdl_well_typed.specs.Given.{first}
 
 abbrev pub seen_of : List Bound → List (List ℕ) → Seen
@@ -57,3 +57,23 @@ scatter-items item body seen (Some t) = by_layer (out-Ty t)
     by_layer (type.Opt u) = refl
     by_layer type.Absent = refl
     by_layer type.Empty = refl
+
+-- a statement of a body, what it gives out, and the statements after it
+pub body_goes : (lib : Library) (s : Statement) (ss ds : List Statement) (start before after given more all : Seen) (whole : Option Seen)
+    → ds ≡ s ∷ ss → gives lib s before ≡ Some more → after ≡ joined before more → all ≡ joined given more
+    → before ≡ joined start given → option_map (joined given) (body_gives lib ds before) ≡ whole
+    → (after ≡ joined start all) × (option_map (joined all) (body_gives lib ss after) ≡ whole)
+body_goes lib s ss ds start before after given more all whole next is entered added seen rest = (
+  entered ∙ ap (λ z. joined z more) seen ∙ joined-assoc start given more ∙ ap (joined start) (sym added),
+  ap (λ z. option_map (joined z) (body_gives lib ss after)) added
+      ∙ ap (λ z. option_map (joined (joined given more)) (body_gives lib ss z)) entered
+      ∙ sym (body_gives-next lib s ss before given more is)
+      ∙ sym (ap (λ z. option_map (joined given) (body_gives lib z before)) next)
+      ∙ rest,
+)
+
+-- a condition that is a Boolean
+pub if-condition : (body : Giving) (seen : Seen) (o : Option Ty) → bool_type o ≡ true
+    → option_and_then (if_over body seen) o ≡ option_and_then (λ s. Some (retyped optional s)) (body seen)
+if-condition body seen None h = cc
+if-condition body seen (Some t) h = ap (λ b. if b then option_and_then (λ s. Some (retyped optional s)) (body seen) else None) h

@@ -54,8 +54,8 @@ has_name-push n x (t ∷ ts) = swapped (bytes_eq x n) (bytes_eq t n) (has_name n
     swapped false b c = refl
 
 -- an item may stand before the names or after them
-pub items_differ-push : (ss : List Statement) (x : List ℕ) (ts : List (List ℕ)) → items_differ ss (ts ++ x ∷ []) ≡ items_differ ss (x ∷ ts)
-items_differ-push [] x ts = refl
-items_differ-push (s ∷ ss) x ts =
-    ap (λ b. b && items_differ ss (ts ++ x ∷ [])) (item_differs-alike s _ _ (λ n. sym (has_name-push n x ts)))
-    ∙ ap (λ b. item_differs s (x ∷ ts) && b) (items_differ-push ss x ts)
+pub items_differ_push : (ss : List Statement) (x : List ℕ) (ts : List (List ℕ)) → items_differ ss (x ∷ ts) ≡ items_differ ss (ts ++ x ∷ [])
+items_differ_push [] x ts = refl
+items_differ_push (s ∷ ss) x ts =
+    ap (λ b. b && items_differ ss (x ∷ ts)) (item_differs-alike s _ _ (λ n. has_name-push n x ts))
+    ∙ ap (λ b. item_differs s (ts ++ x ∷ []) && b) (items_differ_push ss x ts)

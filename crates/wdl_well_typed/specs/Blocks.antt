@@ -1,13 +1,11 @@
 -- What declarations and blocks give out.
-use Rattle.std.specs.Prelude.{Bool, false, List, [], ◌∷◌, Option, Some, None, option_and_then}
+use Rattle.std.specs.Prelude.{ℕ, Bool, false, List, [], ◌∷◌, Option, Some, None, option_and_then}
 use Rattle.wdl_value.specs.declared.ty.Ty.{Ty, Ty-F, out-Ty}
 use Rattle.wdl_value.specs.declared.ty.Ty.TheOpen as type
 use Rattle.wdl_value.specs.Fits.{Structs}
 use Rattle.wdl_value.specs.Kinds.{is_bool}
 use Rattle.wdl_typed.specs.declared.expr.TExpr.{TExpr}
 use Rattle.wdl_typed.specs.declared.flow.Statement.{Statement}
-use Rattle.wdl_typed.specs.declared.flow.TIf.{TIf}
-use Rattle.wdl_typed.specs.declared.flow.TScatter.{TScatter}
 use Rattle.wdl_typed.specs.declared.scope.Bound.{Bound}
 use Rattle.wdl_typed.specs.declared.task.TDecl.{TDecl}
 use Rattle.wdl_typed.specs.Bodies.{Giving, Library, Seen, body_gives, if_over, scatter_over}
@@ -31,9 +29,9 @@ bool_type (Some t) = is_bool t
 abbrev pub is_condition : Structs → List Bound → TExpr → Bool
 is_condition structs names e = bool_type (in_body structs names e)
 
-abbrev pub scatter_gives : Library → TScatter Statement → Giving
-scatter_gives lib s seen =
-    option_and_then (λ t. scatter_over s.item (body_gives lib s.body) seen (out-Ty t)) (in_body lib.structs seen.names s.over)
+abbrev pub scatter_gives : Library → List Statement → List ℕ → TExpr → Giving
+scatter_gives lib body item over seen =
+    option_and_then (λ t. scatter_over item (body_gives lib body) seen (out-Ty t)) (in_body lib.structs seen.names over)
 
-abbrev pub if_gives : Library → TIf Statement → Giving
-if_gives lib i seen = option_and_then (if_over (body_gives lib i.body) seen) (in_body lib.structs seen.names i.cond)
+abbrev pub if_gives : Library → List Statement → TExpr → Giving
+if_gives lib body cond seen = option_and_then (if_over (body_gives lib body) seen) (in_body lib.structs seen.names cond)

@@ -10,9 +10,9 @@ use crate::calls::{Library, call_gives};
 use crate::given::{Given, Scope, arrays, optionals};
 use sqlite_items::{Boxed, Items};
 use std::alloc::Global;
-use wdl_typed::{Bound, Statement, TDecl, TExpr, TIf, TScatter};
+use wdl_typed::{Bound, Statement, TDecl, TExpr};
 use wdl_typing::{Standing, body_type, decl_is_typed, enter, is_bool};
-use wdl_value::{Key, NoMemory, Ty};
+use wdl_value::{Key, Name, NoMemory, Ty};
 
 /// The name of a declaration.
 fn declared(alloc: Global, d: &TDecl) -> Result<Given, NoMemory>
@@ -92,8 +92,10 @@ fn statement_gives(
     match statement {
         Statement::Decl(d) => decl_gives(alloc, d, library, scope),
         Statement::Call(c) => call_gives(alloc, c, library, scope),
-        Statement::Scatter(s) => scatter_gives(alloc, s, library, scope),
-        Statement::If(i) => if_gives(alloc, i, library, scope),
+        Statement::Scatter(s) => {
+            scatter_gives(alloc, s.body.as_slice(), &s.item, &s.over, library, scope)
+        }
+        Statement::If(i) => if_gives(alloc, i.body.as_slice(), &i.cond, library, scope),
     }
 }
 
@@ -101,19 +103,22 @@ fn statement_gives(
 #[cycle(gives)]
 fn scatter_gives(
     alloc: Global,
-    s: &TScatter<Statement>,
+    body: &[Statement],
+    item: &Name,
+    over: &TExpr,
     library: &Library,
     scope: &mut Scope,
 ) -> Result<Option<Given>, NoMemory>
-    ensures gives { IfOk result (λ g. option_map state.given g ≡ spec.scatter_gives (library_of library.now) s.now (state.seen scope.old)) }
+    ensures gives { IfOk result (λ g. option_map state.given g ≡ spec.scatter_gives (library_of library.now) body.now item.now over.now (state.seen scope.old)) }
     ensures kept { IfOk result (λ g. IsSome g → state.seen scope.new ≡ state.seen scope.old) }
 {
-    let Some((item, some)) = items_of(alloc, &s.over, library, scope)? else {
+    let Some((ty, some)) = items_of(alloc, over, library, scope)? else {
         return Ok(None);
     };
-    enter(alloc, &mut scope.names, &s.item, &item)?;
-    let given = body_gives(alloc, s.body.as_slice(), library, scope)?;
-    scope.names.leave();
+    let count = scope.names.len();
+    enter(alloc, &mut scope.names, item, &ty)?;
+    let given = body_gives(alloc, body, library, scope)?;
+    scope.names.keep(count);
     match given {
         Some(given) => Ok(Some(arrays(alloc, given, some)?)),
         None => Ok(None),
@@ -124,17 +129,18 @@ fn scatter_gives(
 #[cycle(gives)]
 fn if_gives(
     alloc: Global,
-    i: &TIf<Statement>,
+    body: &[Statement],
+    cond: &TExpr,
     library: &Library,
     scope: &mut Scope,
 ) -> Result<Option<Given>, NoMemory>
-    ensures gives { IfOk result (λ g. option_map state.given g ≡ spec.if_gives (library_of library.now) i.now (state.seen scope.old)) }
+    ensures gives { IfOk result (λ g. option_map state.given g ≡ spec.if_gives (library_of library.now) body.now cond.now (state.seen scope.old)) }
     ensures kept { IfOk result (λ g. IsSome g → state.seen scope.new ≡ state.seen scope.old) }
 {
-    if !is_condition(alloc, &i.cond, library, scope)? {
+    if !is_condition(alloc, cond, library, scope)? {
         return Ok(None);
     }
-    match body_gives(alloc, i.body.as_slice(), library, scope)? {
+    match body_gives(alloc, body, library, scope)? {
         Some(given) => Ok(Some(optionals(alloc, given)?)),
         None => Ok(None),
     }

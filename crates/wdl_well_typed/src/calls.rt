@@ -1,6 +1,7 @@
 //! Calls (OpenWDL 1.1, "Call Statement").
 
 ghost use Rattle.std.specs.Prelude.{◌≡◌, ◌&&◌, IfOk, map, option_map, slice_get};
+ghost use Rattle.std.specs.Option.{option_copied};
 ghost use Rattle.wdl_typed.specs.Bodies as bodies;
 ghost use Rattle.wdl_typed.specs.Lists as lists;
 ghost use Rattle.wdl_well_typed.specs.Calls as spec;
@@ -12,7 +13,7 @@ use std::alloc::Global;
 use wdl_names::{Indexed, Names, Words, add_all};
 use wdl_typed::{Bound, FlowDef, TCall, TDecl, TExpr, TField, TInput, Target, TaskDef};
 use wdl_typing::{body_type, is_type};
-use wdl_value::{Key, Name, NoMemory, StructDef, is_optional};
+use wdl_value::{Key, Name, NoMemory, StructDef, Ty, is_optional};
 
 /// What a call can name, and the structs.
 #[derive(Drop)]
@@ -58,6 +59,16 @@ fn target_signature<'a>(library: &Library<'a>, target: Target) -> Option<Signatu
     }
 }
 
+/// The type of the first input of that name.
+fn input_type<'a>(inputs: &Indexed<'a, TInput>, name: &Name) -> Option<&'a Ty>
+    ensures { option_copied result ≡ bodies.input_type inputs.now name.now }
+{
+    match inputs.find(name) {
+        Some(input) => Some(&input.ty),
+        None => None,
+    }
+}
+
 /// Whether an argument is an input, of exactly its type.
 fn arg_is_typed(
     alloc: Global,
@@ -68,11 +79,11 @@ fn arg_is_typed(
 ) -> Result<bool, NoMemory>
     ensures { IfOk result (λ b. b ≡ spec.arg_fits structs.now names.now inputs.now arg.now) }
 {
-    let Some(input) = inputs.find(&arg.name) else {
+    let Some(ty) = input_type(inputs, &arg.name) else {
         return Ok(false);
     };
     let t = body_type(alloc, &arg.value, structs, names)?;
-    Ok(is_type(&t, &input.ty))
+    Ok(is_type(&t, ty))
 }
 
 fn args_are_typed(
@@ -126,7 +137,10 @@ fn args_suffice(alloc: Global, args: &[TField<TExpr>], inputs: &[TInput]) -> Res
     ensures { IfOk result (λ b. b ≡ (lists.are_distinct (bodies.arg_names args.now) && bodies.all_given inputs.now (bodies.arg_names args.now))) }
 {
     let mut given = Words::empty(alloc);
-    Ok(add_all(alloc, &mut given, args)? && all_given(inputs, &given))
+    if !add_all(alloc, &mut given, args)? {
+        return Ok(false);
+    }
+    Ok(all_given(inputs, &given))
 }
 
 /// Whether a call of what has these inputs is well typed where this is seen.

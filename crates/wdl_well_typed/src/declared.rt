@@ -1,14 +1,15 @@
 //! Whether the names that statements declare differ.
 
-ghost use Rattle.std.specs.Prelude.{◌≡◌, ◌++◌, true, IfOk};
+ghost use Rattle.std.specs.Prelude.{◌≡◌, ◌&&◌, ◌++◌, ◌∷◌, not, true, IfOk};
 ghost use Rattle.wdl_names.specs.Fresh.{fresh};
 ghost use Rattle.wdl_typed.specs.Bodies as bodies;
+ghost use Rattle.wdl_typed.specs.Lists.{has_name};
 ghost use Rattle.wdl_well_typed.specs.Items as spec;
 
 use std::alloc::Global;
 use wdl_names::{Words, add};
 use wdl_typed::Statement;
-use wdl_value::NoMemory;
+use wdl_value::{Name, NoMemory};
 
 /// Adds the names of declarations and calls, those of the bodies in blocks too.
 #[cycle(declared)]
@@ -57,15 +58,28 @@ fn item_differs(alloc: Global, statement: &Statement, taken: &mut Words) -> Resu
     ensures taken { IfOk result (λ b. b ≡ true → taken.new ≡ taken.old) }
 {
     match statement {
-        Statement::Scatter(s) => {
-            if !add(alloc, taken, &s.item)? {
-                return Ok(false);
-            }
-            let differ = items_differ(alloc, s.body.as_slice(), taken)?;
-            taken.leave();
-            Ok(differ)
-        }
+        Statement::Scatter(s) => scatter_differs(alloc, s.body.as_slice(), &s.item, taken),
         Statement::If(i) => items_differ(alloc, i.body.as_slice(), taken),
         _ => Ok(true),
     }
+}
+
+#[tactic(auto, using(crate::proofs::ItemsLemmas::items_differ_push))]
+#[cycle(items)]
+fn scatter_differs(
+    alloc: Global,
+    body: &[Statement],
+    item: &Name,
+    taken: &mut Words,
+) -> Result<bool, NoMemory>
+    ensures differ { IfOk result (λ b. b ≡ (not (has_name item.now taken.old) && bodies.items_differ body.now (item.now ∷ taken.old))) }
+    ensures taken { IfOk result (λ b. b ≡ true → taken.new ≡ taken.old) }
+{
+    let count = taken.len();
+    if !add(alloc, taken, item)? {
+        return Ok(false);
+    }
+    let differ = items_differ(alloc, body, taken)?;
+    taken.keep(count);
+    Ok(differ)
 }

@@ -26,12 +26,16 @@ fn names_differ(alloc: Global, flow: &FlowDef) -> Result<bool, NoMemory>
 {
     let body = flow.body.as_slice();
     let mut words = Words::empty(alloc);
-    Ok(
-        add_all(alloc, &mut words, flow.inputs.as_slice())?
-            && add_declared(alloc, body, &mut words)?
-            && add_all(alloc, &mut words, flow.outputs.as_slice())?
-            && items_differ(alloc, body, &mut words)?,
-    )
+    if !add_all(alloc, &mut words, flow.inputs.as_slice())? {
+        return Ok(false);
+    }
+    if !add_declared(alloc, body, &mut words)? {
+        return Ok(false);
+    }
+    if !add_all(alloc, &mut words, flow.outputs.as_slice())? {
+        return Ok(false);
+    }
+    items_differ(alloc, body, &mut words)
 }
 
 /// Whether the lists of a workflow are well typed, whatever their names, numbers and depth.

@@ -1,6 +1,6 @@
 //! The numbers of blocks.
 
-ghost use Rattle.std.specs.Prelude.{◌≡◌, ◌&&◌, IfOk};
+ghost use Rattle.std.specs.Prelude.{◌≡◌, ◌&&◌, [], IfOk};
 ghost use Rattle.wdl_typed.specs.Bodies as bodies;
 ghost use Rattle.wdl_typed.specs.Lists as lists;
 ghost use Rattle.wdl_well_typed.specs.Numbers as spec;
@@ -11,19 +11,41 @@ use wdl_names::Places;
 use wdl_typed::Statement;
 use wdl_value::NoMemory;
 
-/// Whether the numbers are those from 0 on, each once, in any order.
-fn are_counted(alloc: Global, numbers: &[u32]) -> Result<bool, NoMemory>
-    ensures { IfOk result (λ b. b ≡ lists.are_counted numbers.now) }
+fn are_below(most: usize, numbers: &[u32]) -> bool
+    ensures { result ≡ lists.are_below most numbers.now }
+{
+    for number in numbers {
+        if *number as usize >= most {
+            return false;
+        }
+    }
+    true
+}
+
+/// Whether no number stands twice.
+#[tactic(auto, using(crate::proofs::NumberLemmas::number_seen, crate::proofs::NumberLemmas::number_new))]
+fn numbers_differ(alloc: Global, numbers: &[u32]) -> Result<bool, NoMemory>
+    ensures { IfOk result (λ b. b ≡ spec.fresh_numbers [] numbers.now) }
 {
     let mut seen = Places::empty(alloc);
     for number in numbers {
         let number = *number as u64;
-        if number >= numbers.len() as u64 || seen.place(number) < seen.len() {
+        if seen.place(number) < seen.len() {
             return Ok(false);
         }
         seen.push(number)?;
     }
     Ok(true)
+}
+
+/// Whether the numbers are those from 0 on, each once, in any order.
+fn are_counted(alloc: Global, numbers: &[u32]) -> Result<bool, NoMemory>
+    ensures { IfOk result (λ b. b ≡ lists.are_counted numbers.now) }
+{
+    if !are_below(numbers.len(), numbers) {
+        return Ok(false);
+    }
+    numbers_differ(alloc, numbers)
 }
 
 /// The numbers of the scatters of a body.

@@ -21,11 +21,13 @@ fn names_differ(alloc: Global, task: &TaskDef) -> Result<bool, NoMemory>
     ensures { IfOk result (λ b. b ≡ lists.are_distinct (spec.task_names task.now)) }
 {
     let mut words = Words::empty(alloc);
-    Ok(
-        add_all(alloc, &mut words, task.inputs.as_slice())?
-            && add_all(alloc, &mut words, task.privates.as_slice())?
-            && add_all(alloc, &mut words, task.outputs.as_slice())?,
-    )
+    if !add_all(alloc, &mut words, task.inputs.as_slice())? {
+        return Ok(false);
+    }
+    if !add_all(alloc, &mut words, task.privates.as_slice())? {
+        return Ok(false);
+    }
+    add_all(alloc, &mut words, task.outputs.as_slice())
 }
 
 /// Whether the expression is of exactly that type.
