@@ -24,15 +24,17 @@ use wdl_value::NoMemory;
 fn names_differ(alloc: Global, flow: &FlowDef) -> Result<bool, NoMemory>
     ensures { IfOk result (λ b. b ≡ (lists.are_distinct (spec.flow_names flow.now) && bodies.items_differ flow.now.body (spec.flow_names flow.now))) }
 {
-    let body = flow.body.as_slice();
     let mut words = Words::empty(alloc);
-    if !add_all(alloc, &mut words, flow.inputs.as_slice())? {
+    let inputs = flow.inputs.as_slice();
+    if !add_all(alloc, &mut words, inputs)? {
         return Ok(false);
     }
+    let body = flow.body.as_slice();
     if !add_declared(alloc, body, &mut words)? {
         return Ok(false);
     }
-    if !add_all(alloc, &mut words, flow.outputs.as_slice())? {
+    let outputs = flow.outputs.as_slice();
+    if !add_all(alloc, &mut words, outputs)? {
         return Ok(false);
     }
     items_differ(alloc, body, &mut words)

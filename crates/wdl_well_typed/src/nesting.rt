@@ -3,7 +3,7 @@
 ghost use Rattle.std.specs.Prelude.{◌≡◌, ◌+◌, ◌<◌, ◌≤◌, [], IfOk, OnOk, slice_get};
 ghost use Rattle.wdl_typed.specs.declared.flow.Statement.{out-Statement};
 ghost use Rattle.wdl_typed.specs.Bodies as bodies;
-ghost use Rattle.wdl_well_typed.specs.Levels.{nesting_level};
+ghost use Rattle.wdl_well_typed.specs.Levels.{holds, nesting_level};
 
 use sqlite_items::{Items, at};
 use std::alloc::Global;
@@ -39,6 +39,16 @@ impl<'a> Model for Levels<'a> {
     ghost invariant = { λ l. l.tables ≡ nesting_levels l.flows.now (length l.tables) };
 }
 
+/// Whether the test of that place was made and held.
+fn holds_at(table: &[bool], place: usize) -> bool
+    ensures { result ≡ holds (slice_get table.now place) }
+{
+    match at(table, place) {
+        Some(test) => *test,
+        None => false,
+    }
+}
+
 fn is_decl(statement: &Statement) -> bool
     ensures { result ≡ bodies.is_decl (out-Statement statement.now) }
 {
@@ -62,7 +72,7 @@ impl<'a> Levels<'a> {
         ensures { result ≡ bodies.flow_nests (bodies.body_nests self.now.0 level) (slice_get self.now.0 number) }
     {
         match at(self.tables.as_slice(), level) {
-            Some(table) => matches!(at(table.as_slice(), number as usize), Some(true)),
+            Some(table) => holds_at(table.as_slice(), number as usize),
             None => false,
         }
     }
@@ -100,14 +110,25 @@ impl<'a> Levels<'a> {
 }
 
 /// Whether at most `level` blocks and calls stand on each path through the statement.
+#[tactic(auto, using(crate::proofs::LevelLemmas::nests_none, crate::proofs::LevelLemmas::nests_next))]
 #[cycle(nests)]
 fn nests(statement: &Statement, levels: &Levels, level: usize) -> bool
     requires { level ≤ levels.now.1 }
     ensures { result ≡ bodies.nests levels.now.0 level (out-Statement statement.now) }
 {
-    let Some(below) = level.checked_sub(1) else {
-        return is_decl(statement);
-    };
+    if level == 0 {
+        is_decl(statement)
+    } else {
+        nests_below(statement, levels, level - 1)
+    }
+}
+
+/// Whether at most one more than `below` stand on each path through the statement.
+#[cycle(nests)]
+fn nests_below(statement: &Statement, levels: &Levels, below: usize) -> bool
+    requires { below < levels.now.1 }
+    ensures { result ≡ bodies.nests_at (bodies.body_nests levels.now.0 below) levels.now.0 (out-Statement statement.now) }
+{
     match statement {
         Statement::Decl(_) => true,
         Statement::Call(c) => levels.target_nests(below, c.target),

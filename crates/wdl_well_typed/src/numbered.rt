@@ -23,7 +23,6 @@ fn are_below(most: usize, numbers: &[u32]) -> bool
 }
 
 /// Whether no number stands twice.
-#[tactic(auto, using(crate::proofs::NumberLemmas::number_seen, crate::proofs::NumberLemmas::number_new))]
 fn numbers_differ(alloc: Global, numbers: &[u32]) -> Result<bool, NoMemory>
     ensures { IfOk result (λ b. b ≡ spec.fresh_numbers [] numbers.now) }
 {

@@ -21,13 +21,16 @@ fn names_differ(alloc: Global, task: &TaskDef) -> Result<bool, NoMemory>
     ensures { IfOk result (λ b. b ≡ lists.are_distinct (spec.task_names task.now)) }
 {
     let mut words = Words::empty(alloc);
-    if !add_all(alloc, &mut words, task.inputs.as_slice())? {
+    let inputs = task.inputs.as_slice();
+    if !add_all(alloc, &mut words, inputs)? {
         return Ok(false);
     }
-    if !add_all(alloc, &mut words, task.privates.as_slice())? {
+    let privates = task.privates.as_slice();
+    if !add_all(alloc, &mut words, privates)? {
         return Ok(false);
     }
-    add_all(alloc, &mut words, task.outputs.as_slice())
+    let outputs = task.outputs.as_slice();
+    add_all(alloc, &mut words, outputs)
 }
 
 /// Whether the expression is of exactly that type.
