@@ -1,0 +1,5 @@
+mod FindLemmas
+pub mod FreshLemmas
+mod NameMarks
+mod PlaceLemmas
+mod Skip

@@ -1,0 +1,13 @@
+-- What a scope says of calls.
+use Rattle.std.specs.Prelude.{ℕ, Bool, false, ◌||◌, List, [], ◌∷◌, Option, Some, None}
+use Rattle.std.specs.Str.{bytes_eq}
+use Rattle.wdl_typed.specs.declared.scope.Bound.{Bound}
+
+-- an output of a call of that name
+abbrev pub is_output_of : List ℕ → Option (List ℕ) → List ℕ → Bool
+is_output_of first None name = false
+is_output_of first (Some m) name = bytes_eq first name
+
+abbrev pub is_call : List Bound → List ℕ → Bool
+is_call [] name = false
+is_call (b ∷ bs) name = is_output_of b.key.first b.key.second name || is_call bs name

@@ -1,0 +1,17 @@
+//! Names with their types, and lists of what has names, in which a name is found in logarithmic time.
+#![tactic(auto)]
+
+mod distinct;
+mod indexed;
+mod mark;
+mod named;
+mod names;
+mod places;
+mod words;
+
+pub use distinct::{add, add_all, are_distinct};
+pub use indexed::Indexed;
+pub use named::Named;
+pub use names::Names;
+pub use places::Places;
+pub use words::Words;

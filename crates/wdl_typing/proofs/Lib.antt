@@ -1,0 +1,4 @@
+mod DepthLemmas
+mod FindLemmas
+mod PieceLemmas
+mod PlainTypes

@@ -1,0 +1,4 @@
+pub mod Depths
+pub mod Pieces
+pub mod Standings
+pub mod Types

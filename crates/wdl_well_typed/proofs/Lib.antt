@@ -1,0 +1,7 @@
+mod DistinctLemmas
+mod GivenLemmas
+mod InputLemmas
+mod ItemsLemmas
+mod LevelLemmas
+mod ListLemmas
+mod NumberLemmas

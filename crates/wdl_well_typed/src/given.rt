@@ -1,0 +1,161 @@
+//! What statements see, and what they give out.
+
+ghost use Rattle.std.specs.Prelude.{◌≡◌, ◌++◌, IfOk, OnOk};
+ghost use Rattle.wdl_typed.specs.Bodies as bodies;
+ghost use Rattle.wdl_well_typed.specs.Given as spec;
+ghost use Rattle.wdl_value.specs.declared.ty.Ty.{out-Ty};
+ghost use Rattle.wdl_value.specs.declared.ty.Ty.TheVariants as ty;
+
+use sqlite_items::{Boxed, Items};
+use std::alloc::Global;
+use wdl_names::{Names, Words};
+use wdl_typed::Bound;
+use wdl_value::{Name, NoMemory, Ty, is_optional};
+
+/// Names with their types, and calls, which statements give out.
+#[derive(Debug, Drop)]
+pub struct Given {
+    pub names: Items<Bound>,
+    pub calls: Items<Name>,
+}
+
+/// The names with their types, and the calls, which a statement sees.
+#[derive(Debug, Drop)]
+pub struct Scope {
+    pub names: Names,
+    pub calls: Words,
+}
+
+fn copy_of(alloc: Global, bound: &Bound) -> Result<Bound, NoMemory>
+    ensures { IfOk result (λ b. b ≡ bound.now) }
+{
+    let key = bound.key.copy(alloc)?;
+    Ok(Bound {
+        key,
+        ty: bound.ty.copy(alloc)?,
+    })
+}
+
+fn enter_names(alloc: Global, names: &mut Names, bounds: &[Bound]) -> Result<(), NoMemory>
+    ensures { OnOk result (names.new ≡ names.old ++ bounds.now) }
+{
+    for bound in bounds {
+        names.enter(copy_of(alloc, bound)?)?;
+    }
+    Ok(())
+}
+
+fn enter_calls(alloc: Global, calls: &mut Words, names: &[Name]) -> Result<(), NoMemory>
+    ensures { OnOk result (calls.new ≡ calls.old ++ names.now) }
+{
+    for name in names {
+        calls.enter(name.copy(alloc)?)?;
+    }
+    Ok(())
+}
+
+impl Scope {
+    /// Adds what a statement gives out.
+    pub fn enter(&mut self, alloc: Global, given: &Given) -> Result<(), NoMemory>
+        ensures { OnOk result (spec.seen self.new ≡ bodies.joined (spec.seen self.old) (spec.given given.now)) }
+    {
+        enter_names(alloc, &mut self.names, given.names.as_slice())?;
+        enter_calls(alloc, &mut self.calls, given.calls.as_slice())
+    }
+
+    /// Takes the last names and calls away until there are at most so many.
+    pub fn keep(&mut self, names: usize, calls: usize)
+        ensures { spec.seen self.new ≡ spec.first names calls (spec.seen self.old) }
+    {
+        self.names.keep(names);
+        self.calls.keep(calls);
+    }
+}
+
+impl Given {
+    /// Nothing.
+    pub fn empty(alloc: Global) -> Given
+        ensures { spec.given result ≡ spec.nothing }
+    {
+        Given {
+            names: Items::new(alloc),
+            calls: Items::new(alloc),
+        }
+    }
+
+    /// Adds what a statement gives out after these.
+    pub fn append(&mut self, more: Given) -> Result<(), NoMemory>
+        ensures { OnOk result (spec.given self.new ≡ bodies.joined (spec.given self.old) (spec.given more)) }
+    {
+        let Given { names, calls } = more;
+        self.names.append(names)?;
+        self.calls.append(calls)?;
+        Ok(())
+    }
+}
+
+fn array_of(alloc: Global, t: &Ty, some: bool) -> Result<Ty, NoMemory>
+    ensures { IfOk result (λ u. u ≡ ty.Array t.now some) }
+{
+    let item = t.copy(alloc)?;
+    Ok(Ty::Array {
+        item: Boxed::new(alloc, item)?,
+        some,
+    })
+}
+
+fn optional(alloc: Global, t: &Ty) -> Result<Ty, NoMemory>
+    ensures { IfOk result (λ u. u ≡ bodies.optional t.now) }
+{
+    let copy = t.copy(alloc)?;
+    if is_optional(t) {
+        return Ok(copy);
+    }
+    Ok(Ty::Opt(Boxed::new(alloc, copy)?))
+}
+
+fn array_names(alloc: Global, names: &[Bound], some: bool) -> Result<Items<Bound>, NoMemory>
+    ensures { IfOk result (λ bs. bs ≡ spec.retyped_names (λ u. ty.Array u some) names.now) }
+{
+    let mut arrays = Items::new(alloc);
+    for bound in names {
+        let key = bound.key.copy(alloc)?;
+        let ty = array_of(alloc, &bound.ty, some)?;
+        arrays.push(Bound { key, ty })?;
+    }
+    Ok(arrays)
+}
+
+fn optional_names(alloc: Global, names: &[Bound]) -> Result<Items<Bound>, NoMemory>
+    ensures { IfOk result (λ bs. bs ≡ spec.retyped_names bodies.optional names.now) }
+{
+    let mut optionals = Items::new(alloc);
+    for bound in names {
+        let key = bound.key.copy(alloc)?;
+        let ty = optional(alloc, &bound.ty)?;
+        optionals.push(Bound { key, ty })?;
+    }
+    Ok(optionals)
+}
+
+/// What a scatter gives out, given what its body does: arrays, with `+` where the collection has it.
+pub fn arrays(alloc: Global, given: Given, some: bool) -> Result<Given, NoMemory>
+    ensures { IfOk result (λ g. spec.given g ≡ bodies.retyped (λ u. ty.Array u some) (spec.given given)) }
+{
+    let names = array_names(alloc, given.names.as_slice(), some)?;
+    Ok(Given {
+        names,
+        calls: given.calls,
+    })
+}
+
+/// What a condition gives out, given what its body does: names that may be undefined.
+pub fn optionals(alloc: Global, given: Given) -> Result<Given, NoMemory>
+    ensures { IfOk result (λ g. spec.given g ≡ bodies.retyped bodies.optional (spec.given given)) }
+{
+    let names = optional_names(alloc, given.names.as_slice())?;
+    Ok(Given {
+        names,
+        calls: given.calls,
+    })
+}

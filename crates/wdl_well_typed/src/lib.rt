@@ -1,0 +1,19 @@
+//! Whether the parts of a checked form are well typed.
+#![tactic(auto)]
+
+mod bodies;
+mod calls;
+mod counting;
+mod declared;
+mod flows;
+mod given;
+mod library;
+mod nesting;
+mod numbered;
+#[cfg(test)]
+mod sketch;
+mod tasks;
+#[cfg(test)]
+mod tests;
+
+pub use library::well_typed;
