@@ -1,4 +1,4 @@
-use Rattle.std.proofs.Common.{length, ◌∙◌, ◌<◌, sym, ap, arith}
+use Rattle.std.proofs.Common.{◌∙◌, sym, ap}
 use Rattle.std.specs.Str.{bytes_eq}
 use Rattle.wdl_names.proofs.FindLemmas.{found_here}
 use Rattle.wdl_names.proofs.indexed.place_among.Goals as goal
