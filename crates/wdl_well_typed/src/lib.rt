@@ -10,10 +10,6 @@ mod given;
 mod library;
 mod nesting;
 mod numbered;
-#[cfg(test)]
-mod sketch;
 mod tasks;
-#[cfg(test)]
-mod tests;
 
 pub use library::well_typed;

@@ -1,5 +1,4 @@
 use crate::sketch::{SPAN, decls, expr, name_of, statements};
-use crate::well_typed;
 use sqlite_items::{Boxed, Items};
 use std::alloc::Global;
 use std::test::Fail;
@@ -8,6 +7,7 @@ use wdl_typed::{
     TaskDef,
 };
 use wdl_value::{Member, NoMemory, StructDef, Text, Ty, Value};
+use wdl_well_typed::well_typed;
 
 fn nothing(alloc: Global, main: Option<u32>) -> CheckedParts {
     CheckedParts {

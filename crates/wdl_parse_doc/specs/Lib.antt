@@ -1,0 +1,4 @@
+pub mod Grammar
+pub mod Contract
+pub mod Reading
+pub mod Nests

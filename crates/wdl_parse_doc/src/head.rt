@@ -1,0 +1,125 @@
+//! What stands before the body of a block.
+
+ghost use Rattle.std.specs.Prelude.{◌≡◌, codes};
+ghost use Rattle.wdl_parse_expr.specs.Outcome.{Reads};
+ghost use Rattle.wdl_parse_doc.specs.Reading.Blocks as spec;
+
+use crate::token::{take, take_name, take_word};
+use sqlite_items::Items;
+use std::alloc::Global;
+use wdl_ast::{Conditional, Expr, Ident, Mark, Scatter, Statement};
+use wdl_parse_expr::{Cursor, Stop, read_expr};
+use wdl_value::Span;
+
+/// `scatter (item in over) {`.
+#[derive(Drop)]
+pub struct ScatterHead {
+    pub keyword: Span,
+    pub opening_paren: Span,
+    pub item: Ident,
+    pub in_word: Span,
+    pub over: Expr,
+    pub closing_paren: Span,
+    pub opening: Span,
+}
+
+/// `if (condition) {`.
+#[derive(Drop)]
+pub struct ConditionalHead {
+    pub keyword: Span,
+    pub opening_paren: Span,
+    pub condition: Expr,
+    pub closing_paren: Span,
+    pub opening: Span,
+}
+
+/// The head of a block.
+#[derive(Drop)]
+pub enum BlockHead {
+    Scatter(ScatterHead),
+    Conditional(ConditionalHead),
+}
+
+#[tactic(auto, using(std::proofs::lemmas::Grind::common_steps), unfolding(wdl_parse_expr::specs::Outcome::then_, wdl_parse_expr::specs::Outcome::found, crate::specs::Reading::Blocks::scatter_head))]
+fn scatter_head(alloc: Global, tokens: &mut Cursor<'_>, keyword: Span) -> Result<BlockHead, Stop>
+    ensures { Reads (spec.scatter_head keyword tokens.old) result tokens.new }
+{
+    let opening_paren = take(tokens, Mark::OpenParen)?;
+    let item = take_name(alloc, tokens)?;
+    let in_word = take_word(tokens, "in")?;
+    let over = read_expr(alloc, tokens)?;
+    let closing_paren = take(tokens, Mark::CloseParen)?;
+    let opening = take(tokens, Mark::OpenBrace)?;
+    Ok(BlockHead::Scatter(ScatterHead {
+        keyword,
+        opening_paren,
+        item,
+        in_word,
+        over,
+        closing_paren,
+        opening,
+    }))
+}
+
+#[tactic(auto, using(std::proofs::lemmas::Grind::common_steps), unfolding(wdl_parse_expr::specs::Outcome::then_, wdl_parse_expr::specs::Outcome::found, crate::specs::Reading::Blocks::conditional_head))]
+fn conditional_head(
+    alloc: Global,
+    tokens: &mut Cursor<'_>,
+    keyword: Span,
+) -> Result<BlockHead, Stop>
+    ensures { Reads (spec.conditional_head keyword tokens.old) result tokens.new }
+{
+    let opening_paren = take(tokens, Mark::OpenParen)?;
+    let condition = read_expr(alloc, tokens)?;
+    let closing_paren = take(tokens, Mark::CloseParen)?;
+    let opening = take(tokens, Mark::OpenBrace)?;
+    Ok(BlockHead::Conditional(ConditionalHead {
+        keyword,
+        opening_paren,
+        condition,
+        closing_paren,
+        opening,
+    }))
+}
+
+/// Reads the head of a block, if one stands there.
+#[tactic(auto, using(std::proofs::lemmas::Grind::common_steps), unfolding(wdl_parse_expr::specs::Outcome::then_, wdl_parse_expr::specs::Outcome::found, crate::specs::Reading::Blocks::head_at))]
+pub fn head(alloc: Global, tokens: &mut Cursor<'_>) -> Result<Option<BlockHead>, Stop>
+    ensures { Reads (spec.head_at tokens.old) result tokens.new }
+{
+    if let Some(keyword) = tokens.eat_word("scatter") {
+        return Ok(Some(scatter_head(alloc, tokens, keyword)?));
+    }
+    if let Some(keyword) = tokens.eat_word("if") {
+        return Ok(Some(conditional_head(alloc, tokens, keyword)?));
+    }
+    Ok(None)
+}
+
+/// The block of a head.
+pub fn closed(head: BlockHead, body: Items<Statement>, closing: Span) -> Statement
+    ensures { result ≡ spec.closed head body closing }
+{
+    match head {
+        BlockHead::Scatter(head) => Statement::Scatter(Scatter {
+            keyword: head.keyword,
+            opening_paren: head.opening_paren,
+            item: head.item,
+            in_word: head.in_word,
+            over: head.over,
+            closing_paren: head.closing_paren,
+            opening: head.opening,
+            body,
+            closing,
+        }),
+        BlockHead::Conditional(head) => Statement::Conditional(Conditional {
+            keyword: head.keyword,
+            opening_paren: head.opening_paren,
+            condition: head.condition,
+            closing_paren: head.closing_paren,
+            opening: head.opening,
+            body,
+            closing,
+        }),
+    }
+}

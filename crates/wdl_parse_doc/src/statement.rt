@@ -1,0 +1,37 @@
+//! Statements.
+
+ghost use Rattle.std.specs.Prelude.{◌≡◌, codes};
+ghost use Rattle.wdl_parse_expr.specs.Outcome.{Reads};
+ghost use Rattle.wdl_parse_doc.specs.Reading.Blocks as spec;
+
+use crate::block::read_block;
+use crate::call::call;
+use crate::declaration::declaration;
+use crate::head::head;
+use std::alloc::Global;
+use wdl_ast::Statement;
+use wdl_parse_expr::{Cursor, Stop};
+
+/// Reads a call or a declaration.
+#[tactic(auto, using(std::proofs::lemmas::Grind::common_steps), unfolding(wdl_parse_expr::specs::Outcome::then_, wdl_parse_expr::specs::Outcome::found, crate::specs::Reading::Blocks::simple))]
+pub fn simple(alloc: Global, tokens: &mut Cursor<'_>) -> Result<Statement, Stop>
+    ensures { Reads (spec.simple tokens.old) result tokens.new }
+{
+    if let Some(keyword) = tokens.eat_word("call") {
+        let call = call(alloc, tokens, keyword)?;
+        return Ok(Statement::Call(call));
+    }
+    let declaration = declaration(alloc, tokens)?;
+    Ok(Statement::Declaration(declaration))
+}
+
+/// Reads a statement.
+#[tactic(auto, using(std::proofs::lemmas::Grind::common_steps), unfolding(wdl_parse_expr::specs::Outcome::then_, wdl_parse_expr::specs::Outcome::found, crate::specs::Reading::Blocks::statement))]
+pub fn statement(alloc: Global, tokens: &mut Cursor<'_>) -> Result<Statement, Stop>
+    ensures { Reads (spec.statement tokens.old) result tokens.new }
+{
+    match head(alloc, tokens)? {
+        Some(head) => read_block(alloc, tokens, head),
+        None => simple(alloc, tokens),
+    }
+}

@@ -1,0 +1,122 @@
+//! Workflows.
+
+ghost use Rattle.std.specs.Prelude.{◌≡◌, codes};
+ghost use Rattle.wdl_parse_expr.specs.Outcome.{Reads};
+ghost use Rattle.wdl_parse_doc.specs.Grammar as grammar;
+ghost use Rattle.wdl_parse_doc.specs.Reading.Tasks as spec;
+
+use crate::declaration::{inputs, outputs};
+use crate::metadata::metadata;
+use crate::part::{Part, read_braced};
+use crate::statement::statement;
+use crate::token::{missing, take_name};
+use std::alloc::Global;
+use wdl_ast::{Mark, Workflow, WorkflowElement};
+use wdl_parse_expr::{Cursor, Stop};
+use wdl_value::Span;
+
+/// Reads a section of a workflow, or a statement.
+#[tactic(auto, using(std::proofs::lemmas::Grind::common_steps), unfolding(wdl_parse_expr::specs::Outcome::then_, wdl_parse_expr::specs::Outcome::found, crate::specs::Reading::Tasks::workflow_element))]
+fn workflow_element(alloc: Global, tokens: &mut Cursor<'_>) -> Result<WorkflowElement, Stop>
+    ensures { Reads (spec.workflow_element tokens.old) result tokens.new }
+{
+    if let Some(keyword) = tokens.eat_word("input") {
+        return Ok(WorkflowElement::Input(inputs(alloc, tokens, keyword)?));
+    }
+    if let Some(keyword) = tokens.eat_word("output") {
+        return Ok(WorkflowElement::Output(outputs(alloc, tokens, keyword)?));
+    }
+    if let Some(keyword) = tokens.eat_word("meta") {
+        return Ok(WorkflowElement::Meta(metadata(alloc, tokens, keyword)?));
+    }
+    if let Some(keyword) = tokens.eat_word("parameter_meta") {
+        return Ok(WorkflowElement::ParameterMeta(metadata(alloc, tokens, keyword)?));
+    }
+    Ok(WorkflowElement::Statement(statement(alloc, tokens)?))
+}
+
+impl Part for WorkflowElement {
+    ghost use Rattle.wdl_parse_doc.specs.Reading.Parts as parts;
+    ghost use Rattle.wdl_parse_doc.specs.Reading.Tasks as spec;
+    ghost use Rattle.wdl_ast.specs.declared.token.Mark.TheVariants as mark;
+
+    ghost reading = { parts.until mark.CloseBrace spec.workflow_element };
+
+    #[tactic(auto, using(std::proofs::lemmas::Grind::common_steps), unfolding(wdl_parse_expr::specs::Outcome::then_, wdl_parse_expr::specs::Outcome::found, crate::specs::Reading::Parts::until))]
+    fn read(alloc: Global, tokens: &mut Cursor<'_>) -> Result<Option<WorkflowElement>, Stop> {
+        if tokens.sees(Mark::CloseBrace) {
+            return Ok(None);
+        }
+        Ok(Some(workflow_element(alloc, tokens)?))
+    }
+}
+
+fn at_most_one_input(elements: &[WorkflowElement]) -> bool
+    ensures { result ≡ grammar.at_most_one grammar.is_flow_input elements.now }
+{
+    let count = elements
+        .iter()
+        .filter(|e| matches!(e, WorkflowElement::Input(_)))
+        .count();
+    count <= 1
+}
+
+fn at_most_one_output(elements: &[WorkflowElement]) -> bool
+    ensures { result ≡ grammar.at_most_one grammar.is_flow_output elements.now }
+{
+    let count = elements
+        .iter()
+        .filter(|e| matches!(e, WorkflowElement::Output(_)))
+        .count();
+    count <= 1
+}
+
+fn at_most_one_meta(elements: &[WorkflowElement]) -> bool
+    ensures { result ≡ grammar.at_most_one grammar.is_flow_meta elements.now }
+{
+    let count = elements
+        .iter()
+        .filter(|e| matches!(e, WorkflowElement::Meta(_)))
+        .count();
+    count <= 1
+}
+
+fn at_most_one_parameter_meta(elements: &[WorkflowElement]) -> bool
+    ensures { result ≡ grammar.at_most_one grammar.is_flow_parameter_meta elements.now }
+{
+    let count = elements
+        .iter()
+        .filter(|e| matches!(e, WorkflowElement::ParameterMeta(_)))
+        .count();
+    count <= 1
+}
+
+/// Whether each section stands at most once.
+#[tactic(auto, unfolding(crate::specs::Grammar::are_workflow_sections))]
+fn are_workflow_sections(elements: &[WorkflowElement]) -> bool
+    ensures { result ≡ grammar.are_workflow_sections elements.now }
+{
+    at_most_one_input(elements)
+        && at_most_one_output(elements)
+        && at_most_one_meta(elements)
+        && at_most_one_parameter_meta(elements)
+}
+
+/// Reads a workflow, behind its word.
+#[tactic(auto, using(std::proofs::lemmas::Grind::common_steps), unfolding(wdl_parse_expr::specs::Outcome::then_, wdl_parse_expr::specs::Outcome::found, crate::specs::Reading::Tasks::workflow))]
+pub fn workflow(alloc: Global, tokens: &mut Cursor<'_>, keyword: Span) -> Result<Workflow, Stop>
+    ensures { Reads (spec.workflow keyword tokens.old) result tokens.new }
+{
+    let name = take_name(alloc, tokens)?;
+    let braced = read_braced::<WorkflowElement>(alloc, tokens)?;
+    if are_workflow_sections(braced.items.as_slice()) {
+        return Ok(Workflow {
+            keyword,
+            name,
+            opening: braced.opening,
+            elements: braced.items,
+            closing: braced.closing,
+        });
+    }
+    missing()
+}

@@ -1,0 +1,188 @@
+use sqlite_items::Items;
+use std::alloc::Global;
+use std::test::Fail;
+use wdl_ast::{Fence, HoleMark, Kind, Mark, Quote, Token, tokens_of};
+use wdl_parse_doc::{ParseFault, one_document_of_tokens, parse};
+use wdl_value::{NoMemory, Span, Text};
+
+fn mark(piece: &str) -> Option<Mark> {
+    Some(match piece {
+        "{" => Mark::OpenBrace,
+        "}" => Mark::CloseBrace,
+        "[" => Mark::OpenBracket,
+        "]" => Mark::CloseBracket,
+        "(" => Mark::OpenParen,
+        ")" => Mark::CloseParen,
+        "," => Mark::Comma,
+        ":" => Mark::Colon,
+        "." => Mark::Dot,
+        "=" => Mark::Assign,
+        "?" => Mark::Question,
+        "+" => Mark::Plus,
+        "-" => Mark::Minus,
+        _ => return None,
+    })
+}
+
+fn text(alloc: Global, piece: &str) -> Result<Text, NoMemory> {
+    match Text::new(alloc, piece) {
+        Ok(text) => Ok(text),
+        Err(_) => Err(NoMemory),
+    }
+}
+
+/// The token that a piece of a row stands for: `"` and `;` begin and end a string, `#` is characters, `~` and `!` begin and
+/// end a placeholder, and `<<<` and `>>>` a command.
+fn kind(alloc: Global, piece: &str) -> Result<Kind, NoMemory> {
+    if let Some(mark) = mark(piece) {
+        return Ok(Kind::Mark(mark));
+    }
+    Ok(match piece {
+        "1.0" | "1.1" | "2.5" => Kind::Frac(text(alloc, piece)?),
+        "1" => Kind::Int(1),
+        "\"" => Kind::StrOpen(Quote::Double),
+        ";" => Kind::StrClose,
+        "#" => Kind::Chars(text(alloc, piece)?),
+        "~" => Kind::HoleOpen(HoleMark::Tilde),
+        "!" => Kind::HoleClose,
+        "<<<" => Kind::CommandOpen(Fence::Angle),
+        ">>>" => Kind::CommandClose,
+        _ => Kind::Word(text(alloc, piece)?),
+    })
+}
+
+/// A token for each piece between blanks, whose span starts at the number of the piece.
+fn tokens(alloc: Global, row: &str) -> Result<Items<Token>, NoMemory> {
+    let mut tokens = Items::new(alloc);
+    let mut start: u32 = 0;
+    for piece in row.split_ascii_whitespace() {
+        let kind = kind(alloc, piece)?;
+        let span = Span {
+            doc: 0,
+            start,
+            end: start,
+        };
+        start = start.saturating_add(1);
+        tokens.push(Token { span, kind })?;
+    }
+    Ok(tokens)
+}
+
+/// The number of the tokens that the document stands for, or what is wrong and where.
+fn reading(alloc: Global, row: &str) -> Result<String, Fail> {
+    let tokens = tokens(alloc, row)?;
+    match parse(alloc, tokens.as_slice()) {
+        Ok(document) => {
+            let words = tokens_of(alloc, &document)?;
+            if words.len() == tokens.len() {
+                Ok(format!(in alloc; "ok")?)
+            } else {
+                Ok(format!(in alloc; "other tokens")?)
+            }
+        }
+        Err(ParseFault::Bad { code, span }) => Ok(format!(in alloc; "{code} at {}", span.start)?),
+        Err(ParseFault::NoMemory) => Ok(format!(in alloc; "no memory")?),
+    }
+}
+
+/// Versions, imports and structs, behind `¦` what they give.
+const SECTIONS: &str = "\
+¦112 at 0¶version¦112 at 0¶version 1.0¦112 at 1¶task 1.1¦112 at 0¶\
+version 1.1¦ok¶version 1.1 }¦110 at 2¶version 1.1 import a¦110 at 3¶\
+version 1.1 import \" # ; import \" ; as a alias B as C alias D as E struct F { } import \" ;¦ok¶\
+version 1.1 import \" # ~ a ! ;¦110 at 5¶version 1.1 import \" ; as¦110 at 5¶version 1.1 import \" ; alias B C¦110 at 7¶\
+version 1.1 struct S { Int a S ? b Array [ Array [ S ] + ] ? c Map [ String , File ] d Pair [ Boolean , Int ] e }¦ok¶\
+version 1.1 struct S { Int }¦110 at 6¶version 1.1 struct task { }¦110 at 3¶\
+version 1.1 struct S { Float a }¦120 at 5¶version 1.1 struct S { Array [ Object ] a }¦121 at 7¶\
+version 1.1 struct S { Array [ Array [ Array [ Array [ Array [ Array [ Array [ Int ] ] ] ] ] ] ] a }¦ok¶\
+version 1.1 struct S { Array [ Array [ Array [ Array [ Array [ Array [ Array [ Array [ Int ] ] ] ] ] ] ] ] a }¦111 at 21";
+
+/// Tasks; a row is behind `version 1.1 task t {`.
+const TASKS: &str = "\
+command <<< >>> }¦ok¶}¦110 at 5¶command <<< >>> command <<< >>> }¦110 at 11¶\
+runtime { a : 1 , Float : \" ; object : [ 1 , ] } meta { } parameter_meta { } output { } input { } command <<< # ~ sep = \" # ; a ! # >>> Int a = 1 }¦ok¶\
+input { Int a String ? b = c File d = f ( b ) after e } Int x = 1 command <<< >>> after y = 1 }¦ok¶\
+input { } input { } command <<< >>> }¦110 at 14¶output { } output { } command <<< >>> }¦110 at 14¶\
+runtime { } runtime { } command <<< >>> }¦110 at 14¶runtime { a 1 } command <<< >>> }¦110 at 8¶\
+output { Int a } command <<< >>> }¦110 at 9¶\
+meta { a : null b : true , c : - 2.5 d : \" # ; e : { f : [ 1 , { } , [ ] , ] input : 1 } } command <<< >>> }¦ok¶\
+meta { a : [ 1 1 ] } command <<< >>> }¦110 at 13¶meta { a : None } command <<< >>> }¦110 at 9¶\
+command <<< ~ 2.5 ! >>> }¦120 at 8¶output { Int a = size ( b ) } command <<< >>> }¦120 at 10";
+
+/// Workflows; a row is behind `version 1.1 workflow w {`.
+const WORKFLOWS: &str = "\
+}¦ok¶input { } output { } meta { } parameter_meta { } }¦ok¶meta { } meta { } }¦110 at 11¶runtime { } }¦110¶command <<< >>> }¦110¶\
+call a call a . b call a as b call a after b after c call a { } call a { input : } call a . b as c after d { input : e , f = 1 , } Int x = 1 }¦ok¶\
+call a after y = 1 call a after ? y = 1 call a after b after y = 1 }¦ok¶call a { input : b c }¦110 at 12¶call a { b = 1 } }¦110 at 8¶call a as }¦110 at 8¶\
+scatter ( a in b ) { if ( c ) { call d Int e = 1 scatter ( f in [ 1 ] ) { } } } if ( true ) { } }¦ok¶\
+scatter ( a in b ) { input { } } }¦110¶scatter ( a b ) { } }¦110 at 8¶if ( a ) { }¦110 at 10¶if a { } }¦110 at 6¶\
+Float x = 1.0 }¦120 at 5¶Int x = object { } }¦121 at 8¶String x = sub ( \" # ; , \" # ; , \" # ; ) }¦122 at 8¶Int x = size ( y ) }¦120 at 8¶\
+Int x = read_json ( y ) }¦123 at 8¶Int x = 1.0 }¦120 at 8";
+
+/// Whether that answer is the one of a row. A row that says only `110` leaves its place open.
+fn is_as(got: &str, want: &str) -> bool {
+    got == want || want == "110" && got.starts_with("110 at ")
+}
+
+/// The first row that is read otherwise than it says; empty where there is none.
+fn misread(alloc: Global, start: &str, rows: &str) -> Result<String, Fail> {
+    for row in rows.split('¶') {
+        let (text, want) = row.split_once('¦').unwrap_or((row, "no row"));
+        let document = format!(in alloc; "{start} {text}")?;
+        let got = reading(alloc, document.as_str())?;
+        if !is_as(got.as_str(), want) {
+            return Ok(format!(in alloc; "{row} gives {got}")?);
+        }
+    }
+    Ok(String::new(alloc))
+}
+
+#[test]
+fn documents_are_read_by_the_grammar(rt: HostRuntime) -> Result<(), Fail> {
+    let alloc = rt.alloc();
+    one_document_of_tokens();
+    assert_eq!(rt; misread(alloc, "", SECTIONS)?.as_str(), "");
+    assert_eq!(rt; misread(alloc, "version 1.1 task t {", TASKS)?.as_str(), "");
+    assert_eq!(rt;
+        misread(alloc, "version 1.1 workflow w {", WORKFLOWS)?.as_str(),
+        ""
+    );
+    Ok(())
+}
+
+/// A workflow with a part that stands in itself so often.
+fn nested(
+    alloc: Global,
+    start: &str,
+    open: &str,
+    close: &str,
+    count: usize,
+) -> Result<String, NoMemory> {
+    let mut text = String::new(alloc);
+    text.push_str("version 1.1 workflow w { ")?;
+    text.push_str(start)?;
+    text.push_str(open.repeat(alloc, count)?.as_str())?;
+    text.push_str(close.repeat(alloc, count)?.as_str())?;
+    text.push_str(if start.is_empty() { "}" } else { "} }" })?;
+    Ok(text)
+}
+
+#[test]
+fn parts_in_one_another_are_read_within_their_limits(rt: HostRuntime) -> Result<(), Fail> {
+    let alloc = rt.alloc();
+    for (start, open, close, count, want) in [
+        ("meta { a : ", "[ ", "] ", 64, "ok"),
+        ("meta { a : ", "[ ", "] ", 65, "111 at 73"),
+        ("meta { a : ", "{ a : ", "} ", 65, "111 at 201"),
+        ("", "Int a = 1 call b ", "", 2_000, "ok"),
+        ("", "if ( a ) { ", "} ", 2_000, "ok"),
+        ("", "scatter ( a in b ) { ", "", 2_000, "110"),
+        ("", "Array [ ", "", 2_000, "111 at 21"),
+        ("", "Int a = ( ", "", 2_000, "110"),
+    ] {
+        let text = nested(alloc, start, open, close, count)?;
+        let got = reading(alloc, text.as_str())?;
+        assert!(rt; is_as(got.as_str(), want), "{start}{open} gives {got}");
+    }
+    Ok(())
+}
