@@ -47,6 +47,7 @@ pub fn item_of(alloc: Global, value: &Value, index: &Value) -> Result<Value, Nod
     copied(alloc, indexed(value, index)?)
 }
 
+/// The negation of a Boolean.
 pub fn not_of(value: &Value) -> Result<Value, NodeFault>
     ensures { Meets (within (spec.not_at (out-Value value.now))) result }
 {
@@ -83,6 +84,7 @@ pub fn operated(alloc: Global, op: Op, left: &Value, right: &Value) -> Result<Va
     given(operate(alloc, op, left, right))
 }
 
+/// A pair of two values, within the limits of a value.
 pub fn pair_of(alloc: Global, left: Value, right: Value) -> Result<Value, NodeFault>
     ensures { Meets (within (Ok (v.Pair left right))) result }
 {
@@ -99,6 +101,7 @@ pub fn map_of(alloc: Global, rows: Items<MapRow<Value>>) -> Result<Value, NodeFa
     Err(NodeFault::Code(EvalCode::RepeatedKey))
 }
 
+/// A struct of the values of its fields, within the limits of a value.
 pub fn struct_of(
     alloc: Global,
     name: &Name,
@@ -122,6 +125,7 @@ pub fn applied(
     given(apply(alloc, f, args.as_slice(), setting.dir, setting.answer))
 }
 
+/// A value cast to a type: an empty list is no `Array[T]+` (code 505).
 pub fn cast_to(alloc: Global, value: &Value, t: &Ty) -> Result<Value, NodeFault>
     ensures { Meets (within (spec.from_cast (cast_value value.now t.now))) result }
 {

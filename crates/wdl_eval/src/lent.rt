@@ -23,6 +23,7 @@ pub enum Found<'a> {
 }
 
 impl Found<'_> {
+    /// The value, lent or kept.
     pub fn get(&self) -> &Value
         ensures { result.now ≡ held self.now }
     {

@@ -21,6 +21,7 @@ fn leaf(alloc: Global, word: &str) -> Result<TExpr, Fail> {
     }
 }
 
+/// The key of `x` or `x.y`.
 pub fn key(alloc: Global, name: &str) -> Result<Key, Fail> {
     match name.split_once('.') {
         Some((first, second)) => Ok(Key {

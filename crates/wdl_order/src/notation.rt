@@ -36,6 +36,7 @@ fn expression(alloc: Global, names: &str) -> Result<TExpr, Fail> {
     Ok(TExpr::ListOf(items))
 }
 
+/// A declaration as its word has it.
 pub fn declaration(alloc: Global, word: &str, at: usize) -> Result<TDecl, Fail> {
     let (name, names) = word.split_once('=').unwrap_or((word, ""));
     Ok(TDecl {
@@ -46,6 +47,7 @@ pub fn declaration(alloc: Global, word: &str, at: usize) -> Result<TDecl, Fail> 
     })
 }
 
+/// An input as its word has it.
 pub fn input(alloc: Global, word: &str, at: usize) -> Result<TInput, Fail> {
     let (name, value) = match word.split_once('=') {
         Some((name, names)) => (name, Some(expression(alloc, names)?)),
@@ -109,6 +111,7 @@ fn top(alloc: Global, open: &mut Vec<Items<Statement>>) -> Items<Statement> {
     open.pop().unwrap_or(Items::new(alloc))
 }
 
+/// The statements that a line stands for.
 pub fn statements(alloc: Global, text: &str) -> Result<Items<Statement>, Fail> {
     let mut open = Vec::new(alloc);
     for word in text.split(' ') {

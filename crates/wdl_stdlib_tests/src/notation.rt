@@ -93,6 +93,7 @@ fn read(
     }
 }
 
+/// The values that a line stands for.
 pub fn values(alloc: Global, text: &str) -> Result<Vec<Value>, Fail> {
     let mut round = Vec::new(alloc);
     let mut frame = Frame::new(alloc);

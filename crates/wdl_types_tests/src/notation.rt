@@ -38,6 +38,7 @@ fn made(alloc: Global, types: &mut Vec<Ty>, word: &str) -> Result<Ty, NoMemory> 
     }
 }
 
+/// The types that a line stands for.
 pub fn types(alloc: Global, text: &str) -> Result<Vec<Ty>, Fail> {
     let mut types = Vec::new(alloc);
     for word in text.split(' ') {

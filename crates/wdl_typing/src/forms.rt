@@ -58,6 +58,7 @@ pub fn is_type(t: &Option<Ty>, u: &Ty) -> bool
     }
 }
 
+/// The type of `!` before an operand of that type.
 pub fn not_type(t: Option<Ty>) -> Option<Ty>
     ensures { result ≡ option_and_then (λ t. spec.when (kinds.is_bool t) ty.Bool) t }
 {
@@ -67,6 +68,7 @@ pub fn not_type(t: Option<Ty>) -> Option<Ty>
     None
 }
 
+/// The type of `-` before an operand of that type.
 pub fn neg_type(t: Option<Ty>) -> Option<Ty>
     ensures { result ≡ option_and_then (λ t. spec.when (kinds.is_int t) ty.Int) t }
 {
@@ -115,6 +117,7 @@ pub fn binary_type(
     }
 }
 
+/// The type of `if c then t else u`, whose branches have one type.
 pub fn choose_type(c: Option<Ty>, t: Option<Ty>, u: Option<Ty>) -> Option<Ty>
     ensures { result ≡ option_and_then (λ b. spec.both (λ t u. spec.when (kinds.is_bool b && same.same_type t u) t) t u) c }
 {
@@ -208,6 +211,7 @@ pub fn map(
     }
 }
 
+/// The type of a pair of parts of these types.
 pub fn pair(alloc: Global, t: Option<Ty>, u: Option<Ty>) -> Result<Option<Ty>, NoMemory>
     ensures { IfOk result (λ r. r ≡ spec.both (λ t u. Option.Some (ty.Pair t u)) t u) }
 {

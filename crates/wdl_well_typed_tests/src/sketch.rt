@@ -24,6 +24,7 @@ pub struct Sketch {
     bodies: Vec<Items<Statement>>,
 }
 
+/// The name with that text.
 pub fn name_of(alloc: Global, text: &str) -> Result<Name, NoMemory> {
     match Name::new(alloc, text) {
         Ok(name) => Ok(name),

@@ -248,6 +248,7 @@ impl<F: Fn(Global, &mut Cursor<'_>, usize, Rule) -> Result<Tall<Expr>, Stop>> Gr
         }
     }
 
+    /// A literal, a name, a call, a string, or what stands in brackets.
     #[tactic(auto, using(std::proofs::lemmas::Grind::common_steps), unfolding(crate::specs::Reading::primary))]
     pub fn primary(&self, tokens: &mut Cursor<'_>) -> Result<Tall<Expr>, Stop>
         requires { Nests self.now.depth (F.pre self.now.expr) (F.post self.now.expr) }
