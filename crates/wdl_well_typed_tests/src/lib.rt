@@ -4,5 +4,3 @@
 
 #[cfg(test)]
 mod libraries;
-#[cfg(test)]
-mod sketch;
