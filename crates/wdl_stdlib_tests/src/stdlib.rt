@@ -1,7 +1,7 @@
 use crate::notation::{is, values};
 use std::alloc::Global;
 use std::test::Fail;
-use wdl_stdlib::{EvalFault, apply, negate, operate};
+use wdl_stdlib::{apply, negate, operate};
 use wdl_value::{Answer, Body, Func, Items, Op, Seen, Text, Value};
 
 // ---- operators
@@ -227,23 +227,11 @@ fn of_many(alloc: Global, f: Func, x: &Value, expected: &str) -> Result<bool, Fa
     )
 }
 
-/// What a list of 100,000 numbers and one of so many are together.
-fn flattened(alloc: Global, more: usize) -> Result<Result<Value, EvalFault>, Fail> {
-    let mut lists = Items::new(alloc);
-    lists.push(many(alloc, 100_000, &Value::Int(1))?)?;
-    lists.push(many(alloc, more, &Value::Int(1))?)?;
-    let dir = Text::new(alloc, "/d/say")?;
-    Ok(apply(alloc, Func::Flatten, &[Value::List(lists)], &dir, None))
-}
-
 #[test]
 fn what_is_past_a_limit_is_not_built(rt: HostRuntime) -> Result<(), Fail> {
     let alloc = rt.alloc();
     let most = many(alloc, 100_000, &Value::Int(1))?;
     assert!(rt; of_many(alloc, Func::Cross, &most, "TooLarge")?);
-    let two = many(alloc, 2, &Value::Int(1))?;
-    assert!(rt; of_many(alloc, Func::Cross, &two, "TooLarge")?);
-    assert!(rt; is(alloc, flattened(alloc, 1)?, "TooLarge")?);
     let megabyte = long(alloc, 1_048_576)?;
     assert!(rt; of_many(alloc, Func::Prefix, &megabyte, "TooLarge")?);
     assert!(rt; of_many(alloc, Func::Suffix, &megabyte, "TooLarge")?);
@@ -263,12 +251,6 @@ fn the_largest_values_are_made(rt: HostRuntime) -> Result<(), Fail> {
     let dir = Text::new(alloc, "/d/say")?;
     let most = apply(alloc, Func::Range, &[Value::Int(100_000)], &dir, None);
     assert!(rt; most.is_ok());
-    let crossed = [
-        many(alloc, 1, &Value::Int(1))?,
-        many(alloc, 100_000, &Value::Int(1))?,
-    ];
-    assert!(rt; apply(alloc, Func::Cross, &crossed, &dir, None).is_ok());
-    assert!(rt; flattened(alloc, 0)?.is_ok());
     let text = long(alloc, 4_194_303)?;
     assert!(rt; sum_is(alloc, &text, "", true)?);
     assert!(rt; sum_is(alloc, &text, "a", false)?);
