@@ -1,0 +1,8 @@
+pub mod Calls
+pub mod Counts
+pub mod Members
+pub mod Readiness
+pub mod Soundness
+pub mod Statuses
+pub mod Tells
+pub mod Views
