@@ -1,0 +1,5 @@
+pub mod Reading
+pub mod Writing
+pub mod Ordered
+pub mod Formed
+pub mod Laws

@@ -1,0 +1,10 @@
+use Rattle.std.proofs.Common.{◌≡◌, drop}
+use Rattle.serde_json.specs.View.{items_view, members_view}
+use Rattle.serde_json.specs.Written.{items_have_float, members_have_float}
+use Rattle.wdl_json.proofs.float.+float.Given as goal
+
+abbrev pub invariant-items_hold_float-loop-item : goal.invariant-items_hold_float-loop-item
+invariant-items_hold_float-loop-item l = items_have_float (items_view (drop l.item-index l.items)) ≡ items_have_float (items_view l.items)
+
+abbrev pub invariant-members_hold_float-loop-json : goal.invariant-members_hold_float-loop-json
+invariant-members_hold_float-loop-json l = members_have_float (members_view l.json-iterator) ≡ members_have_float (members_view l.members.entries)

@@ -1,0 +1,4 @@
+pub mod Sooner
+pub mod Inputs
+pub mod Outputs
+pub mod Laws
