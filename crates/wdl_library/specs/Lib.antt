@@ -1,0 +1,5 @@
+pub mod Sections
+pub mod Imports
+pub mod Links
+pub mod Names
+pub mod Structs

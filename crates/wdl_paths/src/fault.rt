@@ -1,0 +1,37 @@
+ghost use Rattle.std.specs.Prelude.{◌≡◌};
+ghost use Rattle.wdl_paths.specs.declared.fault.ResolveFault.TheVariants.{NoMemory as OutOfMemory};
+
+use std::alloc::{AllocError, AllocFailed};
+use wdl_base::NoMemory;
+
+/// Why a uri has no path.
+#[derive(Clone, Copy, Debug, PartialEq, Eq)]
+pub enum ResolveFault {
+    /// The uri names a scheme: it holds `://`. Nothing is imported over a network.
+    Scheme,
+    NoMemory,
+}
+
+impl From<NoMemory> for ResolveFault {
+    ghost from_gives = { λ _ e. e ≡ OutOfMemory };
+
+    fn from(_e: NoMemory) -> ResolveFault {
+        ResolveFault::NoMemory
+    }
+}
+
+impl From<AllocError> for ResolveFault {
+    ghost from_gives = { λ _ e. e ≡ OutOfMemory };
+
+    fn from(_e: AllocError) -> ResolveFault {
+        ResolveFault::NoMemory
+    }
+}
+
+impl<T: Drop> From<AllocFailed<T>> for ResolveFault {
+    ghost from_gives = { λ _ e. e ≡ OutOfMemory };
+
+    fn from(_e: AllocFailed<T>) -> ResolveFault {
+        ResolveFault::NoMemory
+    }
+}

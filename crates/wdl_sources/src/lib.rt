@@ -1,0 +1,10 @@
+//! Reads a WDL 1.1 document and all documents that its imports lead to.
+#![tactic(auto)]
+
+mod fault;
+mod source;
+mod walk;
+
+pub use fault::ImportFault;
+pub use source::{Source, SourceFault};
+pub use walk::{Step, read_all};
