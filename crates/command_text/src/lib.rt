@@ -10,6 +10,3 @@ mod marked;
 pub use dedenting::dedent;
 pub use error::FillFault;
 pub use filling::fill;
-
-#[cfg(test)]
-mod tests;

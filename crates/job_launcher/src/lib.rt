@@ -6,8 +6,6 @@ mod collect;
 mod directory;
 mod listing;
 mod shell;
-#[cfg(test)]
-mod tests;
 mod trouble;
 
 pub use shell::ShellLauncher;

@@ -7,14 +7,10 @@ mod givers;
 mod least;
 mod member;
 mod needing;
-#[cfg(test)]
-mod notation;
 mod ordering;
 mod picking;
 mod referring;
 mod rows;
-#[cfg(test)]
-mod tests;
 mod uses;
 mod working;
 

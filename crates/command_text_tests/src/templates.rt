@@ -1,7 +1,7 @@
 ghost use Rattle.std.specs.Prelude.{◌≡◌, IfOk};
 ghost use Rattle.wdl_base.specs.Templates.{HasPieces};
 
-use crate::{FillFault, dedent, fill};
+use command_text::{FillFault, dedent, fill};
 use std::alloc::Global;
 use std::test::Fail;
 use wdl_value::{Items, NoMemory, Part, Template, Text};

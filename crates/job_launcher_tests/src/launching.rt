@@ -1,5 +1,5 @@
 //! A command that is really run.
-use crate::ShellLauncher;
+use job_launcher::ShellLauncher;
 use sqlite_items::Items;
 use std::alloc::Global;
 use std::fs::Files;
