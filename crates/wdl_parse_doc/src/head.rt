@@ -12,7 +12,6 @@ use wdl_parse_expr::{Cursor, Stop, read_expr};
 use wdl_value::Span;
 
 /// `scatter (item in over) {`.
-#[derive(Drop)]
 pub struct ScatterHead {
     pub keyword: Span,
     pub opening_paren: Span,
@@ -24,13 +23,93 @@ pub struct ScatterHead {
 }
 
 /// `if (condition) {`.
-#[derive(Drop)]
 pub struct ConditionalHead {
     pub keyword: Span,
     pub opening_paren: Span,
     pub condition: Expr,
     pub closing_paren: Span,
     pub opening: Span,
+}
+
+/// One call wherever a head is let go: the glue of its expression stands here, and not at each early return.
+impl Drop for ScatterHead {
+    fn drop(self) {
+        let ScatterHead {
+            keyword: _keyword,
+            opening_paren: _opening_paren,
+            item,
+            in_word: _in_word,
+            over,
+            closing_paren: _closing_paren,
+            opening: _opening,
+        } = self;
+        drop(item);
+        drop(over);
+    }
+}
+
+impl ScatterHead {
+    fn closed(self, body: Items<Statement>, closing: Span) -> Scatter<Statement>
+        ensures { result ≡ spec.closed_scatter self body closing }
+    {
+        let ScatterHead {
+            keyword,
+            opening_paren,
+            item,
+            in_word,
+            over,
+            closing_paren,
+            opening,
+        } = self;
+        Scatter {
+            keyword,
+            opening_paren,
+            item,
+            in_word,
+            over,
+            closing_paren,
+            opening,
+            body,
+            closing,
+        }
+    }
+}
+
+/// One call, as for the head of a scatter.
+impl Drop for ConditionalHead {
+    fn drop(self) {
+        let ConditionalHead {
+            keyword: _keyword,
+            opening_paren: _opening_paren,
+            condition,
+            closing_paren: _closing_paren,
+            opening: _opening,
+        } = self;
+        drop(condition);
+    }
+}
+
+impl ConditionalHead {
+    fn closed(self, body: Items<Statement>, closing: Span) -> Conditional<Statement>
+        ensures { result ≡ spec.closed_conditional self body closing }
+    {
+        let ConditionalHead {
+            keyword,
+            opening_paren,
+            condition,
+            closing_paren,
+            opening,
+        } = self;
+        Conditional {
+            keyword,
+            opening_paren,
+            condition,
+            closing_paren,
+            opening,
+            body,
+            closing,
+        }
+    }
 }
 
 /// The head of a block.
@@ -101,25 +180,7 @@ pub fn closed(head: BlockHead, body: Items<Statement>, closing: Span) -> Stateme
     ensures { result ≡ spec.closed head body closing }
 {
     match head {
-        BlockHead::Scatter(head) => Statement::Scatter(Scatter {
-            keyword: head.keyword,
-            opening_paren: head.opening_paren,
-            item: head.item,
-            in_word: head.in_word,
-            over: head.over,
-            closing_paren: head.closing_paren,
-            opening: head.opening,
-            body,
-            closing,
-        }),
-        BlockHead::Conditional(head) => Statement::Conditional(Conditional {
-            keyword: head.keyword,
-            opening_paren: head.opening_paren,
-            condition: head.condition,
-            closing_paren: head.closing_paren,
-            opening: head.opening,
-            body,
-            closing,
-        }),
+        BlockHead::Scatter(head) => Statement::Scatter(head.closed(body, closing)),
+        BlockHead::Conditional(head) => Statement::Conditional(head.closed(body, closing)),
     }
 }

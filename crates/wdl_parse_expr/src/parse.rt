@@ -92,7 +92,7 @@ pub fn parse_expr(alloc: Global, tokens: &[Token], at: usize) -> Result<ParsedEx
         Ok(tall) => {
             let left = cursor.len();
             Ok(ParsedExpr {
-                expr: tall.tree,
+                expr: tall.into_tree(),
                 next: tokens.len() - left,
             })
         }

@@ -20,7 +20,7 @@ pub fn read_expr(alloc: Global, tokens: &mut Cursor<'_>) -> Result<Expr, Stop>
     ensures { Reads (contract.read_expr tokens.old) result tokens.new }
 {
     let tall = expr(alloc, tokens, MAX_DEPTH, Rule::Expr)?;
-    Ok(tall.tree)
+    Ok(tall.into_tree())
 }
 
 /// Reads the longest type at the cursor, of a depth of at most 8.
@@ -42,5 +42,5 @@ pub fn read_parts(alloc: Global, tokens: &mut Cursor<'_>) -> Result<Items<String
         expr,
     };
     let parts = grammar.parts(tokens)?;
-    Ok(parts.tree)
+    Ok(parts.into_tree())
 }

@@ -1,12 +1,37 @@
+ghost use Rattle.std.specs.Prelude.{◌≡◌};
+
 use sqlite_items::Items;
 use wdl_ast::{Expr, ListItem};
 use wdl_value::Span;
 
 /// A tree with its depth.
-#[derive(Drop)]
 pub struct Tall<T> {
     pub tree: T,
     pub depth: usize,
+}
+
+/// One call wherever a tree is let go: the glue of a large enum stands here, and not at each early return.
+impl<T: Drop> Drop for Tall<T> {
+    fn drop(self) {
+        let Tall {
+            tree,
+            depth: _depth,
+        } = self;
+        drop(tree);
+    }
+}
+
+impl<T> Tall<T> {
+    /// The tree alone.
+    pub fn into_tree(self) -> T
+        ensures { result ≡ self.tree }
+    {
+        let Tall {
+            tree,
+            depth: _depth,
+        } = self;
+        tree
+    }
 }
 
 /// The elements of a list up to its closing mark, with the depth of the deepest.

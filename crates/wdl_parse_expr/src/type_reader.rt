@@ -18,9 +18,9 @@ use wdl_value::{Name, NameFault, NoMemory, Span, Text};
 #[derive(Drop)]
 pub struct Two<T> {
     pub opening: Span,
-    pub left: T,
+    pub left: Boxed<T>,
     pub comma: Span,
-    pub right: T,
+    pub right: Boxed<T>,
     pub closing: Span,
 }
 
@@ -58,11 +58,12 @@ fn questions(alloc: Global, tokens: &mut Cursor<'_>) -> Result<Items<Span>, NoMe
 }
 
 impl<F: Fn(Global, &mut Cursor<'_>, usize) -> Result<TypeTree, Stop>> TypeReader<F> {
-    fn inner(&self, tokens: &mut Cursor<'_>) -> Result<TypeTree, Stop>
+    fn inner(&self, tokens: &mut Cursor<'_>) -> Result<Boxed<TypeTree>, Stop>
         requires { NestsTypes self.now.depth (F.pre self.now.inner) (F.post self.now.inner) }
         ensures { Reads (spec.type_at self.now.depth tokens.old) result tokens.new }
     {
-        (self.inner)(self.alloc, tokens, self.depth)
+        let ty = (self.inner)(self.alloc, tokens, self.depth)?;
+        Ok(Boxed::new(self.alloc, ty)?)
     }
 
     #[tactic(auto, using(std::proofs::lemmas::Grind::common_steps), unfolding(crate::specs::Outcome::then_, crate::specs::Outcome::found, crate::specs::TypeReading::array))]
@@ -77,7 +78,6 @@ impl<F: Fn(Global, &mut Cursor<'_>, usize) -> Result<TypeTree, Stop>> TypeReader
         let Some(closing) = tokens.eat(Mark::CloseBracket) else {
             return missing();
         };
-        let item = Boxed::new(self.alloc, item)?;
         let plus = optional(tokens, Mark::Plus);
         Ok(BaseType::Array {
             word,
@@ -121,9 +121,9 @@ impl<F: Fn(Global, &mut Cursor<'_>, usize) -> Result<TypeTree, Stop>> TypeReader
         Ok(BaseType::Map {
             word,
             opening: two.opening,
-            key: Boxed::new(self.alloc, two.left)?,
+            key: two.left,
             comma: two.comma,
-            value: Boxed::new(self.alloc, two.right)?,
+            value: two.right,
             closing: two.closing,
         })
     }
@@ -136,9 +136,9 @@ impl<F: Fn(Global, &mut Cursor<'_>, usize) -> Result<TypeTree, Stop>> TypeReader
         Ok(BaseType::Pair {
             word,
             opening: two.opening,
-            left: Boxed::new(self.alloc, two.left)?,
+            left: two.left,
             comma: two.comma,
-            right: Boxed::new(self.alloc, two.right)?,
+            right: two.right,
             closing: two.closing,
         })
     }

@@ -42,10 +42,16 @@ head_at ts = found (eat_word (codes "scatter") ts) (λ k rest. there (scatter_he
     (found (eat_word (codes "if") ts) (λ k rest. there (conditional_head k rest))
     (Ok (None, ts)))
 
+abbrev pub closed_scatter : ScatterHead → List Statement → Span → Scatter Statement
+closed_scatter h xs c = record { keyword = h.keyword; opening_paren = h.opening_paren; item = h.item; in_word = h.in_word; over = h.over; closing_paren = h.closing_paren; opening = h.opening; body = xs; closing = c }
+
+abbrev pub closed_conditional : ConditionalHead → List Statement → Span → Conditional Statement
+closed_conditional h xs c = record { keyword = h.keyword; opening_paren = h.opening_paren; condition = h.condition; closing_paren = h.closing_paren; opening = h.opening; body = xs; closing = c }
+
 -- the block of a head
 abbrev pub closed : BlockHead → List Statement → Span → Statement
-closed (head.Scatter h) xs c = st.Scatter (record { keyword = h.keyword; opening_paren = h.opening_paren; item = h.item; in_word = h.in_word; over = h.over; closing_paren = h.closing_paren; opening = h.opening; body = xs; closing = c })
-closed (head.Conditional h) xs c = st.Conditional (record { keyword = h.keyword; opening_paren = h.opening_paren; condition = h.condition; closing_paren = h.closing_paren; opening = h.opening; body = xs; closing = c })
+closed (head.Scatter h) xs c = st.Scatter (closed_scatter h xs c)
+closed (head.Conditional h) xs c = st.Conditional (closed_conditional h xs c)
 
 -- ---- statements
 

@@ -25,11 +25,11 @@ fn chained(left: Tall<Expr>) -> Chain
     }
 }
 
-fn member(alloc: Global, base: Expr, dot: Span, name: Ident) -> Result<Expr, NoMemory>
-    ensures { IfOk result (λ x. x ≡ Expr.Member base dot name) }
+fn member(alloc: Global, base: Tall<Expr>, dot: Span, name: Ident) -> Result<Expr, NoMemory>
+    ensures { IfOk result (λ x. x ≡ Expr.Member base.tree dot name) }
 {
     Ok(Expr::Member {
-        base: Boxed::new(alloc, base)?,
+        base: Boxed::new(alloc, base.into_tree())?,
         dot,
         name,
     })
@@ -37,35 +37,35 @@ fn member(alloc: Global, base: Expr, dot: Span, name: Ident) -> Result<Expr, NoM
 
 fn index(
     alloc: Global,
-    base: Expr,
+    base: Tall<Expr>,
     opening: Span,
-    index: Expr,
+    index: Tall<Expr>,
     closing: Span,
 ) -> Result<Expr, NoMemory>
-    ensures { IfOk result (λ x. x ≡ Expr.Index base opening index closing) }
+    ensures { IfOk result (λ x. x ≡ Expr.Index base.tree opening index.tree closing) }
 {
     Ok(Expr::Index {
-        base: Boxed::new(alloc, base)?,
+        base: Boxed::new(alloc, base.into_tree())?,
         opening,
-        index: Boxed::new(alloc, index)?,
+        index: Boxed::new(alloc, index.into_tree())?,
         closing,
     })
 }
 
 fn binary(
     alloc: Global,
-    left: Expr,
+    left: Tall<Expr>,
     operator: BinaryOperator,
     sign: Span,
-    right: Expr,
+    right: Tall<Expr>,
 ) -> Result<Expr, NoMemory>
-    ensures { IfOk result (λ x. x ≡ Expr.Binary left operator sign right) }
+    ensures { IfOk result (λ x. x ≡ Expr.Binary left.tree operator sign right.tree) }
 {
     Ok(Expr::Binary {
-        left: Boxed::new(alloc, left)?,
+        left: Boxed::new(alloc, left.into_tree())?,
         operator,
         sign,
-        right: Boxed::new(alloc, right)?,
+        right: Boxed::new(alloc, right.into_tree())?,
     })
 }
 
@@ -73,14 +73,14 @@ fn signed(
     alloc: Global,
     operator: UnaryOperator,
     sign: Span,
-    operand: Expr,
+    operand: Tall<Expr>,
 ) -> Result<Expr, NoMemory>
-    ensures { IfOk result (λ x. x ≡ Expr.Unary operator sign operand) }
+    ensures { IfOk result (λ x. x ≡ Expr.Unary operator sign operand.tree) }
 {
     Ok(Expr::Unary {
         operator,
         sign,
-        operand: Boxed::new(alloc, operand)?,
+        operand: Boxed::new(alloc, operand.into_tree())?,
     })
 }
 
@@ -112,7 +112,7 @@ impl<F: Fn(Global, &mut Cursor<'_>, usize, Rule) -> Result<Tall<Expr>, Stop>> Gr
         if let Some(dot) = tokens.eat(Mark::Dot) {
             return match tokens.ident(self.alloc)? {
                 Some(name) => {
-                    let tree = member(self.alloc, chain.left.tree, dot, name)?;
+                    let tree = member(self.alloc, chain.left, dot, name)?;
                     self.linked(dot, chain.links, chain.inside, tree)
                 }
                 None => {
@@ -128,7 +128,7 @@ impl<F: Fn(Global, &mut Cursor<'_>, usize, Rule) -> Result<Tall<Expr>, Stop>> Gr
             Ok(at) => match tokens.eat(Mark::CloseBracket) {
                 Some(closing) => {
                     let inside = deeper(chain.inside, at.depth);
-                    let tree = index(self.alloc, chain.left.tree, opening, at.tree, closing)?;
+                    let tree = index(self.alloc, chain.left, opening, at, closing)?;
                     self.linked(opening, chain.links, inside, tree)
                 }
                 None => {
@@ -169,8 +169,9 @@ impl<F: Fn(Global, &mut Cursor<'_>, usize, Rule) -> Result<Tall<Expr>, Stop>> Gr
         match tokens.unary() {
             Some((operator, sign)) => {
                 let operand = self.inner(tokens, Rule::Unary)?;
-                let tree = signed(self.alloc, operator, sign, operand.tree)?;
-                self.grown(sign, operand.depth, tree)
+                let inside = operand.depth;
+                let tree = signed(self.alloc, operator, sign, operand)?;
+                self.grown(sign, inside, tree)
             }
             None => self.post(tokens),
         }
@@ -195,7 +196,7 @@ impl<F: Fn(Global, &mut Cursor<'_>, usize, Rule) -> Result<Tall<Expr>, Stop>> Gr
         match self.rule(tokens, k) {
             Ok(right) => {
                 let inside = deeper(chain.inside, right.depth);
-                let tree = binary(self.alloc, chain.left.tree, operator, sign, right.tree)?;
+                let tree = binary(self.alloc, chain.left, operator, sign, right)?;
                 self.linked(sign, chain.links, inside, tree)
             }
             Err(Stop::Refused(Refusal::Missing)) => {

@@ -78,9 +78,9 @@ impl Element for MapEntry<Expr> {
         Ok(Tall {
             depth: deeper(key.depth, value.depth),
             tree: MapEntry {
-                key: key.tree,
+                key: key.into_tree(),
                 colon,
-                value: value.tree,
+                value: value.into_tree(),
             },
         })
     }
@@ -108,7 +108,7 @@ impl Element for MemberEntry<Expr> {
             tree: MemberEntry {
                 name,
                 colon,
-                value: value.tree,
+                value: value.into_tree(),
             },
         })
     }
@@ -159,12 +159,12 @@ impl<F: Fn(Global, &mut Cursor<'_>, usize, Rule) -> Result<Tall<Expr>, Stop>> Gr
             inside = deeper(inside, item.depth);
             match tokens.eat(Mark::Comma) {
                 Some(comma) => items.push(ListItem {
-                    item: item.tree,
+                    item: item.into_tree(),
                     comma: Some(comma),
                 })?,
                 None => {
                     items.push(ListItem {
-                        item: item.tree,
+                        item: item.into_tree(),
                         comma: None,
                     })?;
                     return ended(tokens, close, items, inside);

@@ -22,12 +22,12 @@ fn leaf(tree: Expr) -> Result<Tall<Expr>, Stop>
     Ok(Tall { tree, depth: 1 })
 }
 
-fn group(alloc: Global, opening: Span, inner: Expr, closing: Span) -> Result<Expr, NoMemory>
-    ensures { IfOk result (λ x. x ≡ Expr.Group opening inner closing) }
+fn group(alloc: Global, opening: Span, inner: Tall<Expr>, closing: Span) -> Result<Expr, NoMemory>
+    ensures { IfOk result (λ x. x ≡ Expr.Group opening inner.tree closing) }
 {
     Ok(Expr::Group {
         opening,
-        inner: Boxed::new(alloc, inner)?,
+        inner: Boxed::new(alloc, inner.into_tree())?,
         closing,
     })
 }
@@ -35,18 +35,18 @@ fn group(alloc: Global, opening: Span, inner: Expr, closing: Span) -> Result<Exp
 fn pair(
     alloc: Global,
     opening: Span,
-    left: Expr,
+    left: Tall<Expr>,
     comma: Span,
-    right: Expr,
+    right: Tall<Expr>,
     closing: Span,
 ) -> Result<Expr, NoMemory>
-    ensures { IfOk result (λ x. x ≡ Expr.Pair opening left comma right closing) }
+    ensures { IfOk result (λ x. x ≡ Expr.Pair opening left.tree comma right.tree closing) }
 {
     Ok(Expr::Pair {
         opening,
-        left: Boxed::new(alloc, left)?,
+        left: Boxed::new(alloc, left.into_tree())?,
         comma,
-        right: Boxed::new(alloc, right)?,
+        right: Boxed::new(alloc, right.into_tree())?,
         closing,
     })
 }
@@ -166,7 +166,7 @@ impl<F: Fn(Global, &mut Cursor<'_>, usize, Rule) -> Result<Tall<Expr>, Stop>> Gr
             return missing();
         };
         let inside = deeper(left.depth, right.depth);
-        let literal = pair(self.alloc, opening, left.tree, comma, right.tree, closing)?;
+        let literal = pair(self.alloc, opening, left, comma, right, closing)?;
         self.grown(opening, inside, literal)
     }
 
@@ -179,7 +179,7 @@ impl<F: Fn(Global, &mut Cursor<'_>, usize, Rule) -> Result<Tall<Expr>, Stop>> Gr
         let inner = self.inner(tokens, Rule::Expr)?;
         if let Some(closing) = tokens.eat(Mark::CloseParen) {
             let depth = inner.depth;
-            let tree = group(self.alloc, opening, inner.tree, closing)?;
+            let tree = group(self.alloc, opening, inner, closing)?;
             return self.grown(opening, depth, tree);
         }
         match tokens.eat(Mark::Comma) {

@@ -36,7 +36,7 @@ impl<F: Fn(Global, &mut Cursor<'_>, usize, Rule) -> Result<Tall<Expr>, Stop>> Gr
                 mark,
                 opening,
                 options,
-                expr: inner.tree,
+                expr: inner.into_tree(),
                 closing,
             }),
         })
@@ -86,7 +86,7 @@ impl<F: Fn(Global, &mut Cursor<'_>, usize, Rule) -> Result<Tall<Expr>, Stop>> Gr
                 });
             };
             inside = deeper(inside, part.depth);
-            parts.push(part.tree)?;
+            parts.push(part.into_tree())?;
         }
         Ok(Tall {
             tree: parts,
@@ -109,12 +109,13 @@ impl<F: Fn(Global, &mut Cursor<'_>, usize, Rule) -> Result<Tall<Expr>, Stop>> Gr
         let Some(closing) = tokens.string_end() else {
             return missing();
         };
+        let inside = parts.depth;
         let string = StringTree {
             quote,
             opening,
-            parts: parts.tree,
+            parts: parts.into_tree(),
             closing,
         };
-        self.grown(opening, parts.depth, Expr::Str(string))
+        self.grown(opening, inside, Expr::Str(string))
     }
 }

@@ -16,21 +16,21 @@ use wdl_value::{NoMemory, Span};
 fn choice(
     alloc: Global,
     keyword: Span,
-    condition: Expr,
+    condition: Tall<Expr>,
     then_word: Span,
-    accepted: Expr,
+    accepted: Tall<Expr>,
     else_word: Span,
-    refused: Expr,
+    refused: Tall<Expr>,
 ) -> Result<Expr, NoMemory>
-    ensures { IfOk result (λ x. x ≡ Expr.If keyword condition then_word accepted else_word refused) }
+    ensures { IfOk result (λ x. x ≡ Expr.If keyword condition.tree then_word accepted.tree else_word refused.tree) }
 {
     Ok(Expr::If {
         keyword,
-        condition: Boxed::new(alloc, condition)?,
+        condition: Boxed::new(alloc, condition.into_tree())?,
         then_word,
-        accepted: Boxed::new(alloc, accepted)?,
+        accepted: Boxed::new(alloc, accepted.into_tree())?,
         else_word,
-        refused: Boxed::new(alloc, refused)?,
+        refused: Boxed::new(alloc, refused.into_tree())?,
     })
 }
 
@@ -51,13 +51,7 @@ impl<F: Fn(Global, &mut Cursor<'_>, usize, Rule) -> Result<Tall<Expr>, Stop>> Gr
         let refused = self.inner(tokens, Rule::Expr)?;
         let inside = deeper(deeper(condition.depth, accepted.depth), refused.depth);
         let tree = choice(
-            self.alloc,
-            keyword,
-            condition.tree,
-            then_word,
-            accepted.tree,
-            else_word,
-            refused.tree,
+            self.alloc, keyword, condition, then_word, accepted, else_word, refused,
         )?;
         self.grown(keyword, inside, tree)
     }

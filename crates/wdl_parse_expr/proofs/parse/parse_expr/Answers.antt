@@ -19,15 +19,17 @@ pub returns-in-Ok-clause-found : goal.returns-in-Ok-clause-found
 returns-in-Ok-clause-found c =
     let ts = c.args.tokens.now in
     let read : expr max_depth rule.Expr (drop c.args.at ts) ≡ Ok (c.in-Ok.tall, c.expr.new.tokens) = ap (expr max_depth rule.Expr) (sym c.cursor_at-cursor.ensures) ∙ c.in-Ok.ensures in
-    subst (λ n. Fronts IsExpr words (drop c.args.at ts) c.in-Ok.tall.tree (drop (length ts - n) ts)) (sym c.len-left.ensures)
-    (front_at IsExpr words ts c.args.at c.in-Ok.tall.tree c.expr.new.tokens (is_front (drop c.args.at ts) c.in-Ok.tall c.expr.new.tokens read) c.requires)
+    subst (λ e. Fronts IsExpr words (drop c.args.at ts) e (drop (length ts - c.len-left.result) ts)) (sym c.into_tree.ensures)
+    (subst (λ n. Fronts IsExpr words (drop c.args.at ts) c.in-Ok.tall.tree (drop (length ts - n) ts)) (sym c.len-left.ensures)
+    (front_at IsExpr words ts c.args.at c.in-Ok.tall.tree c.expr.new.tokens (is_front (drop c.args.at ts) c.in-Ok.tall c.expr.new.tokens read) c.requires))
 
 pub returns-in-Ok-clause-longest : goal.returns-in-Ok-clause-longest
 returns-in-Ok-clause-longest c =
     let ts = c.args.tokens.now in
     let read : expr max_depth rule.Expr (drop c.args.at ts) ≡ Ok (c.in-Ok.tall, c.expr.new.tokens) = ap (expr max_depth rule.Expr) (sym c.cursor_at-cursor.ensures) ∙ c.in-Ok.ensures in
-    subst (λ n. IsLongest IsExpr words (drop c.args.at ts) c.in-Ok.tall.tree (drop (length ts - n) ts)) (sym c.len-left.ensures)
-    (longest_at IsExpr words ts c.args.at c.in-Ok.tall.tree c.expr.new.tokens (is_front (drop c.args.at ts) c.in-Ok.tall c.expr.new.tokens read) c.requires (is_longest (drop c.args.at ts) c.in-Ok.tall c.expr.new.tokens read))
+    subst (λ e. IsLongest IsExpr words (drop c.args.at ts) e (drop (length ts - c.len-left.result) ts)) (sym c.into_tree.ensures)
+    (subst (λ n. IsLongest IsExpr words (drop c.args.at ts) c.in-Ok.tall.tree (drop (length ts - n) ts)) (sym c.len-left.ensures)
+    (longest_at IsExpr words ts c.args.at c.in-Ok.tall.tree c.expr.new.tokens (is_front (drop c.args.at ts) c.in-Ok.tall c.expr.new.tokens read) c.requires (is_longest (drop c.args.at ts) c.in-Ok.tall c.expr.new.tokens read)))
 
 pub returns-in-Err-clause-refused : goal.returns-in-Err-clause-refused
 returns-in-Err-clause-refused c = refused (drop c.args.at c.args.tokens.now) c.in-Err.stop c.fault_of.result c.fault_of.ensures (subst (λ z. Fails (expr max_depth rule.Expr z) c.in-Err.stop) c.cursor_at-cursor.ensures c.in-Err.ensures)
