@@ -1,0 +1,10 @@
+pub mod Agreeing
+pub mod Answered
+pub mod CheckedLaws
+pub mod CheckedMeaning
+pub mod CoercionLaws
+pub mod FormsAgree
+pub mod FunctionLaws
+pub mod OperatorLaws
+pub mod TreeLaws
+pub mod WellTyped

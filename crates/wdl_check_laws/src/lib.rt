@@ -1,0 +1,6 @@
+//! What is true of every typing of an expression.
+#![tactic(auto)]
+
+mod laws;
+
+pub use laws::typings_are_well_typed;

@@ -1,0 +1,130 @@
+//! Strings, given their typed placeholders.
+
+ghost use Rattle.std.specs.Prelude.{◌≡◌, ◌++◌, IfOk};
+ghost use Rattle.wdl_typed.specs.Typing as table;
+ghost use Rattle.wdl_value.specs.Kinds as kind;
+ghost use Rattle.wdl_check_rules.specs.Rules as spec;
+
+use crate::typed::{Typed, literal};
+use sqlite_items::Items;
+use std::alloc::Global;
+use wdl_ast::{Chars, Expr, PlaceholderOption, PlaceholderOptions, StringPart};
+use wdl_typed::{Choice, TExpr, THole, TPart};
+use wdl_value::{NoMemory, Text, Ty, Value, bare_type};
+
+fn text_of(alloc: Global, chars: &Option<Chars>) -> Result<Text, NoMemory>
+    ensures { IfOk result (λ t. t ≡ spec.text_of chars.now) }
+{
+    match chars {
+        Some(chars) => chars.text.copy(alloc),
+        None => Ok(Text::empty(alloc)),
+    }
+}
+
+fn option_text(alloc: Global, option: &PlaceholderOption) -> Result<Text, NoMemory>
+    ensures { IfOk result (λ t. t ≡ spec.option_text option.now) }
+{
+    text_of(alloc, &option.value.chars)
+}
+
+fn either(
+    alloc: Global,
+    yes: &PlaceholderOption,
+    no: &PlaceholderOption,
+) -> Result<Choice, NoMemory>
+    ensures { IfOk result (λ c. c ≡ Choice.Both (spec.option_text yes.now) (spec.option_text no.now)) }
+{
+    let yes = option_text(alloc, yes)?;
+    let no = option_text(alloc, no)?;
+    Ok(Choice::Both { yes, no })
+}
+
+/// How a placeholder with these options prints its value.
+pub fn choice_of(alloc: Global, options: &PlaceholderOptions) -> Result<Choice, NoMemory>
+    ensures { IfOk result (λ c. c ≡ spec.choice_of options.now) }
+{
+    match options {
+        PlaceholderOptions::Plain => Ok(Choice::Plain),
+        PlaceholderOptions::Sep(option) => Ok(Choice::Sep(option_text(alloc, option)?)),
+        PlaceholderOptions::Default(option) => Ok(Choice::Default(option_text(alloc, option)?)),
+        PlaceholderOptions::TrueFalse(yes, no) => either(alloc, yes, no),
+        PlaceholderOptions::FalseTrue(no, yes) => either(alloc, yes, no),
+    }
+}
+
+fn is_scalar(t: &Ty) -> bool
+    ensures { result ≡ kind.is_scalar t.now }
+{
+    matches!(t, Ty::Bool | Ty::Int | Ty::Str | Ty::File)
+}
+
+fn is_absent(t: &Ty) -> bool
+    ensures { result ≡ kind.is_absent t.now }
+{
+    matches!(t, Ty::Absent)
+}
+
+fn is_bool(t: &Ty) -> bool
+    ensures { result ≡ kind.is_bool t.now }
+{
+    matches!(t, Ty::Bool)
+}
+
+/// Whether a placeholder takes the type, by its option.
+fn hole_takes(choice: &Choice, t: &Ty) -> bool
+    ensures { result ≡ table.hole_takes choice.now t.now }
+{
+    match choice {
+        Choice::Plain => is_absent(t) || is_scalar(bare_type(t)),
+        Choice::Sep(_) => match t {
+            Ty::Array { item, .. } => is_scalar(item.get()),
+            _ => false,
+        },
+        Choice::Both { .. } => is_bool(bare_type(t)),
+        Choice::Default(_) => is_scalar(bare_type(t)),
+    }
+}
+
+/// A placeholder. None where it does not take the type.
+pub fn hole(choice: Choice, x: Typed) -> Option<TPart<TExpr>>
+    ensures { result ≡ spec.hole_of choice x }
+{
+    if !hole_takes(&choice, &x.ty) {
+        return None;
+    }
+    Some(TPart::Hole(THole {
+        expr: x.into_expr(),
+        choice,
+    }))
+}
+
+/// The text of a string without a placeholder.
+pub fn plain_text(alloc: Global, parts: &[StringPart<Expr>]) -> Result<Option<Text>, NoMemory>
+    ensures { IfOk result (λ t. t ≡ spec.plain_text parts.now) }
+{
+    let mut text = Text::empty(alloc);
+    for part in parts {
+        match part {
+            StringPart::Chars(chars) => text.push_str(chars.text.as_str())?,
+            StringPart::Placeholder(_) => return Ok(None),
+        }
+    }
+    Ok(Some(text))
+}
+
+/// A string without a placeholder.
+pub fn string_literal(text: Text) -> Typed
+    ensures { result ≡ spec.string_literal text }
+{
+    literal(Value::Str(text), Ty::Str)
+}
+
+/// A string with placeholders.
+pub fn strung(parts: Items<TPart<TExpr>>) -> Typed
+    ensures { result ≡ spec.strung parts }
+{
+    Typed {
+        expr: TExpr::Strung(parts),
+        ty: Ty::Str,
+    }
+}
