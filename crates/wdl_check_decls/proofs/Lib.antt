@@ -1,0 +1,4 @@
+pub mod ListLaws
+pub mod Placed
+pub mod WellTyped
+pub mod WriteLaws

@@ -1,0 +1,40 @@
+-- Expressions where they stand in a document.
+use Rattle.std.specs.Prelude.{Bool, false, List}
+use Rattle.wdl_value.specs.declared.ty.Ty.{Ty}
+use Rattle.wdl_value.specs.Fits.{Structs}
+use Rattle.wdl_ast.specs.declared.expr.Expr.{Expr}
+use Rattle.wdl_typed.specs.declared.expr.TExpr.{TExpr}
+use Rattle.wdl_typed.specs.declared.scope.Bound.{Bound}
+use Rattle.wdl_check_rules.specs.declared.typed.Typed.{Typed}
+use Rattle.wdl_check_rules.specs.Conditions.{conditions, conditions_as}
+use Rattle.wdl_check_rules.specs.Scopes.{Scope}
+use Rattle.wdl_check_rules.specs.Typed.{typed, typed_as}
+use Rattle.wdl_check_types.specs.Locals.{Naming, stands_for}
+use Rattle.wdl_check_types.specs.Outcome.{Outcome, then_}
+use Rattle.wdl_localize.specs.Localized.{localized}
+use Rattle.wdl_check_decls.specs.declared.seeing.Seeing.{Seeing}
+
+-- the structs of the library, and the names under which the document knows them
+pub record World : Type 0 where
+  pub structs : Structs
+  pub locals : Naming
+
+abbrev pub world : Seeing → World
+world s = record { structs = s.structs.now; locals = stands_for s.locals.now }
+
+abbrev pub scope : World → List Bound → Bool → Bool → Scope
+scope w names outputs placeholder = record { structs = w.structs; names = names; outputs = outputs; placeholder = placeholder }
+
+abbrev pub typed_in : Scope → Expr → Outcome Typed
+typed_in s e = record { typed = typed s e; conditions = conditions s e }
+
+abbrev pub typed_as_in : Scope → Expr → Ty → Outcome TExpr
+typed_as_in s e t = record { typed = typed_as s e t; conditions = conditions_as s e t }
+
+-- the typing of an expression
+abbrev pub expr_typed : World → List Bound → Bool → Bool → Expr → Outcome Typed
+expr_typed w names outputs placeholder e = then_ (localized w.locals e) (typed_in (scope w names outputs placeholder))
+
+-- the same, cast to a type
+abbrev pub expr_as : World → List Bound → Bool → Expr → Ty → Outcome TExpr
+expr_as w names outputs e t = then_ (localized w.locals e) (λ x. typed_as_in (scope w names outputs false) x t)

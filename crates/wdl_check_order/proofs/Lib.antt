@@ -1,0 +1,3 @@
+pub mod NameLaws
+pub mod LeastLaws
+pub mod OutlineLaws

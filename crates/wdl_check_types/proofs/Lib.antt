@@ -1,0 +1,3 @@
+pub mod OutcomeLaws
+pub mod WrittenLaws
+pub mod KnownLaws

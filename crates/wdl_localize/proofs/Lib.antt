@@ -1,0 +1,2 @@
+pub mod RenamedLaws
+pub mod UnknownLaws

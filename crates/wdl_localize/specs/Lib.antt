@@ -1,0 +1,2 @@
+pub mod Localized
+pub mod Parts
