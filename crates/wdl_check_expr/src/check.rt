@@ -308,7 +308,8 @@ fn check_parts(
         match part {
             StringPart::Chars(chars) => done.push(TPart::Chars(chars.text.copy(alloc)?))?,
             StringPart::Placeholder(hole) => {
-                done.push(check_hole(alloc, &hole.expr, &hole.options, scope)?)?;
+                let part = check_hole(alloc, &hole.expr, &hole.options, scope)?;
+                done.push(part)?;
             }
         }
     }

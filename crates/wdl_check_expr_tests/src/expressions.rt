@@ -1,4 +1,5 @@
 use crate::notation::{names, structs, written};
+use sqlite_items::Boxed;
 use std::alloc::Global;
 use std::test::Fail;
 use wdl_ast::Expr;
@@ -118,14 +119,14 @@ fn is_type(alloc: Global, ty: &Ty, want: &str) -> Result<bool, Fail> {
 }
 
 /// The expression that a text writes.
-fn expression(alloc: Global, text: &str) -> Result<Expr, Fail> {
+fn expression(alloc: Global, text: &str) -> Result<Boxed<Expr>, Fail> {
     let tokens = lex(alloc, text.as_bytes(), 0)?;
     let parsed = parse_expr(alloc, tokens.as_slice(), 0)?;
-    Ok(parsed.expr)
+    Ok(Boxed::new(alloc, parsed.expr)?)
 }
 
 fn has(alloc: Global, scope: &Scope, text: &str, want: &str) -> Result<bool, Fail> {
-    match check_expr(alloc, scope, &expression(alloc, text)?) {
+    match check_expr(alloc, scope, expression(alloc, text)?.get()) {
         Ok(typed) => is_type(alloc, &typed.ty, want),
         Err(fault) => is_refusal(alloc, text, fault, want),
     }
@@ -138,10 +139,15 @@ fn shown(expr: &TExpr) -> &'static str {
     }
 }
 
+fn is_shown(alloc: Global, expr: TExpr, want: &str) -> Result<bool, Fail> {
+    let expr = Boxed::new(alloc, expr)?;
+    Ok(shown(expr.get()) == want)
+}
+
 fn becomes(alloc: Global, scope: &Scope, text: &str, ty: &str, want: &str) -> Result<bool, Fail> {
     let ty = written(alloc, ty)?;
-    match check_as(alloc, scope, &expression(alloc, text)?, &ty) {
-        Ok(expr) => Ok(shown(&expr) == want),
+    match check_as(alloc, scope, expression(alloc, text)?.get(), &ty) {
+        Ok(expr) => is_shown(alloc, expr, want),
         Err(fault) => is_refusal(alloc, text, fault, want),
     }
 }

@@ -32,7 +32,7 @@ pub fn list(alloc: Global, items: Parts<Typed>) -> Result<Option<Typed>, NoMemor
 }
 
 /// The join of two types, of which the first is let go.
-fn with(alloc: Global, joined: Ty, t: &Ty) -> Result<Option<Ty>, NoMemory>
+fn join_next(alloc: Global, joined: Ty, t: &Ty) -> Result<Option<Ty>, NoMemory>
     ensures { IfOk result (λ u. u ≡ join_of joined t.now) }
 {
     let next = join(alloc, &joined, t);
@@ -46,7 +46,7 @@ fn items_join(alloc: Global, items: &[Typed]) -> Result<Option<Ty>, NoMemory>
 {
     let mut joined = Ty::Empty;
     for item in items {
-        match with(alloc, joined, &item.ty)? {
+        match join_next(alloc, joined, &item.ty)? {
             Some(ty) => joined = ty,
             None => return Ok(None),
         }
@@ -97,7 +97,7 @@ fn keys_join(alloc: Global, rows: &[TPair<Typed>]) -> Result<Option<Ty>, NoMemor
 {
     let mut joined = Ty::Empty;
     for row in rows {
-        match with(alloc, joined, &row.key.ty)? {
+        match join_next(alloc, joined, &row.key.ty)? {
             Some(ty) => joined = ty,
             None => return Ok(None),
         }
@@ -110,7 +110,7 @@ fn values_join(alloc: Global, rows: &[TPair<Typed>]) -> Result<Option<Ty>, NoMem
 {
     let mut joined = Ty::Empty;
     for row in rows {
-        match with(alloc, joined, &row.value.ty)? {
+        match join_next(alloc, joined, &row.value.ty)? {
             Some(ty) => joined = ty,
             None => return Ok(None),
         }

@@ -74,11 +74,17 @@ pub fn cast_to(alloc: Global, x: Typed, t: &Ty) -> Result<TExpr, NoMemory>
     Ok(TExpr::Cast(expr, t.copy(alloc)?))
 }
 
-/// The same in a box.
+fn boxed(alloc: Global, expr: TExpr) -> Result<Boxed<TExpr>, NoMemory>
+    ensures { IfOk result (λ e. e ≡ expr) }
+{
+    Ok(Boxed::new(alloc, expr)?)
+}
+
+/// The expression in a box, under a cast where its type is another one.
 pub fn boxed_cast(alloc: Global, x: Typed, t: &Ty) -> Result<Boxed<TExpr>, NoMemory>
     ensures { IfOk result (λ e. e ≡ spec.cast_to x t.now) }
 {
-    Ok(Boxed::new(alloc, cast_to(alloc, x, t)?)?)
+    boxed(alloc, cast_to(alloc, x, t)?)
 }
 
 /// The expression under a cast to a type, where its own type coerces to that.
