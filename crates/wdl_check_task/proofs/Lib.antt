@@ -1,0 +1,5 @@
+pub mod Counts
+pub mod Distinct
+pub mod Loops
+pub mod Made
+pub mod WellTyped

@@ -1,0 +1,11 @@
+use Rattle.std.proofs.Common.{map}
+use Rattle.wdl_check_types.proofs.OutcomeLaws.{then_ok}
+use Rattle.wdl_check_decls.specs.Expressions.{world}
+use Rattle.wdl_check_task.specs.Runtime.{each_typed, named_typed}
+use Rattle.wdl_check_task.proofs.runtime.check_runtime.Goals as goal
+
+pub returns : goal.returns
+returns c =
+    let w = world c.args.seeing.now in
+    let as_ = map (λ a. a.now) c.args.attributes.now in
+    then_ok (each_typed w c.args.names.now as_) (λ x. named_typed w c.args.names.now as_) _ _ c.in_ok-check_each.ensures c.check_named.ensures

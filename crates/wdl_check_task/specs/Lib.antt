@@ -1,0 +1,5 @@
+pub mod Command
+pub mod Laws
+pub mod Runtime
+pub mod Sections
+pub mod Tasks
