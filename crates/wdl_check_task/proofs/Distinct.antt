@@ -1,11 +1,11 @@
 -- Names that differ still differ when each list of them stands in another order.
-use Rattle.std.proofs.Common.{◌≡◌, ◌⊎◌, inl, inr, ℕ, zero, suc, Bool, true, false, not, ◌&&◌, ◌||◌, ◌==◌, List, [], ◌∷◌, ◌++◌, Option, Some, None, option_map, map, slice_get, refl, ap, sym, ◌∙◌, subst}
+use Rattle.std.proofs.Common.{◌≡◌, ◌⊎◌, inl, inr, ℕ, zero, suc, true, false, not, ◌==◌, List, [], ◌∷◌, ◌++◌, Option, Some, None, option_map, map, slice_get, refl, ap, sym, ◌∙◌, subst}
 use Rattle.std.specs.Str.{bytes_eq}
 use Rattle.std.proofs.lemmas.Bool.{and_parts, and_from, or_cases, or_parts, or_from, or_left, or_right, not-true, not_from_false, false≢true, false_from_ne_true, eq-eqb}
 use Rattle.std.proofs.lemmas.Option.{slice_get-map}
 use Rattle.std.proofs.lemmas.Slice.Eq.{bytes_eq-Decides}
 use Rattle.wdl_typed.specs.Lists.{are_distinct, has_name, has_number, numbers_differ}
-use Rattle.wdl_typed.specs.Order.{option_list, picked}
+use Rattle.wdl_typed.specs.Order.{picked}
 use Rattle.wdl_check_decls.proofs.ListLaws.{picked_none, picked_some}
 
 is_same : (a b : List ℕ) → bytes_eq a b ≡ true → a ≡ b

@@ -1,5 +1,5 @@
 -- A task that is typed is well typed.
-use Rattle.std.proofs.Common.{◌≡◌, ℕ, Bool, true, false, ◌&&◌, List, [], ◌∷◌, ◌++◌, Option, Some, None, option_and_then, if◌then◌else◌, not, map, slice_get, codes as texts, append_assoc, append-nil, refl, ap, sym, ◌∙◌, subst}
+use Rattle.std.proofs.Common.{◌≡◌, ℕ, Bool, true, false, ◌&&◌, List, [], ◌∷◌, ◌++◌, Option, Some, None, if◌then◌else◌, not, map, slice_get, codes as texts, append_assoc, append-nil, refl, ap, sym, ◌∙◌, subst}
 use Rattle.std.proofs.lemmas.Bool.{and_from, and_parts}
 use Rattle.std.proofs.lemmas.List.{map-append}
 use Rattle.wdl_base.specs.declared.span.Span.{Span}
@@ -8,7 +8,6 @@ use Rattle.wdl_base.specs.declared.template.Part.TheVariants as template
 use Rattle.wdl_base.specs.Templates.{dedented}
 use Rattle.wdl_value.specs.declared.ty.Ty.{Ty}
 use Rattle.wdl_value.specs.declared.ty.Ty.TheVariants as ty
-use Rattle.wdl_value.specs.Coerces.{coerces}
 use Rattle.wdl_value.proofs.SameTypeLemmas.{same_type-refl}
 use Rattle.wdl_ast.specs.declared.expr.Expr.{Expr}
 use Rattle.wdl_ast.specs.declared.leaf.Attribute.{Attribute}
@@ -34,15 +33,15 @@ use Rattle.wdl_typed.specs.declared.task.TInput.{TInput}
 use Rattle.wdl_typed.specs.declared.task.TaskDef.{TaskDef}
 use Rattle.wdl_typed.specs.Declarations as well
 use Rattle.wdl_typed.specs.Declarations.{codes_typed, decl_names, decls_bound, hole_type, in_body, input_names, inputs_bound, retries_typed}
-use Rattle.wdl_typed.specs.Lists.{are_below, are_counted, are_distinct, has_name, numbers_differ}
-use Rattle.wdl_typed.specs.Order.{Needing, all_met, picked}
+use Rattle.wdl_typed.specs.Lists.{are_distinct, has_name, numbers_differ}
+use Rattle.wdl_typed.specs.Order.{Needing, picked}
 use Rattle.wdl_typed.specs.Typing.{hole_takes, is_type, takes_some, type_of}
 use Rattle.wdl_names.specs.Fresh.{fresh}
 use Rattle.wdl_names.proofs.FreshLemmas.{fresh-distinct}
 use Rattle.wdl_check_rules.specs.declared.typed.Typed.{Typed}
 use Rattle.wdl_check_rules.specs.Rules.{choice_of, coerced, hole_of}
 use Rattle.wdl_check_rules.specs.Spans.{joined, span_of}
-use Rattle.wdl_check_types.specs.Outcome.{Outcome, done, or_refused, then_}
+use Rattle.wdl_check_types.specs.Outcome.{done, or_refused, then_}
 use Rattle.wdl_check_types.specs.Places.{declaration_span, input_span}
 use Rattle.wdl_check_types.specs.Written.{written}
 use Rattle.wdl_check_order.specs.Least.{least_order}
@@ -51,18 +50,16 @@ use Rattle.wdl_check_order.specs.Ordered.{ordered}
 use Rattle.wdl_check_decls.specs.declared.standing.Standing.{Standing}
 use Rattle.wdl_check_decls.specs.declared.standing.Standing.TheVariants.{Private, Output}
 use Rattle.wdl_check_decls.specs.Declarations.{decl_typed, declared, decls_behind, decls_typed, input, input_typed, inputs_behind, inputs_typed, preset_typed, value_typed}
-use Rattle.wdl_check_decls.specs.Expressions.{World, expr_typed, scope}
-use Rattle.wdl_check_decls.specs.Laws.{IsKnown, context, typing_at}
+use Rattle.wdl_check_decls.specs.Expressions.{World, scope}
+use Rattle.wdl_check_decls.specs.Laws.{IsKnown, context}
 use Rattle.wdl_check_decls.specs.Names.{first_repeated}
 use Rattle.wdl_check_task.specs.declared.runtime.Said.{Said}
-use Rattle.wdl_check_task.specs.declared.task.Head.{Head}
-use Rattle.wdl_check_task.specs.declared.task.Work.{Work}
 use Rattle.wdl_check_task.specs.Command.{command_typed, hole_from, hole_typed, hole_value, part_typed, parts_behind, placeholder_typed, template_from}
 use Rattle.wdl_check_task.specs.Laws.{TaskTypes}
 use Rattle.wdl_check_task.specs.Runtime as runtime
 use Rattle.wdl_check_task.specs.Runtime.{cast_to, codes_of, each_typed, first_named, many_codes, named_typed, one_code, runtime_typed, said, some_codes, some_retries}
 use Rattle.wdl_check_task.specs.Sections.{attributes_of, declaration_idents, idents_of, input_idents, inputs_of, outputs_of, parts_of, privates_of}
-use Rattle.wdl_check_task.specs.Tasks.{after_head, head, head_bound, head_typed, sections_typed, task_of, task_typed, unless_repeated, with_outputs, work, work_typed}
+use Rattle.wdl_check_task.specs.Tasks.{head, task_of, work}
 use Rattle.wdl_check_laws.proofs.TreeLaws.{coerced_has}
 use Rattle.wdl_check_order.proofs.LeastLaws.{least}
 use Rattle.wdl_check_decls.proofs.WellTyped.{decls_types, expr_types, inputs_types, placed_types}
