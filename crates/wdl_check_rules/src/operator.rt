@@ -191,7 +191,11 @@ pub fn binary(
 pub fn condition(x: Typed) -> Option<TExpr>
     ensures { result ≡ spec.condition_of x }
 {
-    if is_bool(&x.ty) { Some(x.into_expr()) } else { None }
+    if is_bool(&x.ty) {
+        Some(x.into_expr())
+    } else {
+        None
+    }
 }
 
 /// `if` with its branches, which stand at their join.
