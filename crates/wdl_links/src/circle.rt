@@ -34,8 +34,8 @@ fn all_marked(marks: &[bool], links: &[Link]) -> bool
     true
 }
 
-/// The first document without a mark whose links all lead to marked ones.
-fn next_end(docs: &[Doc], marks: &[bool]) -> Option<usize>
+/// The first document without a mark whose links all lead to marked ones, in time linear in the links.
+pub fn next_end(docs: &[Doc], marks: &[bool]) -> Option<usize>
     ensures some { IfSome result (λ k. (k < length docs.now) × (spec.is_next docs.now marks.now k ≡ true)) }
     ensures none { IfNone result (spec.NoneIsNext docs.now marks.now) }
 {

@@ -5,6 +5,6 @@ mod circle;
 mod fault;
 mod want;
 
-pub use circle::no_circle;
+pub use circle::{next_end, no_circle};
 pub use fault::LinkFault;
 pub use want::{Want, span_of, wants_of};

@@ -30,9 +30,13 @@ pub record IsUnwritten (number : ℕ) (bytes : List ℕ) (code : ℕ) (s : Span)
   pub refused : RefusesDocument tokens code at
   pub placed : s ≡ in_document number at
 
--- why the bytes are no document
+-- the bytes are the text of no document
+abbrev pub IsNoText : ℕ → List ℕ → Type 0
+IsNoText number bytes = (d : Document) → IsRead number bytes d → ⊥
+
+-- the bytes are no document, and why
 abbrev pub IsTextFault : ℕ → List ℕ → ℕ → Span → Type 0
-IsTextFault number bytes code s = IsFault number bytes code s ⊎ IsUnwritten number bytes code s
+IsTextFault number bytes code s = (IsFault number bytes code s ⊎ IsUnwritten number bytes code s) × IsNoText number bytes
 
 -- the document, or why there is none
 abbrev pub IsOutcome : ℕ → List ℕ → Result Document ParseFault → Type 0

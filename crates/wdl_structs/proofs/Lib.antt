@@ -1,0 +1,16 @@
+pub mod ClassLaws
+pub mod NameLaws
+pub mod SeenLaws
+pub mod TableLaws
+pub mod NodeLaws
+pub mod StandLaws
+pub mod StepLaws
+pub mod IdentityLaws
+pub mod UniqueLaws
+pub mod KeptLaws
+pub mod WrittenLaws
+pub mod StructLaws
+pub mod SameLaws
+pub mod FinalLaws
+pub mod KeepSteps
+pub mod OneLaws
