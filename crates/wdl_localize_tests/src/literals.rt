@@ -1,4 +1,4 @@
-use sqlite_items::Items;
+use sqlite_items::{Boxed, Items};
 use std::alloc::Global;
 use std::test::Fail;
 use wdl_ast::{Expr, StringPart};
@@ -81,11 +81,22 @@ fn refusal(alloc: Global, text: &str, code: u16, span: Span) -> Result<String, F
     Ok(format!(in alloc; "{code} {place}")?)
 }
 
-fn answer(alloc: Global, text: &str, locals: &Indexed<Local>) -> Result<String, Fail> {
+/// The expression that a text writes.
+fn expression(alloc: Global, text: &str) -> Result<Boxed<Expr>, Fail> {
     let tokens = lex(alloc, text.as_bytes(), 0)?;
     let parsed = parse_expr(alloc, tokens.as_slice(), 0)?;
-    match localized(alloc, &parsed.expr, locals) {
-        Ok(e) => Ok(shown(alloc, literal(&e))?),
+    Ok(Boxed::new(alloc, parsed.expr)?)
+}
+
+fn named(alloc: Global, e: Expr) -> Result<String, NoMemory> {
+    let e = Boxed::new(alloc, e)?;
+    shown(alloc, literal(e.get()))
+}
+
+fn answer(alloc: Global, text: &str, locals: &Indexed<Local>) -> Result<String, Fail> {
+    let e = expression(alloc, text)?;
+    match localized(alloc, e.get(), locals) {
+        Ok(e) => Ok(named(alloc, e)?),
         Err(CheckFault::Bad { code, span }) => refusal(alloc, text, code, span),
         Err(CheckFault::NoMemory) => Ok(String::from_str(alloc, "no memory")?),
     }
