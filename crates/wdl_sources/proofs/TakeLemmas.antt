@@ -13,7 +13,7 @@ use Rattle.wdl_sources.specs.declared.fault.ImportFault.{ImportFault}
 use Rattle.wdl_sources.specs.declared.fault.ImportFault.TheVariants as import
 use Rattle.wdl_sources.specs.Reading.{IsRead, IsTextFault}
 use Rattle.wdl_sources.specs.Walks.{most_documents, IsSource, Imports, IsUntaken, Takes, HasRead, Gathers, paths, first_step}
-use Rattle.wdl_sources.proofs.WalkLemmas.{has_first, has_stopped}
+use Rattle.wdl_sources.proofs.WalkLemmas.{has_first, has_reached, has_stopped}
 
 told_or : Option (List ℕ) → List ℕ
 told_or None = []
@@ -80,7 +80,7 @@ pub ends : (tells : List ℕ → Option (List ℕ)) (refuses : List ℕ → Type
     → Takes (tells step.path) refused rises step sources new waiting next (Err e) → (refused → refuses step.path) → (rises → rose)
     → Gathers tells refuses rose root (Err e)
 ends tells refuses rose refused rises root sources new step waiting next (import.Read p) h n t f r =
-    (subst refuses (sym t.0) (f t.1), r t.2)
+    (has_reached tells root sources step waiting p h n t.0, subst refuses (sym t.0) (f t.1), r t.2)
 ends tells refuses rose refused rises root sources new step waiting next (import.Bad code p s) h n t f r = has_stopped tells root sources step waiting code p s h n t
 ends tells refuses rose refused rises root sources new step waiting next import.NoMemory h n t f r = tt
 

@@ -11,7 +11,7 @@ use Rattle.wdl_links.specs.declared.want.Want.{Want}
 use Rattle.wdl_sources.specs.declared.source.Source.{Source}
 use Rattle.wdl_sources.specs.declared.walk.Step.{Step}
 use Rattle.wdl_sources.specs.Reading.{IsRead, IsTextFault}
-use Rattle.wdl_sources.specs.Walks.{Files, AreFiles, paths, step_of, steps_from, first_step, IsStep, Walk, IsFront, IsStopped, IsTaken, IsUntaken, HasRead, HasWhole, IsBad}
+use Rattle.wdl_sources.specs.Walks.{Files, AreFiles, paths, step_of, steps_from, first_step, IsStep, Walk, IsFront, IsStopped, IsTaken, IsUntaken, HasRead, HasWhole, HasReached, IsBad}
 
 -- one want more on the stack
 pub put_one : (base : List ℕ) (left more : List Want) (w : Want) (waiting : List Step) (s : Step) → more ≡ left ++ w ∷ [] → s ≡ step_of base w
@@ -145,6 +145,22 @@ module _ (tells : List ℕ → Option (List ℕ)) (root : List ℕ) where
 
   pub has_whole : (sources : List Source) → HasRead tells root sources [] → HasWhole tells root sources
   has_whole sources h = record { files = h.files; told = h.told; whole = record { rest = h.rest; front = h.front; whole = h.same } }
+
+  pub has_reached : (sources : List Source) (step : Step) (waiting : List Step) (p : List ℕ) → HasRead tells root sources (step ∷ waiting)
+      → is_among step.path (paths sources) ≡ false → p ≡ step.path → HasReached tells root p
+  has_reached sources step waiting p h e at = record {
+    files = h.files;
+    told = h.told;
+    reached = record {
+      sources = sources;
+      waiting = h.rest;
+      step = step;
+      behind = waiting;
+      front = h.front;
+      first = h.same ∙ cond-false (is_among step.path (paths sources)) _ _ e;
+      at_step = at;
+    };
+  }
 
   pub has_stopped : (sources : List Source) (step : Step) (waiting : List Step) (code : ℕ) (p : List ℕ) (s : Span) → HasRead tells root sources (step ∷ waiting)
       → is_among step.path (paths sources) ≡ false → IsUntaken (tells step.path) step (length sources) code p s → IsBad tells root code p s

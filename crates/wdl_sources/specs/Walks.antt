@@ -98,6 +98,16 @@ pub record HasStopped (files : Files) (root : List ℕ) (code : ℕ) (p : List �
   pub first : unread (paths sources) waiting ≡ step ∷ behind
   pub stopped : IsStopped files (length sources) step code p s
 
+-- the path is that of the next step, behind some documents that are read first: it is the given one, or that of an import of one of them
+pub record IsReached (files : Files) (root p : List ℕ) : Type 0 where
+  pub sources : List Source
+  pub waiting : List Step
+  pub step : Step
+  pub behind : List Step
+  pub front : IsFront files root sources waiting
+  pub first : unread (paths sources) waiting ≡ step ∷ behind
+  pub at_step : p ≡ step.path
+
 -- ---- one file
 
 -- the file at a path: its document, or why there is none
@@ -167,9 +177,15 @@ pub record IsBad (tells : List ℕ → Option (List ℕ)) (root : List ℕ) (cod
   pub told : AreFiles tells files
   pub stopped : HasStopped files root code p s
 
+-- the bytes that were read so far lead to the path, which is not read yet
+pub record HasReached (tells : List ℕ → Option (List ℕ)) (root p : List ℕ) : Type 0 where
+  pub files : Files
+  pub told : AreFiles tells files
+  pub reached : IsReached files root p
+
 -- all documents that a path leads to, or why there are none
 abbrev pub Gathers : (tells : List ℕ → Option (List ℕ)) → (List ℕ → Type 0) → Type 0 → List ℕ → Result (List Source) ImportFault → Type 0
 Gathers tells refuses rose root (Ok sources) = HasWhole tells root sources × (length sources ≤ most_documents)
-Gathers tells refuses rose root (Err (import.Read p)) = refuses p × rose
+Gathers tells refuses rose root (Err (import.Read p)) = HasReached tells root p × refuses p × rose
 Gathers tells refuses rose root (Err (import.Bad code p s)) = IsBad tells root code p s
 Gathers tells refuses rose root (Err import.NoMemory) = Unit {0}

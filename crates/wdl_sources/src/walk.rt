@@ -131,7 +131,8 @@ fn take<F: Shelf>(
 }
 
 /// All documents that the one at a path leads to, depth first in the order of the imports, each once. `Read` is answered only for a
-/// path that the shelf refuses, and only where its count of faults rose.
+/// path that the shelf refuses, and only where its count of faults rose; it is the given path, or that of an import of a document
+/// that was read before.
 pub fn read_all<F: Shelf>(
     alloc: Global,
     shelf: &mut F,
