@@ -21,7 +21,7 @@ returns-in-Err-Bad-parse c =
         placed = refl;
       }),
       λ (d : Document) (r : IsRead c.args.number c.args.bytes.now d). none.0 d (subst (λ (ts : List Token). Written ts d)
-      (one_list c.args.number c.args.bytes.now r.tokens c.in-Ok.tokens r.spelled c.in-Ok.ensures.found.0) r.written),
+          (one_list c.args.number c.args.bytes.now r.tokens c.in-Ok.tokens r.spelled c.in-Ok.ensures.found.0) r.written),
     )
 
 pub returns-in-Err-Bad : goal.returns-in-Err-Bad
