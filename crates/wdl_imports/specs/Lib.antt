@@ -1,0 +1,4 @@
+pub mod Libraries
+pub mod LinksTo
+pub mod Numbers
+pub mod Checks
