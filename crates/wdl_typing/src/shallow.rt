@@ -15,7 +15,12 @@ use wdl_value::{Member, Name, NoMemory, StructDef, Ty};
 const MOST: u32 = 32;
 
 /// Whether the struct's members lead through at most `level` structs, given this of each struct of the list.
-fn name_is_shallow(name: &Name, level: u32, table: &[bool], structs: &Indexed<StructDef>) -> bool
+pub fn name_is_shallow(
+    name: &Name,
+    level: u32,
+    table: &[bool],
+    structs: &Indexed<StructDef>,
+) -> bool
     requires { table.now ≡ spec.shallow_level level structs.now }
     ensures { result ≡ known.is_shallow level structs.now name.now }
 {

@@ -13,3 +13,4 @@ mod numbered;
 mod tasks;
 
 pub use library::well_typed;
+pub use nesting::{Levels, MOST, levels_of, nests};

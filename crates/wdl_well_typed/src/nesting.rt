@@ -112,7 +112,7 @@ impl<'a> Levels<'a> {
 /// Whether at most `level` blocks and calls stand on each path through the statement.
 #[tactic(auto, using(crate::proofs::LevelLemmas::nests_none, crate::proofs::LevelLemmas::nests_next))]
 #[cycle(nests)]
-fn nests(statement: &Statement, levels: &Levels, level: usize) -> bool
+pub fn nests(statement: &Statement, levels: &Levels, level: usize) -> bool
     requires { level ≤ levels.now.1 }
     ensures { result ≡ bodies.nests levels.now.0 level (out-Statement statement.now) }
 {
