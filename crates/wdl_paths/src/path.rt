@@ -58,7 +58,7 @@ fn path_from(alloc: Global, base: &str, uri: &str) -> Result<Text, NoMemory>
 pub fn resolve(alloc: Global, base: &str, uri: &str) -> Result<Text, ResolveFault>
     requires base { has_nul base.now ≡ false }
     requires uri { has_nul uri.now ≡ false }
-    ensures { spec.Gives (spec.resolve base.now uri.now) result }
+    ensures resolved { spec.Gives (spec.resolve base.now uri.now) result }
 {
     if has_scheme(uri.as_bytes()) {
         return Err(ResolveFault::Scheme);
