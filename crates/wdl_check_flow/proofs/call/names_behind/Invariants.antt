@@ -1,0 +1,6 @@
+use Rattle.std.proofs.Common.{◌≡◌, ◌++◌, drop}
+use Rattle.wdl_check_order.specs.Needs.{after_names}
+use Rattle.wdl_check_flow.proofs.call.names_behind.Given as goal
+
+abbrev pub invariant-loop-word : goal.invariant-loop-word
+invariant-loop-word l = l.names ++ after_names (drop l.word-index l.after) ≡ after_names l.after

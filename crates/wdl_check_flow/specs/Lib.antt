@@ -1,0 +1,11 @@
+pub mod Blocks
+pub mod Bodies
+pub mod Calls
+pub mod Flows
+pub mod Given
+pub mod Laws
+pub mod Nesting
+pub mod Numbers
+pub mod Sections
+pub mod Stating
+pub mod Targets
