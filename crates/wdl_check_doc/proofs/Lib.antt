@@ -1,0 +1,17 @@
+pub mod Below
+pub mod Documents
+pub mod Kept
+pub mod Lists
+pub mod Made
+pub mod Main
+pub mod Naming
+pub mod Offering
+pub mod Origins
+pub mod Runs
+pub mod Sections
+pub mod Spaces
+pub mod StructLaws
+pub mod Typed
+pub mod Types
+pub mod Whole
+pub mod Within

@@ -1,0 +1,11 @@
+pub mod Outcomes
+pub mod Parts
+pub mod Known
+pub mod Structs
+pub mod Runnables
+pub mod Offers
+pub mod Offered
+pub mod Tables
+pub mod Flows
+pub mod Checked
+pub mod Laws
