@@ -1,0 +1,57 @@
+-- What the code holds, as the definitions have it.
+use Rattle.std.specs.Prelude.{ℕ, List, map, take}
+use Rattle.wdl_value.specs.declared.env.Bind.{Bind}
+use Rattle.wdl_value.specs.Tables.{table}
+use Rattle.wdl_typed.specs.Bodies.{library}
+use Rattle.wdl_typed.specs.Flow as flow
+use Rattle.wdl_flow.specs.declared.flowing.Flowing.{Flowing}
+use Rattle.wdl_flow.specs.declared.given.Given.{Given}
+use Rattle.wdl_flow.specs.declared.ground.Ground.{Ground}
+use Rattle.wdl_flow.specs.declared.known.Ended.{Ended}
+use Rattle.wdl_flow.specs.declared.known.Known.{Known}
+use Rattle.wdl_flow.specs.declared.sight.Sight.{Sight}
+
+abbrev pub known_of : Known → flow.Known
+known_of k = record { key = k.key; value = k.value }
+
+abbrev pub knowns_of : List Known → List flow.Known
+knowns_of = map known_of
+
+-- the names with a value
+abbrev pub env_in : List Known → List Bind
+env_in ks = flow.env_of (knowns_of ks)
+
+abbrev pub ended_of : Ended → flow.Ended
+ended_of e = record { call = e.call; ended = e.ended }
+
+abbrev pub endeds_of : List Ended → List flow.Ended
+endeds_of = map ended_of
+
+abbrev pub flowing_of : Flowing → flow.Flowing
+flowing_of f =
+    record {
+      names = knowns_of f.names;
+      calls = endeds_of f.calls;
+      jobs = f.jobs;
+      faults = f.faults;
+      waits = f.waits;
+      count = f.count;
+    }
+
+abbrev pub sight_of : Sight → flow.Sight
+sight_of s = record { names = knowns_of s.names; calls = endeds_of s.calls; place = s.place }
+
+abbrev pub run_of : Ground → flow.Run
+run_of g =
+    record {
+      library = library g.checked.now.structs g.checked.now.tasks g.checked.now.flows;
+      site = g.site.now;
+      table = table g.answers;
+    }
+
+abbrev pub given_of : Given → flow.Names
+given_of g = record { keys = g.keys; calls = g.calls }
+
+-- the first names, calls and segments of what is seen
+abbrev pub first : ℕ → ℕ → ℕ → flow.Sight → flow.Sight
+first names calls segments s = record { names = take names s.names; calls = take calls s.calls; place = take segments s.place }

@@ -1,0 +1,37 @@
+ghost use Rattle.std.specs.Prelude.{◌≡◌};
+ghost use Rattle.wdl_flow.specs.declared.fault.PlainFault.TheVariants.{NoMemory as OutOfMemory};
+
+use std::alloc::{AllocError, AllocFailed};
+use wdl_value::NoMemory;
+
+/// Why a flow is not given: it has more than 20,000 jobs or more than 1,000,000 instances of statements, or memory is
+/// wanting.
+#[derive(Clone, Copy, Debug, PartialEq, Eq)]
+pub enum PlainFault {
+    TooMany,
+    NoMemory,
+}
+
+impl From<NoMemory> for PlainFault {
+    ghost from_gives = { λ _ e. e ≡ OutOfMemory };
+
+    fn from(_e: NoMemory) -> PlainFault {
+        PlainFault::NoMemory
+    }
+}
+
+impl From<AllocError> for PlainFault {
+    ghost from_gives = { λ _ e. e ≡ OutOfMemory };
+
+    fn from(_e: AllocError) -> PlainFault {
+        PlainFault::NoMemory
+    }
+}
+
+impl<T: Drop> From<AllocFailed<T>> for PlainFault {
+    ghost from_gives = { λ _ e. e ≡ OutOfMemory };
+
+    fn from(_e: AllocFailed<T>) -> PlainFault {
+        PlainFault::NoMemory
+    }
+}
