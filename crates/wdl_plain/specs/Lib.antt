@@ -1,0 +1,6 @@
+pub mod Attempts
+pub mod Readiness
+pub mod Referring
+pub mod Shown
+pub mod Soundness
+pub mod Walk

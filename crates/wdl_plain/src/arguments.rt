@@ -1,0 +1,102 @@
+//! The arguments of calls.
+
+ghost use Rattle.std.specs.Prelude.{◌≡◌, ◌&&◌, true, IfOk};
+ghost use Rattle.std.specs.List.{list_all};
+ghost use Rattle.wdl_typed.specs.Evaluation.{value_of};
+ghost use Rattle.wdl_typed.specs.Requests.{before};
+ghost use Rattle.wdl_eval.specs.Ready.{IsReady};
+ghost use Rattle.wdl_task.specs.Tells.{Tells};
+ghost use Rattle.wdl_plain.specs.Readiness.{AreArgsReady};
+ghost use Rattle.wdl_typed.specs.Flow as flow;
+ghost use Rattle.wdl_flow.specs.Views.{endeds_of, env_in, knowns_of};
+
+use crate::valued::{may_evaluate, value_now};
+use std::alloc::Global;
+use std::sync::ledger::Ledger;
+use wdl_eval::EvalFault;
+use wdl_flow::{Names, Sight};
+use wdl_task::CallFault;
+use wdl_typed::{TCall, TExpr, TField};
+use wdl_value::{Bind, Env, Items, Key, Name, NoMemory, Steps, Value, Why};
+
+fn args_known(args: &[TField<TExpr>], names: &Names) -> bool
+    ensures { result ≡ flow.args_known (knowns_of names.now) args.now }
+{
+    for arg in args {
+        if !may_evaluate(&arg.value, names) {
+            return false;
+        }
+    }
+    true
+}
+
+fn have_ended(after: &[Name], sight: &Sight) -> bool
+    ensures { result ≡ list_all (flow.has_ended (endeds_of sight.now.calls)) after.now }
+{
+    for call in after {
+        if !sight.calls.has_ended(call) {
+            return false;
+        }
+    }
+    true
+}
+
+/// Whether the names of a call's arguments all have a value, and the calls that it comes after have ended.
+pub fn may_begin(call: &TCall, sight: &Sight) -> bool
+    ensures { result ≡ (flow.args_known (knowns_of sight.now.names) call.now.args && list_all (flow.has_ended (endeds_of sight.now.calls)) call.now.after) }
+{
+    args_known(call.args.as_slice(), &sight.names) && have_ended(call.after.as_slice(), sight)
+}
+
+/// The value of an argument.
+fn argument<L: Ledger>(
+    alloc: Global,
+    arg: &TField<TExpr>,
+    names: &Names,
+    steps: &mut Steps<L>,
+) -> Result<Value, CallFault>
+    requires known { flow.all_known (knowns_of names.now) arg.now.value ≡ true }
+    requires ready { IsReady arg.now.value (env_in names.now) }
+    ensures { Tells (flow.named_arg arg.now.name (value_of (before (env_in names.now)) arg.now.value)) result }
+{
+    match value_now(alloc, &arg.value, names, steps) {
+        Ok(value) => Ok(value),
+        Err(EvalFault::Code(code)) => Err(CallFault::Bad {
+            name: arg.name.to_text(alloc)?,
+            why: Why::Code(code),
+        }),
+        Err(EvalFault::NoMemory) => Err(CallFault::NoMemory),
+    }
+}
+
+fn arg_bind(alloc: Global, name: &Name, value: Value) -> Result<Bind, NoMemory>
+    ensures { IfOk result (λ b. b ≡ flow.arg_bind name.now value) }
+{
+    let first = name.copy(alloc)?;
+    Ok(Bind {
+        key: Key {
+            first,
+            second: None,
+        },
+        value,
+    })
+}
+
+/// The arguments in their order; the first fault is the answer.
+pub fn args_met<L: Ledger>(
+    alloc: Global,
+    args: &[TField<TExpr>],
+    names: &Names,
+    steps: &mut Steps<L>,
+) -> Result<Env, CallFault>
+    requires known { flow.args_known (knowns_of names.now) args.now ≡ true }
+    requires ready { AreArgsReady (env_in names.now) args.now }
+    ensures { Tells (flow.args_met (env_in names.now) args.now) result }
+{
+    let mut env = Items::new(alloc);
+    for arg in args {
+        let value = argument(alloc, arg, names, steps)?;
+        env.push(arg_bind(alloc, &arg.name, value)?)?;
+    }
+    Ok(env)
+}

@@ -1,0 +1,17 @@
+//! The flow of a workflow over a finished journal, evaluated from scratch: its program follows the definition.
+#![tactic(auto)]
+
+mod arguments;
+mod attempt;
+mod blocks;
+mod callee;
+mod declaration;
+mod flow;
+mod laws;
+mod referring;
+mod valued;
+mod walk;
+
+pub use flow::{Flow, flow_now};
+pub use laws::flows_fit;
+pub use wdl_flow::PlainFault;
