@@ -1,0 +1,4 @@
+mod MarkLemmas
+mod LogLemmas
+mod Counted
+mod RoundLaws
