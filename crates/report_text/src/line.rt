@@ -148,7 +148,10 @@ pub fn line_of(alloc: Global, status: &Status, paths: &Items<Text>) -> Result<Te
     match status {
         Status::Ok => Ok(Text::empty(alloc)),
         Status::Failed(fault) => failed_line(alloc, fault),
-        Status::Usage => Text::from_plain(alloc, "usage: wdl run FILE\n"),
+        Status::Usage => Text::from_plain(
+            alloc,
+            "usage: wdl run [--inputs FILE] [--root DIR] FILE | check FILE\n",
+        ),
         Status::Document(code, span) => document_line(alloc, *code, *span, paths),
         Status::Inputs(code, name) => inputs_line(alloc, *code, name),
         Status::Read(path) => read_line(alloc, path),

@@ -1,2 +1,9 @@
 mod ToldLemmas
 mod Works
+mod Outcomes
+mod Completes
+mod Paths
+mod Joined
+mod Given
+mod Forms
+mod Started

@@ -1,4 +1,8 @@
+pub mod Asking
+pub mod Documents
+pub mod Running
 pub mod Causes
+pub mod Stages
 pub mod Writing
 pub mod Complete
 pub mod Counting

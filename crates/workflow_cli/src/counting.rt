@@ -5,7 +5,7 @@ ghost use Rattle.workflow_cli.specs.Counting.{AreCounts};
 use wdl_value::{Counts, Step};
 
 fn is_took(step: &Step) -> bool
-    ensures { result ≡ spec.is_took step.now }
+    ensures value { result ≡ spec.is_took step.now }
 {
     match step {
         Step::Took(_) => true,
@@ -14,14 +14,14 @@ fn is_took(step: &Step) -> bool
 }
 
 fn taken(steps: &[Step]) -> usize
-    ensures { result ≡ spec.taken steps.now }
+    ensures value { result ≡ spec.taken steps.now }
 {
     steps.iter().filter(|step| is_took(step)).count()
 }
 
 /// The counts of a run on one thread: each job that was taken was put, picked, finished and collected.
 pub fn counts_of(steps: &[Step]) -> Counts
-    ensures { AreCounts steps.now result }
+    ensures value { AreCounts steps.now result }
 {
     let taken = taken(steps) as u64;
     Counts {

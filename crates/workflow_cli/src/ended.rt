@@ -1,12 +1,18 @@
 use report_text::Status;
-use sqlite_items::Items;
-use wdl_value::{Counts, Entry, Step};
+use wdl_value::{Counts, Entry, Items, Step, Text};
+
+/// Why a command does no more: its status, and the paths of the documents by their numbers, where its line names one.
+#[derive(Debug, Drop)]
+pub struct Stop {
+    pub status: Status,
+    pub paths: Items<Text>,
+}
 
 /// What the work of a command comes to before anything is written: the text for the output, or another status.
 #[derive(Debug, Drop)]
 pub enum Work {
-    Text(Items<u8>),
-    Stop(Status),
+    Text(Text),
+    Stop(Stop),
 }
 
 /// The work of a command, with the journal of its run and the jobs that were taken and settled.

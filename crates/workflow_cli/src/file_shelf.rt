@@ -18,7 +18,7 @@ pub struct FileShelf<R> {
 impl<R> FileShelf<R> {
     /// A shelf without faults. It takes no memory.
     pub fn new(rt: R) -> FileShelf<R>
-        ensures { result.faults ≡ 0 }
+        ensures faults { result.faults ≡ 0 }
     {
         FileShelf { rt, faults: 0 }
     }

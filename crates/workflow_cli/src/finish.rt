@@ -1,19 +1,16 @@
-ghost use Rattle.std.specs.Prelude.{◌≡◌, []};
-ghost use Rattle.report_text.specs.Lines.{HasPath};
+ghost use Rattle.report_text.specs.Lines.{HasPath, line_of as line};
 ghost use Rattle.wdl_port.specs.Causes.{Rose};
-ghost use Rattle.workflow_cli.specs.Writing.{line, TellsLine, Tells, Finishes, IsPlain};
+ghost use Rattle.workflow_cli.specs.Writing.{TellsLine, Reports, Finishes, HasPaths};
 
-use crate::ended::Work;
+use crate::ended::{Stop, Work};
 use crate::writing::write_all;
 use report_text::{Status, line_of, no_memory_line, write_line};
-use sqlite_items::Items;
 use std::alloc::Global;
 use wdl_port::Sink;
 
 /// Writes the line of a status.
 fn tell_line<E: Sink>(status: Status, text: &str, err: &mut E) -> Status
-    requires { text.now ≡ line status }
-    ensures { TellsLine status (E.told err.old) (E.told err.new) (Rose (E.faults err.old) (E.faults err.new)) result }
+    ensures value { TellsLine status text.now (E.told err.old) (E.told err.new) (Rose (E.faults err.old) (E.faults err.new)) result }
 {
     match write_all(err, text.as_bytes()) {
         Ok(()) => status,
@@ -22,11 +19,12 @@ fn tell_line<E: Sink>(status: Status, text: &str, err: &mut E) -> Status
 }
 
 /// Makes the line of a status and writes it.
-fn tell<E: Sink>(alloc: Global, status: Status, err: &mut E) -> Status
-    requires { HasPath status [] }
-    ensures { Tells status (E.told err.old) (E.told err.new) (Rose (E.faults err.old) (E.faults err.new)) result }
+fn tell<E: Sink>(alloc: Global, stop: Stop, err: &mut E) -> Status
+    requires paths { HasPath stop.status stop.paths }
+    ensures value { Reports stop.status stop.paths (E.told err.old) (E.told err.new) (Rose (E.faults err.old) (E.faults err.new)) result }
 {
-    match line_of(alloc, &status, &Items::new(alloc)) {
+    let Stop { status, paths } = stop;
+    match line_of(alloc, &status, &paths) {
         Ok(text) => tell_line(status, text.as_str(), err),
         Err(_) => tell_line(Status::NoMemory, no_memory_line(), err),
     }
@@ -34,15 +32,15 @@ fn tell<E: Sink>(alloc: Global, status: Status, err: &mut E) -> Status
 
 /// Writes what the work came to, and says how that ended.
 pub fn finish<O: Sink, E: Sink>(alloc: Global, work: Work, out: &mut O, err: &mut E) -> Status
-    requires { IsPlain work }
-    ensures { Finishes work (O.told out.old) (O.told out.new) (E.told err.old) (E.told err.new)
+    requires paths { HasPaths work }
+    ensures value { Finishes work (O.told out.old) (O.told out.new) (E.told err.old) (E.told err.new)
         (Rose (O.faults out.old) (O.faults out.new)) (Rose (E.faults err.old) (E.faults err.new)) result }
 {
     match work {
-        Work::Text(text) => match write_all(out, text.as_slice()) {
+        Work::Text(text) => match write_all(out, text.as_str().as_bytes()) {
             Ok(()) => Status::Ok,
             Err(_) => tell_line(Status::Write, write_line(), err),
         },
-        Work::Stop(status) => tell(alloc, status, err),
+        Work::Stop(stop) => tell(alloc, stop, err),
     }
 }

@@ -1,10 +1,15 @@
 //! All that the program does, from the words of its command line to what it writes, and the real files and streams.
 #![tactic(auto)]
 
+mod asking;
+mod checking;
 mod counting;
 mod ended;
 mod file_shelf;
 mod finish;
+mod inputs;
+mod prepare;
+mod run;
 mod stream_sink;
 mod top;
 mod work;

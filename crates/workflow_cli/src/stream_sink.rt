@@ -14,7 +14,7 @@ pub struct StreamSink<W> {
 impl<W> StreamSink<W> {
     /// A sink without faults. It takes no memory.
     pub fn new(writer: W) -> StreamSink<W>
-        ensures { result.faults ≡ 0 }
+        ensures faults { result.faults ≡ 0 }
     {
         StreamSink { writer, faults: 0 }
     }

@@ -1,12 +1,14 @@
-ghost use Rattle.std.specs.Prelude.{◌≡◌, ◌⊎◌, None, List, ℕ};
+ghost use Rattle.std.specs.Prelude.{◌≡◌, ◌⊎◌, None, List, Option, ℕ};
 ghost use Rattle.wdl_port.specs.Causes.{Rose};
 ghost use Rattle.wdl_base.specs.declared.fault.Fault.{Fault as FaultOf};
+ghost use Rattle.wdl_base.specs.declared.place.Segment.{Segment as SegmentOf};
+ghost use Rattle.wdl_base.specs.declared.span.Span.{Span as SpanOf};
 ghost use Rattle.report_text.specs.declared.status.Status.TheVariants as status;
-ghost use Rattle.thin_path.specs.Flow.{Place as PlaceOf};
-ghost use Rattle.thin_path.specs.Words.{wants};
-ghost use Rattle.workflow_cli.specs.Causes.{trace_of, IsIdle, SomeRun, IsFailed, IsUnread, IsUnlaunched, IsNotBuilt, IsBuilt};
-ghost use Rattle.workflow_cli.specs.Writing.{IsWritten, IsCut, Lines};
-ghost use Rattle.workflow_cli.specs.Complete.{UsageIsComplete, NotBuiltIsComplete, RunIsComplete};
+ghost use Rattle.workflow_cli.specs.Asking.{IsNotBuilt, asked};
+ghost use Rattle.workflow_cli.specs.Causes.{IsBuilt, IsUnread};
+ghost use Rattle.workflow_cli.specs.Running.{IsBadInputs, IsFailed, IsIdle, IsTooMany, IsUnlaunched, SomeRun, trace_of};
+ghost use Rattle.workflow_cli.specs.Writing.{IsCut, IsReported, IsWritten, Lines};
+ghost use Rattle.workflow_cli.specs.Complete.{CheckIsComplete, DocumentIsComplete, InputsIsComplete, MainIsComplete, NotBuiltIsComplete, RunIsComplete, UsageIsComplete};
 ghost use Rattle.workflow_cli.specs.Counting.{AreCounts};
 
 use crate::counting::counts_of;
@@ -18,10 +20,13 @@ use std::sync::ledger::Ledger;
 use wdl_port::{Keeper, Launcher, Shelf, Sink};
 use wdl_value::Steps;
 
-/// All that the program does: `run FILE` reads the document of that file from the shelf, runs its workflow through the
-/// launcher, and writes the outputs as JSON to `out`, or the line of another status to `err`.
+/// All that the program does. `run [--inputs FILE] [--root DIR] FILE` reads the document of that file and its imports from the
+/// shelf, checks them, reads the inputs, runs the main workflow through the launcher, one job at a time, and writes the outputs as
+/// JSON and a newline to `out`. `check FILE` writes `ok` and a newline, where the document has a checked form. With another status
+/// its line is written to `err`.
 ///
-/// The steps count the expressions that are evaluated. The keeper is not used.
+/// Not built yet are `cwl`, `load`, `bundle`, and `run` with `--journal` or with other workers than 1 or the default 4, which
+/// for now both run one job at a time. The keeper is not used.
 pub fn workflow<F: Shelf, O: Sink, E: Sink, L: Launcher + Sync, K: Keeper, S: Ledger>(
     alloc: Global,
     words: &[String],
@@ -32,9 +37,8 @@ pub fn workflow<F: Shelf, O: Sink, E: Sink, L: Launcher + Sync, K: Keeper, S: Le
     keeper: &mut K,
     steps: &mut Steps<S>,
 ) -> Ended
-    requires { K.path keeper.old ≡ None }
-    // Nothing ran; or the launcher gave each answer of the journal for a job of the flow over the entries before it, and
-    // no more expressions were evaluated than the document has.
+    requires no_file { K.path keeper.old ≡ None }
+    // Nothing ran; or the journal is fed for the main workflow, and the launcher gave each of its answers.
     ensures run { IsIdle (trace_of result steps.old steps.new)
         ⊎ SomeRun (F.tells shelf.old) words.now (L.gives launcher.now) (trace_of result steps.old steps.new) }
     // Each job that was taken was put, picked, finished and collected.
@@ -46,29 +50,43 @@ pub fn workflow<F: Shelf, O: Sink, E: Sink, L: Launcher + Sync, K: Keeper, S: Le
     ensures failed { (f : FaultOf) → result.status ≡ status.Failed f
         → IsFailed (F.tells shelf.old) words.now (L.gives launcher.now) (trace_of result steps.old steps.new) f }
     ensures usage { result.status ≡ status.Usage
-        → IsIdle (trace_of result steps.old steps.new) × (wants words.now ≡ None) }
+        → IsIdle (trace_of result steps.old steps.new) × (asked words.now ≡ None) }
+    ensures document { (code : ℕ) (span : SpanOf) → result.status ≡ status.Document code span
+        → IsReported (F.tells shelf.old) words.now (L.gives launcher.now) (trace_of result steps.old steps.new)
+        (O.told out.old) (O.told out.new) (E.told err.old) (E.told err.new) code span }
+    ensures inputs { (code : ℕ) (name : Option (List ℕ)) → result.status ≡ status.Inputs code name
+        → IsIdle (trace_of result steps.old steps.new) × IsBadInputs (F.tells shelf.old) words.now code name }
     ensures read { (p : List ℕ) → result.status ≡ status.Read p
         → IsIdle (trace_of result steps.old steps.new)
-        × IsUnread (F.refuses shelf.old) (Rose (F.faults shelf.old) (F.faults shelf.new)) words.now p }
+        × IsUnread (F.tells shelf.old) words.now (F.refuses shelf.old) (Rose (F.faults shelf.old) (F.faults shelf.new)) p }
     ensures write { result.status ≡ status.Write
         → IsCut (F.tells shelf.old) (F.refuses shelf.old) (Rose (F.faults shelf.old) (F.faults shelf.new))
         (L.gives launcher.now) (L.refuses launcher.now) words.now (trace_of result steps.old steps.new)
         (O.told out.old) (O.told out.new) (E.told err.old) (E.told err.new)
         (Rose (O.faults out.old) (O.faults out.new)) (Rose (E.faults err.old) (E.faults err.new)) }
-    ensures launch { (p : PlaceOf) → result.status ≡ status.Launch p
+    ensures launch { (p : List SegmentOf) → result.status ≡ status.Launch p
         → IsUnlaunched (F.tells shelf.old) words.now (L.gives launcher.now) (trace_of result steps.old steps.new)
         (L.refuses launcher.now) p }
+    ensures too_many { result.status ≡ status.TooMany
+        → IsTooMany (F.tells shelf.old) words.now (L.gives launcher.now) (trace_of result steps.old steps.new) }
     ensures not_built { result.status ≡ status.NotBuilt
-        → IsIdle (trace_of result steps.old steps.new) × IsNotBuilt (F.tells shelf.old) words.now }
+        → IsIdle (trace_of result steps.old steps.new) × IsNotBuilt words.now }
     // No other status but NoMemory comes.
     ensures built { IsBuilt result.status }
-    // With a status other than Ok and Write, its line and nothing else was written.
+    // With a status other than Ok, Write and Document, its line and nothing else was written.
     ensures lines { Lines result.status (O.told out.old) (O.told out.new) (E.told err.old) (E.told err.new) }
     ensures keeper { keeper.new ≡ keeper.old }
     // The other way round: which status comes, unless memory ends.
     ensures usage_complete { UsageIsComplete words.now (Rose (E.faults err.old) (E.faults err.new)) result.status }
-    ensures not_built_complete { NotBuiltIsComplete (F.tells shelf.old) words.now
-        (Rose (F.faults shelf.old) (F.faults shelf.new)) (Rose (E.faults err.old) (E.faults err.new)) result.status }
+    ensures not_built_complete { NotBuiltIsComplete words.now (Rose (E.faults err.old) (E.faults err.new)) result.status }
+    ensures document_complete { DocumentIsComplete (F.tells shelf.old) words.now (Rose (F.faults shelf.old) (F.faults shelf.new))
+        (Rose (O.faults out.old) (O.faults out.new) ⊎ Rose (E.faults err.old) (E.faults err.new)) result.status }
+    ensures main_complete { MainIsComplete (F.tells shelf.old) words.now (Rose (F.faults shelf.old) (F.faults shelf.new))
+        (Rose (O.faults out.old) (O.faults out.new) ⊎ Rose (E.faults err.old) (E.faults err.new)) result.status }
+    ensures inputs_complete { InputsIsComplete (F.tells shelf.old) words.now (Rose (F.faults shelf.old) (F.faults shelf.new))
+        (Rose (O.faults out.old) (O.faults out.new) ⊎ Rose (E.faults err.old) (E.faults err.new)) result.status }
+    ensures check_complete { CheckIsComplete (F.tells shelf.old) words.now (Rose (F.faults shelf.old) (F.faults shelf.new))
+        (Rose (O.faults out.old) (O.faults out.new) ⊎ Rose (E.faults err.old) (E.faults err.new)) result.status }
     ensures run_complete { RunIsComplete (F.tells shelf.old) words.now (L.refuses launcher.now)
         (Rose (F.faults shelf.old) (F.faults shelf.new))
         (Rose (O.faults out.old) (O.faults out.new) ⊎ Rose (E.faults err.old) (E.faults err.new))

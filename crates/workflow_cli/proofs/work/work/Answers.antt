@@ -1,7 +1,13 @@
-use Rattle.workflow_cli.proofs.Works.{ran_is_work}
+use Rattle.std.proofs.Common.{refl}
+use Rattle.workflow_cli.proofs.Works.{check_is_work, run_is_work}
 use Rattle.workflow_cli.proofs.work.work.Goals as goal
 
-pub returns-clause-cause : goal.returns-clause-cause
-returns-clause-cause g c =
-    ran_is_work _ _ _ _ _ _ c.in-Ok.document c.in-Ok.ensures c.run_flow-journal.result _ _ _ _ c.in-Ok-from_plain.ensures
-    c.run_flow-journal.ensures.value c.run_flow-journal.ensures.cost c.work_of.ensures
+pub returns-in-Ok-Run-clause-cause : goal.returns-in-Ok-Run-clause-cause
+returns-in-Ok-Run-clause-cause g c =
+    let asked = rw c.in-Ok-Run.field-0-is at c.in-Ok-Run.ensures.value in
+    run_is_work _ _ _ _ _ _ _ _ _ asked _ _ _ c.run.ensures.value
+
+pub returns-in-Ok-Check-clause-cause : goal.returns-in-Ok-Check-clause-cause
+returns-in-Ok-Check-clause-cause g c =
+    let asked = rw c.in-Ok-Check.field-0-is at c.in-Ok-Check.ensures.value in
+    rw c.idle.ensures.work (check_is_work _ _ _ _ _ _ _ (record { no_answer = c.idle.ensures.journal; no_job = c.idle.ensures.steps; no_step = refl }) _ asked c.accepted.result c.accepted.ensures.value)

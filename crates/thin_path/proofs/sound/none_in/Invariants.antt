@@ -1,6 +1,0 @@
-use Rattle.std.proofs.Common.{◌≡◌, drop}
-use Rattle.thin_path.specs.Sound.{none_in}
-use Rattle.thin_path.proofs.sound.none_in.Given as goal
-
-abbrev pub invariant-loop-item : goal.invariant-loop-item
-invariant-loop-item g l = none_in g.T.Named.named g.U.Named.named (drop l.item-index l.items) l.others ≡ none_in g.T.Named.named g.U.Named.named l.items l.others

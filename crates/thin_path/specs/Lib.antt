@@ -1,9 +1,0 @@
-pub mod Scan
-pub mod Results
-pub mod Line
-pub mod Reading
-pub mod Sound
-pub mod Words
-pub mod Flow
-pub mod Runs
-pub mod Outputs

@@ -1,0 +1,70 @@
+use crate::reading::Case;
+use crate::run::{Outcome, run_case};
+use report_text::number_of;
+use std::alloc::Global;
+use std::test::Fail;
+use wdl_value::{Entry, Laid, Place, Step, place_text};
+
+fn push_place(alloc: Global, shown: &mut String, mark: &str, place: &Place) -> Result<(), Fail> {
+    let place = place_text(alloc, place)?;
+    shown.push_str(mark)?;
+    shown.push_str(place.as_str())?;
+    Ok(())
+}
+
+/// Each job that was taken behind `+`, and each that was settled behind `-`.
+fn push_steps(alloc: Global, shown: &mut String, steps: &[Step]) -> Result<(), Fail> {
+    for step in steps {
+        match step {
+            Step::Took(place) => push_place(alloc, shown, " +", place)?,
+            Step::Settled(place) => push_place(alloc, shown, " -", place)?,
+        }
+    }
+    shown.push_str("\n")?;
+    Ok(())
+}
+
+fn push_laid(shown: &mut String, files: &[Laid]) -> Result<(), Fail> {
+    for file in files {
+        shown.push_str(" [")?;
+        shown.push_str(file.name.as_str())?;
+        shown.push_str(" ")?;
+        shown.push_str(file.body.as_str())?;
+        shown.push_str("]")?;
+    }
+    Ok(())
+}
+
+/// The directory of each job, its command, and the files that were laid there.
+fn push_entries(shown: &mut String, journal: &[Entry]) -> Result<(), Fail> {
+    for entry in journal {
+        shown.push_str(entry.request.dir.as_str())?;
+        shown.push_str(" ")?;
+        shown.push_str(entry.request.command.as_str())?;
+        push_laid(shown, entry.request.files.as_slice())?;
+        shown.push_str("\n")?;
+    }
+    Ok(())
+}
+
+fn push_written(shown: &mut String, outcome: &Outcome) -> Result<(), Fail> {
+    shown.push_str(str::from_utf8(outcome.out.bytes.as_slice())?)?;
+    if !outcome.err.bytes.is_empty() {
+        shown.push_str("! ")?;
+        shown.push_str(str::from_utf8(outcome.err.bytes.as_slice())?)?;
+    }
+    Ok(())
+}
+
+/// What is seen of a call: the number of its status and how many jobs it collected, the jobs that were taken and settled, what was
+/// written to the output, behind `!` what was written to the error stream, and the requests of its journal.
+pub fn shown(alloc: Global, case: Case) -> Result<String, Fail> {
+    let outcome = run_case(alloc, case)?;
+    let number = number_of(&outcome.ended.status);
+    let collected = outcome.ended.counts.collected;
+    let mut shown = format!(in alloc; "{number} {collected}")?;
+    push_steps(alloc, &mut shown, outcome.ended.steps.as_slice())?;
+    push_written(&mut shown, &outcome)?;
+    push_entries(&mut shown, outcome.ended.journal.as_slice())?;
+    Ok(shown)
+}

@@ -1,0 +1,69 @@
+-- What a run starts with, over two calls of the shelf.
+use Rattle.std.proofs.Common.{◌≡◌, ◌≤◌, inr, ℕ, List, Option, Some, None, Bor, is_some, option_copied, arith, sym, subst, true, false}
+use Rattle.std.proofs.lemmas.Bool.{false≢true}
+use Rattle.wdl_value.specs.declared.env.Bind.{Bind}
+use Rattle.report_text.specs.declared.status.Status.{Status}
+use Rattle.report_text.specs.declared.status.Status.TheVariants as status
+use Rattle.wdl_port.specs.Causes.{Rose}
+use Rattle.wdl_port.specs.Files.{IsFile}
+use Rattle.wdl_typed.specs.declared.checked.Checked.{Checked}
+use Rattle.wdl_typed.specs.declared.flow.FlowDef.{FlowDef}
+use Rattle.wdl_json.specs.Inputs.{main_of}
+use Rattle.workflow_cli.specs.Documents.{HasChecked, Tells}
+use Rattle.workflow_cli.specs.Running.{IsInputsText}
+use Rattle.workflow_cli.specs.Stages.{GiveInStops, HasGiven, IsMainlessStop, PrepareStops}
+
+-- what a reference to a part is, or is not
+pub is_nothing : (o : Option (Bor FlowDef)) (m : Option FlowDef) → option_copied o ≡ m → is_some o ≡ false → m ≡ None
+is_nothing None m e n = sym e
+is_nothing (Some f) m e n = absurd (false≢true (sym n))
+
+pub is_something : (o : Option (Bor FlowDef)) (m : Option FlowDef) → option_copied o ≡ m → is_some o ≡ true → (f : FlowDef) × (m ≡ Some f)
+is_something None m e n = absurd (false≢true n)
+is_something (Some f) m e n = (f.now, sym e)
+
+pub rose_later : (a b c : ℕ) → a ≤ b → Rose b c → Rose a c
+rose_later a b c h r = grind (arith, h, r)
+
+module _ (tells : Tells) (refused : List ℕ → Type 0) (rose : Type 0) (file : List ℕ) (inputs : Option (List ℕ)) (c : Checked) (has : HasChecked tells file c) where
+  -- without a main workflow
+  pub mainless_stops : main_of c.flows c.main ≡ None → (s : Status) (paths : List (List ℕ)) → IsMainlessStop file s paths → PrepareStops tells refused rose file inputs s paths
+  mainless_stops none (status.Document code span) paths h = inr (record { checked = c; has = has; none = none; is_code = h.0; is_span = h.1; named = h.2 })
+  mainless_stops none status.NoMemory paths h = tt
+  mainless_stops none status.Ok paths h = absurd h
+  mainless_stops none (status.Failed fault) paths h = absurd h
+  mainless_stops none status.Usage paths h = absurd h
+  mainless_stops none (status.Inputs code name) paths h = absurd h
+  mainless_stops none (status.Read path) paths h = absurd h
+  mainless_stops none status.Write paths h = absurd h
+  mainless_stops none (status.NotInSubset rule span) paths h = absurd h
+  mainless_stops none (status.Launch place) paths h = absurd h
+  mainless_stops none status.Keep paths h = absurd h
+  mainless_stops none status.TooMany paths h = absurd h
+  mainless_stops none status.NotBuilt paths h = absurd h
+
+  -- the shelf tells and refuses as before, and a count that rose later rose
+  module _ (told : Tells) (same : (p : List ℕ) → told p ≡ tells p) where
+    text_before : (i : Option (List ℕ)) (text : List ℕ) → IsInputsText told i text → IsInputsText tells i text
+    text_before None text h = h
+    text_before (Some path) text h = subst (λ o. IsFile o text) (same path) h
+
+    pub given_before : (given : List Bind) → HasGiven told inputs c given → HasGiven tells inputs c given
+    given_before given h = record { flow = h.flow; main = h.main; text = h.text; is_text = text_before inputs h.text h.is_text; reads = h.reads; fit = h.fit }
+
+    pub stops_before : (refuses : List ℕ → Type 0) (rises : Type 0) → ((p : List ℕ) → refuses p → refused p) → (rises → rose)
+        → (s : Status) (paths : List (List ℕ)) → GiveInStops told refuses rises inputs c s → PrepareStops tells refused rose file inputs s paths
+    stops_before refuses rises back up (status.Inputs code name) paths h =
+        record { checked = c; has = has; none = record { flow = h.flow; main = h.main; text = h.text; is_text = text_before inputs h.text h.is_text; refused = h.refused } }
+    stops_before refuses rises back up (status.Read path) paths h = inr (record { checked = c; has = has; named = h.0; refusal = back path h.1; counted = up h.2 })
+    stops_before refuses rises back up status.NoMemory paths h = tt
+    stops_before refuses rises back up status.Ok paths h = absurd h
+    stops_before refuses rises back up (status.Failed fault) paths h = absurd h
+    stops_before refuses rises back up status.Usage paths h = absurd h
+    stops_before refuses rises back up (status.Document code span) paths h = absurd h
+    stops_before refuses rises back up status.Write paths h = absurd h
+    stops_before refuses rises back up (status.NotInSubset rule span) paths h = absurd h
+    stops_before refuses rises back up (status.Launch place) paths h = absurd h
+    stops_before refuses rises back up status.Keep paths h = absurd h
+    stops_before refuses rises back up status.TooMany paths h = absurd h
+    stops_before refuses rises back up status.NotBuilt paths h = absurd h

@@ -1,0 +1,76 @@
+-- What the words ask for, and what today's program does of it.
+use Rattle.std.specs.Prelude.{◌≡◌, ℕ, Bool, ◌==◌, ◌||◌, List, Option, Some, None, Result, Ok, Err, if◌then◌else◌, map, string_bytes, String, ⊤}
+use Rattle.std.specs.declared.alloc.Global.{Global}
+use Rattle.report_text.specs.declared.status.Status.{Status}
+use Rattle.report_text.specs.declared.status.Status.TheVariants as status
+use Rattle.wdl_words.specs.Words.{wants}
+use Rattle.wdl_words.specs.declared.wants.Wants.{Wants}
+use Rattle.wdl_words.specs.declared.wants.Wants.TheVariants.{Run, Check, Cwl, Load, Bundle}
+use Rattle.workflow_cli.specs.declared.asking.Command.{Command}
+use Rattle.workflow_cli.specs.declared.asking.Command.TheVariants as command
+
+abbrev pub Words : Type 0
+Words = List (String Global)
+
+-- what the words ask for, if they have a reading
+unfoldable pub asked : Words → Option Wants
+asked words = wants (map string_bytes words)
+
+-- Jobs run one at a time: with one worker, and for now with the four of the default too.
+abbrev pub runs_singly : ℕ → Bool
+runs_singly workers = (workers == 1) || (workers == 4)
+
+-- a run without a journal
+abbrev pub run_command : List ℕ → Option (List ℕ) → ℕ → List ℕ → Option (List ℕ) → Option Command
+run_command file inputs workers root None = if runs_singly workers then Some (command.Run file inputs root) else None
+run_command file inputs workers root (Some journal) = None
+
+-- what today's program does of it: runs without a journal and checks
+abbrev pub command_of : Wants → Option Command
+command_of (Run file inputs workers root journal) = run_command file inputs workers root journal
+command_of (Check file) = Some (command.Check file)
+command_of (Cwl file) = None
+command_of (Load number) = None
+command_of (Bundle file) = None
+
+-- the words ask for what is not built yet
+pub record IsNotBuilt (words : Words) : Type 0 where
+  pub wants : Wants
+  pub asked : asked words ≡ Some wants
+  pub missing : command_of wants ≡ None
+
+-- the words ask for this
+pub record IsCommand (words : Words) (c : Command) : Type 0 where
+  pub wants : Wants
+  pub asked : asked words ≡ Some wants
+  pub built : command_of wants ≡ Some c
+
+-- a run of the document at this path, with the inputs of that one
+abbrev pub IsRunOf : Words → List ℕ → Option (List ℕ) → List ℕ → Type 0
+IsRunOf words file inputs root = IsCommand words (command.Run file inputs root)
+
+-- a check of the document at this path
+abbrev pub IsCheckOf : Words → List ℕ → Type 0
+IsCheckOf words file = IsCommand words (command.Check file)
+
+-- why nothing is done
+abbrev pub AskStops : Words → Status → Type 0
+AskStops words status.Usage = asked words ≡ None
+AskStops words status.NotBuilt = IsNotBuilt words
+AskStops words status.NoMemory = ⊤
+AskStops words s = ⊥
+
+abbrev pub Asks : Words → Result Command Status → Type 0
+Asks words (Ok c) = IsCommand words c
+Asks words (Err s) = AskStops words s
+
+-- ---- the reading
+
+abbrev pub HasNoReading : Words → Status → Type 0
+HasNoReading words status.Usage = asked words ≡ None
+HasNoReading words status.NoMemory = ⊤
+HasNoReading words s = ⊥
+
+abbrev pub HasReading : Words → Result Wants Status → Type 0
+HasReading words (Ok w) = asked words ≡ Some w
+HasReading words (Err s) = HasNoReading words s

@@ -1,0 +1,98 @@
+//! The words of the command line.
+
+ghost use Rattle.std.specs.Prelude.{◌≡◌, [], IfErr};
+ghost use Rattle.report_text.specs.Lines.{HasPath};
+ghost use Rattle.workflow_cli.specs.Asking as spec;
+ghost use Rattle.workflow_cli.specs.Asking.{Asks};
+
+use report_text::Status;
+use std::alloc::Global;
+use wdl_value::Text;
+use wdl_words::{Wants, WordFault, read_words};
+
+/// What today's program does.
+#[derive(Debug, Drop)]
+pub enum Command {
+    /// Runs the main workflow of a document.
+    Run {
+        /// The document's path.
+        file: Text,
+        /// The path of the inputs.
+        inputs: Option<Text>,
+        /// The directory below which each job gets its own.
+        root: Text,
+    },
+    /// Checks a document.
+    Check {
+        file: Text,
+    },
+}
+
+/// A run, where it is built: one job runs at a time, with one worker, and for now with the four of the default too; and no
+/// journal is kept.
+fn run_command(
+    file: Text,
+    inputs: Option<Text>,
+    workers: u32,
+    root: Text,
+    journal: Option<Text>,
+) -> Option<Command>
+    ensures value { result ≡ spec.run_command file inputs workers root journal }
+{
+    match journal {
+        None => {
+            if workers == 1 || workers == 4 {
+                Some(Command::Run { file, inputs, root })
+            } else {
+                None
+            }
+        }
+        Some(_) => None,
+    }
+}
+
+/// What is done of what the words ask for, where it is built.
+fn command_of(wants: Wants) -> Option<Command>
+    ensures value { result ≡ spec.command_of wants }
+{
+    match wants {
+        Wants::Run {
+            file,
+            inputs,
+            workers,
+            root,
+            journal,
+        } => run_command(file, inputs, workers, root, journal),
+        Wants::Check { file } => Some(Command::Check { file }),
+        Wants::Cwl { file: _ } => None,
+        Wants::Load { number: _ } => None,
+        Wants::Bundle { file: _ } => None,
+    }
+}
+
+/// The words' reading.
+#[tactic(auto, unfolding(crate::specs::Asking::asked))]
+fn wants_of(alloc: Global, words: &[String]) -> Result<Wants, Status>
+    ensures value { spec.HasReading words.now result }
+{
+    match read_words(alloc, words) {
+        Ok(wants) => Ok(wants),
+        Err(WordFault::Usage) => Err(Status::Usage),
+        Err(WordFault::NoMemory) => Err(Status::NoMemory),
+    }
+}
+
+/// What the words ask for: `Usage` where they have no reading, and `NotBuilt` for what is not built yet.
+pub fn asked(alloc: Global, words: &[String]) -> Result<Command, Status>
+    ensures value { Asks words.now result }
+    ensures paths { IfErr result (λ s. HasPath s []) }
+{
+    let wants = match wants_of(alloc, words) {
+        Ok(wants) => wants,
+        Err(status) => return Err(status),
+    };
+    match command_of(wants) {
+        Some(command) => Ok(command),
+        None => Err(Status::NotBuilt),
+    }
+}

@@ -1,0 +1,124 @@
+//! The documents, from their files to the checked form.
+
+ghost use Rattle.std.specs.Prelude.{◌≡◌, ◌≤◌, ◌↔◌, ◌<◌, ℕ, List, [], IfOk, IfErr, length, Some, slice_get};
+ghost use Rattle.report_text.specs.Lines.{HasPath};
+ghost use Rattle.wdl_port.specs.Causes.{Rose};
+ghost use Rattle.workflow_cli.specs.Documents as spec;
+ghost use Rattle.workflow_cli.specs.Documents.{Checks, Gathers, Types, paths_of};
+
+use crate::ended::Stop;
+use report_text::Status;
+use std::alloc::Global;
+use wdl_check_doc::{CheckFault, check};
+use wdl_imports::{ImportFault, gather};
+use wdl_library::Library;
+use wdl_port::Shelf;
+use wdl_typed::Checked;
+use wdl_value::{Items, NoMemory, Span, Text};
+
+/// A stop whose line names no document.
+pub fn stop(alloc: Global, status: Status) -> Stop
+    ensures status { result.status ≡ status }
+    ensures paths { result.paths ≡ [] }
+{
+    Stop {
+        status,
+        paths: Items::new(alloc),
+    }
+}
+
+/// Paths by the numbers of documents, of which this number has the given one.
+#[tactic(auto, using(crate::proofs::Paths::last_is))]
+fn paths_to(alloc: Global, number: u32, path: Text) -> Result<Items<Text>, NoMemory>
+    ensures path { IfOk result (λ paths. slice_get paths number ≡ Some path) }
+    ensures long { IfOk result (λ paths. number < length paths) }
+{
+    let mut paths = Items::new(alloc);
+    'fill: while paths.len() < number as usize {
+        paths.push(Text::empty(alloc))?;
+    }
+    paths.push(path)?;
+    Ok(paths)
+}
+
+/// The stop of a document in which a rule is broken.
+fn refused(alloc: Global, code: u16, path: Text, span: Span) -> Stop
+    ensures value { spec.IsRefusal code span path result.status result.paths }
+    ensures paths { HasPath result.status result.paths }
+{
+    match paths_to(alloc, span.doc, path) {
+        Ok(paths) => Stop {
+            status: Status::Document(code, span),
+            paths,
+        },
+        Err(_) => stop(alloc, Status::NoMemory),
+    }
+}
+
+/// The library of the document at a path.
+fn gathered<F: Shelf>(alloc: Global, file: &Text, shelf: &mut F) -> Result<Library, Stop>
+    ensures outcome { Gathers (F.tells shelf.old) file.now (F.refuses shelf.old) (Rose (F.faults shelf.old) (F.faults shelf.new)) result }
+    ensures paths { IfErr result (λ s. HasPath s.status s.paths) }
+    ensures later { F.faults shelf.old ≤ F.faults shelf.new }
+    ensures same_files { (p : List ℕ) → F.tells shelf.new p ≡ F.tells shelf.old p }
+    ensures same_refusals { (p : List ℕ) → F.refuses shelf.new p ↔ F.refuses shelf.old p }
+{
+    match gather(alloc, shelf, file) {
+        Ok(library) => Ok(library),
+        Err(ImportFault::Read { path }) => Err(stop(alloc, Status::Read(path))),
+        Err(ImportFault::Bad { code, path, span }) => Err(refused(alloc, code, path, span)),
+        Err(ImportFault::NoMemory) => Err(stop(alloc, Status::NoMemory)),
+    }
+}
+
+/// The paths of the documents of a library.
+fn library_paths(alloc: Global, library: &Library) -> Result<Items<Text>, NoMemory>
+    ensures value { IfOk result (λ paths. paths ≡ paths_of library.now) }
+{
+    let mut paths = Items::new(alloc);
+    for doc in library.docs.as_slice() {
+        paths.push(doc.path.copy(alloc)?)?;
+    }
+    Ok(paths)
+}
+
+/// The stop of a library in which a rule is broken.
+fn untyped(alloc: Global, code: u16, span: Span, library: &Library) -> Stop
+    requires within { span.doc < length library.now.docs }
+    ensures value { spec.IsUntypedStop code span (paths_of library.now) result.status result.paths }
+    ensures paths { HasPath result.status result.paths }
+{
+    match library_paths(alloc, library) {
+        Ok(paths) => Stop {
+            status: Status::Document(code, span),
+            paths,
+        },
+        Err(_) => stop(alloc, Status::NoMemory),
+    }
+}
+
+/// The checked form of a library.
+fn typed(alloc: Global, library: &Library) -> Result<Checked, Stop>
+    ensures outcome { Types library.now result }
+    ensures paths { IfErr result (λ s. HasPath s.status s.paths) }
+{
+    match check(alloc, library) {
+        Ok(checked) => Ok(checked),
+        Err(CheckFault::Bad { code, span }) => Err(untyped(alloc, code, span, library)),
+        Err(CheckFault::NoMemory) => Err(stop(alloc, Status::NoMemory)),
+    }
+}
+
+/// The checked form of the document at a path, with its imports.
+pub fn checked_of<F: Shelf>(alloc: Global, file: &Text, shelf: &mut F) -> Result<Checked, Stop>
+    ensures outcome { Checks (F.tells shelf.old) file.now (F.refuses shelf.old) (Rose (F.faults shelf.old) (F.faults shelf.new)) result }
+    ensures paths { IfErr result (λ s. HasPath s.status s.paths) }
+    ensures later { F.faults shelf.old ≤ F.faults shelf.new }
+    ensures same_files { (p : List ℕ) → F.tells shelf.new p ≡ F.tells shelf.old p }
+    ensures same_refusals { (p : List ℕ) → F.refuses shelf.new p ↔ F.refuses shelf.old p }
+{
+    match gathered(alloc, file, shelf) {
+        Ok(library) => typed(alloc, &library),
+        Err(stop) => Err(stop),
+    }
+}

@@ -1,0 +1,100 @@
+//! What a run starts with: the checked form of its document, and the inputs of the main workflow.
+
+ghost use Rattle.std.specs.Prelude.{◌≡◌, ◌∷◌, [], IfOk, IfErr, IsSome};
+ghost use Rattle.std.specs.Option.{option_copied};
+ghost use Rattle.report_text.specs.Lines.{HasPath};
+ghost use Rattle.wdl_port.specs.Causes.{Rose};
+ghost use Rattle.wdl_json.specs.Inputs.{main_of};
+ghost use Rattle.workflow_cli.specs.Stages as spec;
+
+use crate::checking::{checked_of, stop};
+use crate::ended::Stop;
+use crate::inputs::{given_of, inputs_text};
+use report_text::Status;
+use std::alloc::Global;
+use wdl_port::Shelf;
+use wdl_typed::{Checked, FlowDef};
+use wdl_value::{Env, Items, NoMemory, Span, Text};
+
+/// A checked form with a main workflow, and inputs that fit it.
+#[derive(Drop)]
+pub struct Prepared {
+    pub checked: Checked,
+    pub given: Env,
+}
+
+/// The main workflow.
+pub fn main_flow(checked: &Checked) -> Option<&FlowDef>
+    ensures value { option_copied result ≡ main_of checked.now.flows checked.now.main }
+{
+    let number = checked.main?;
+    checked.flows.get(number as usize)
+}
+
+fn only_path(alloc: Global, file: &Text) -> Result<Items<Text>, NoMemory>
+    ensures value { IfOk result (λ paths. paths ≡ file.now ∷ []) }
+{
+    let mut paths = Items::new(alloc);
+    paths.push(file.copy(alloc)?)?;
+    Ok(paths)
+}
+
+/// The stop of a document without a main workflow.
+fn mainless(alloc: Global, file: &Text) -> Stop
+    ensures value { spec.IsMainlessStop file.now result.status result.paths }
+    ensures paths { HasPath result.status result.paths }
+{
+    match only_path(alloc, file) {
+        Ok(paths) => Stop {
+            status: Status::Document(
+                327,
+                Span {
+                    doc: 0,
+                    start: 0,
+                    end: 0,
+                },
+            ),
+            paths,
+        },
+        Err(_) => stop(alloc, Status::NoMemory),
+    }
+}
+
+/// The inputs of the main workflow.
+fn given_in<F: Shelf>(
+    alloc: Global,
+    checked: &Checked,
+    inputs: &Option<Text>,
+    shelf: &mut F,
+) -> Result<Env, Status>
+    requires main { IsSome checked.now.main }
+    ensures value { spec.GivesIn (F.tells shelf.old) (F.refuses shelf.old) (Rose (F.faults shelf.old) (F.faults shelf.new)) inputs.now checked.now result }
+{
+    match inputs_text(alloc, inputs, shelf) {
+        Ok(text) => given_of(alloc, text.as_slice(), checked),
+        Err(status) => Err(status),
+    }
+}
+
+/// The checked form of the document at a path, and the inputs of its main workflow.
+pub fn start_of<F: Shelf>(
+    alloc: Global,
+    file: &Text,
+    inputs: &Option<Text>,
+    shelf: &mut F,
+) -> Result<Prepared, Stop>
+    ensures outcome { spec.Prepares (F.tells shelf.old) (F.refuses shelf.old) (Rose (F.faults shelf.old) (F.faults shelf.new)) file.now inputs.now result }
+    ensures paths { IfErr result (λ s. HasPath s.status s.paths) }
+{
+    let checked = match checked_of(alloc, file, shelf) {
+        Ok(checked) => checked,
+        Err(stop) => return Err(stop),
+    };
+    if main_flow(&checked).is_none() {
+        return Err(mainless(alloc, file));
+    }
+    match given_in(alloc, &checked, inputs, shelf) {
+        Ok(given) => Ok(Prepared { checked, given }),
+        Err(status) => Err(stop(alloc, status)),
+    }
+}

@@ -1,4 +1,0 @@
-use Rattle.workflow_cli_tests.proofs.runs.ran.Given as goal
-
-abbrev pub ghosts-run : goal.ghosts-run
-ghosts-run a = record { name = a.blank.name; parts = a.blank.parts }

@@ -1,0 +1,80 @@
+use std::alloc::Global;
+use std::test::Fail;
+use workflow_cases::first_mistake;
+
+/// Words without a reading.
+const UNREADABLE: &str =
+    "|run|walk w.wdl|run --workers 0 w.wdl|run --workers 65 w.wdl|run --root tmp w.wdl|run w.wdl w.wdl|\
+run --inputs w.wdl|check|load 0|load 10001|run --root /a --root /b w.wdl";
+
+/// Words that ask for what is not built.
+const NOT_BUILT: &str =
+    "cwl w.wdl|load 1|load 10000|bundle w.wdl|run --journal j w.wdl|run --workers 2 w.wdl|run --workers 64 w.wdl";
+
+/// What is wrong with the first of these words, between bars, of which the call shows anything else.
+fn first_wrong(alloc: Global, all: &str, expected: &str) -> Result<String, Fail> {
+    for words in all.split('|') {
+        let case = format!(in alloc;
+            "version workflow w {{ }}\nfile w.wdl\n$ {words}\n{expected}"
+        )?;
+        let mistake = first_mistake(alloc, case.as_str())?;
+        if !mistake.is_empty() {
+            return Ok(mistake);
+        }
+    }
+    Ok(String::new(alloc))
+}
+
+#[test]
+fn words_without_a_reading_have_status_2(rt: HostRuntime) -> Result<(), Fail> {
+    let expected = "> 2 0\n> ! usage: wdl run [--inputs FILE] [--root DIR] FILE | check FILE";
+    assert_eq!(rt; first_wrong(rt.alloc(), UNREADABLE, expected)?.as_str(), "");
+    Ok(())
+}
+
+#[test]
+fn what_is_not_built_has_status_12(rt: HostRuntime) -> Result<(), Fail> {
+    let expected = "> 12 0\n> ! not built yet";
+    assert_eq!(rt; first_wrong(rt.alloc(), NOT_BUILT, expected)?.as_str(), "");
+    Ok(())
+}
+
+#[test]
+fn one_worker_and_four_run_the_jobs_in_turn(rt: HostRuntime) -> Result<(), Fail> {
+    let words = "run w.wdl|run --workers 1 w.wdl|run --workers 4 w.wdl";
+    assert_eq!(rt; first_wrong(rt.alloc(), words, "> 0 0\n> {}")?.as_str(), "");
+    Ok(())
+}
+
+/// Lines that are cut.
+const CUT: &str = "version workflow w { }
+file w.wdl
+$ check w.wdl
+room 2 100
+> 6 0
+>. ok
+> ! cannot write
+
+version workflow w { }
+file w.wdl
+$ check w.wdl
+room 0 9
+> 6 0
+>. ! cannot wr
+
+$ walk
+room 100 5
+> 6 0
+>. ! usage
+
+version workflow w { Int x = y }
+file w.wdl
+$ run w.wdl
+room 100 0
+> 6 0";
+
+#[test]
+fn what_is_cut_has_status_6(rt: HostRuntime) -> Result<(), Fail> {
+    assert_eq!(rt; first_mistake(rt.alloc(), CUT)?.as_str(), "");
+    Ok(())
+}
