@@ -1,5 +1,5 @@
 -- `!b` is well typed.
-use Rattle.std.proofs.Common.{◌≡◌, Bool, true, false, List, [], Some, option_and_then, ap, ◌∙◌, subst, sym, refl}
+use Rattle.std.proofs.Common.{◌≡◌, Bool, false, List, [], Some, option_and_then, ap, ◌∙◌, subst, sym}
 use Rattle.wdl_value.specs.declared.env.Bind.{Bind}
 use Rattle.wdl_value.specs.declared.ty.Ty.{out-Ty}
 use Rattle.wdl_value.specs.declared.ty.Ty.TheVariants as ty

@@ -12,9 +12,10 @@ use wdl_value::{Boxed, Env, Items, Steps, Text, Value};
 fn negation<L: Ledger>(alloc: Global, b: bool, steps: &mut Steps<L>) -> Result<Value, EvalFault>
     ensures one_step { IsOk result → steps.new ≡ steps.old + 1 }
 {
-    let e = TExpr::Not(Boxed::new(alloc, TExpr::Lit(Value::Bool(b)))?);
+    let literal = Boxed::new(alloc, TExpr::Lit(Value::Bool(b)))?;
+    let e = Boxed::new(alloc, TExpr::Not(literal))?;
     let env: Env = Items::new(alloc);
-    eval(alloc, &e, &env, &Text::empty(alloc), None, steps)
+    eval(alloc, e.get(), &env, &Text::empty(alloc), None, steps)
 }
 
 /// Whether `!true` is false, by a counter that is opened for it.

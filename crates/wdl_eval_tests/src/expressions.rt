@@ -2,7 +2,8 @@ use crate::notation::{expression, key};
 use std::alloc::Global;
 use std::test::Fail;
 use wdl_eval::{NodeFault, Setting, evaluate};
-use wdl_value::{Answer, Bind, Body, Items, Seen, Text, Value, same_value};
+use wdl_typed::TExpr;
+use wdl_value::{Answer, Bind, Body, Items, Key, Seen, Text, Value, same_value};
 
 /// What the expressions of the tests are evaluated over.
 #[derive(Drop)]
@@ -13,28 +14,27 @@ struct World {
 }
 
 /// A list with more items than a list may have.
-fn long_list(alloc: Global) -> Result<Value, Fail> {
+fn long_list(alloc: Global) -> Result<Items<Value>, Fail> {
     let mut items = Items::new(alloc);
     for _i in 0..100_001usize {
         items.push(Value::Int(7))?;
     }
-    Ok(Value::List(items))
+    Ok(items)
 }
 
-fn bind(alloc: Global, name: &str, value: Value) -> Result<Bind, Fail> {
-    Ok(Bind {
-        key: key(alloc, name)?,
-        value,
-    })
+fn bind(env: &mut Vec<Bind>, key: Key, value: Value) -> Result<(), Fail> {
+    env.push(Bind { key, value })?;
+    Ok(())
 }
 
 /// `x` is 5, `say.r` is `hi`, and `long` has too many items.
 fn env(alloc: Global) -> Result<Vec<Bind>, Fail> {
-    let text = Value::Str(Text::new(alloc, "hi")?);
     let mut env = Vec::new(alloc);
-    env.push(bind(alloc, "x", Value::Int(5))?)?;
-    env.push(bind(alloc, "say.r", text)?)?;
-    env.push(bind(alloc, "long", long_list(alloc)?)?)?;
+    bind(&mut env, key(alloc, "x")?, Value::Int(5))?;
+    let text = Text::new(alloc, "hi")?;
+    bind(&mut env, key(alloc, "say.r")?, Value::Str(text))?;
+    let items = long_list(alloc)?;
+    bind(&mut env, key(alloc, "long")?, Value::List(items))?;
     Ok(env)
 }
 
@@ -64,37 +64,45 @@ fn test_world(alloc: Global) -> Result<World, Fail> {
     })
 }
 
-fn met(alloc: Global, text: &str, world: &World) -> Result<Result<Value, NodeFault>, Fail> {
+fn met(alloc: Global, expr: &TExpr, world: &World) -> Result<Value, NodeFault> {
     let setting = Setting {
         env: world.env.as_slice(),
         dir: &world.dir,
         answer: Some(&world.answer),
     };
-    Ok(evaluate(alloc, &expression(alloc, text)?, &setting))
+    evaluate(alloc, expr, &setting)
+}
+
+fn is_value(outcome: &Result<Value, NodeFault>, value: &Value) -> bool {
+    match outcome {
+        Ok(met) => same_value(value, met),
+        Err(_) => false,
+    }
 }
 
 /// Whether an outcome is the value of the expression that is written so, or the code of that name.
 fn is(
     alloc: Global,
-    outcome: Result<Value, NodeFault>,
+    outcome: &Result<Value, NodeFault>,
     expected: &str,
     world: &World,
 ) -> Result<bool, Fail> {
     match outcome {
-        Ok(value) => match met(alloc, expected, world)? {
-            Ok(wanted) => Ok(same_value(&value, &wanted)),
-            Err(_) => Ok(false),
-        },
+        Ok(value) => {
+            let expr = expression(alloc, expected)?;
+            Ok(is_value(&met(alloc, expr.get(), world), value))
+        }
         Err(NodeFault::Code(code)) => Ok(format!(in alloc; "{code:?}")?.as_str() == expected),
         Err(_) => Ok(false),
     }
 }
 
 fn holds(alloc: Global, case: &str, world: &World) -> Result<bool, Fail> {
-    match case.split_once(" = ") {
-        Some((text, expected)) => is(alloc, met(alloc, text, world)?, expected, world),
-        None => Ok(false),
-    }
+    let Some((text, expected)) = case.split_once(" = ") else {
+        return Ok(false);
+    };
+    let expr = expression(alloc, text)?;
+    is(alloc, &met(alloc, expr.get(), world), expected, world)
 }
 
 /// An expression and its value, or the code that it meets, on each line.

@@ -1,9 +1,10 @@
 //! Expressions as the tests write them, in words between blanks, an operator behind its operands: `1 2 +` is `1 + 2`.
 
 use std::alloc::Global;
+use std::mem::replace;
 use std::test::Fail;
 use wdl_typed::{Choice, TExpr, TField, THole, TPair, TPart};
-use wdl_value::{Boxed, Func, Items, Key, Name, Op, Text, Ty, Value};
+use wdl_value::{Boxed, Func, Items, Key, Name, NoMemory, Op, Text, Ty, Value};
 
 /// `'text`, `$name`, `$call.name`, `none`, `true`, `false` or a number.
 fn leaf(alloc: Global, word: &str) -> Result<TExpr, Fail> {
@@ -64,6 +65,24 @@ fn operator(word: &str) -> Option<Op> {
     }
 }
 
+/// The last of the expressions.
+fn popped(exprs: &mut Vec<TExpr>) -> TExpr {
+    match exprs.pop() {
+        Some(expr) => expr,
+        None => TExpr::Lit(Value::Absent),
+    }
+}
+
+/// The last of the expressions, which a form takes in a box.
+fn operand(alloc: Global, exprs: &mut Vec<TExpr>) -> Result<Boxed<TExpr>, NoMemory> {
+    Ok(Boxed::new(alloc, popped(exprs))?)
+}
+
+fn push(exprs: &mut Vec<TExpr>, expr: TExpr) -> Result<(), Fail> {
+    exprs.push(expr)?;
+    Ok(())
+}
+
 fn choice(alloc: Global, word: &str) -> Result<Choice, Fail> {
     match word {
         "~sep" => Ok(Choice::Sep(Text::new(alloc, ",")?)),
@@ -76,44 +95,43 @@ fn choice(alloc: Global, word: &str) -> Result<Choice, Fail> {
     }
 }
 
-/// A string of one placeholder between angle brackets.
-fn string(alloc: Global, choice: Choice, expr: TExpr) -> Result<TExpr, Fail> {
-    let mut parts = Items::new(alloc);
-    parts.push(TPart::Chars(Text::new(alloc, "<")?))?;
+fn push_chars(alloc: Global, parts: &mut Items<TPart<TExpr>>, chars: &str) -> Result<(), Fail> {
+    let chars = Text::new(alloc, chars)?;
+    parts.push(TPart::Chars(chars))?;
+    Ok(())
+}
+
+fn push_hole(parts: &mut Items<TPart<TExpr>>, expr: TExpr, choice: Choice) -> Result<(), Fail> {
     parts.push(TPart::Hole(THole { expr, choice }))?;
-    parts.push(TPart::Chars(Text::new(alloc, ">")?))?;
+    Ok(())
+}
+
+/// A string of one placeholder between angle brackets.
+fn string(alloc: Global, exprs: &mut Vec<TExpr>, word: &str) -> Result<TExpr, Fail> {
+    let mut parts = Items::new(alloc);
+    push_chars(alloc, &mut parts, "<")?;
+    let choice = choice(alloc, word)?;
+    push_hole(&mut parts, popped(exprs), choice)?;
+    push_chars(alloc, &mut parts, ">")?;
     Ok(TExpr::Strung(parts))
 }
 
-/// The array type of one item or more.
-fn some_ints(alloc: Global) -> Result<Ty, Fail> {
-    Ok(Ty::Array {
-        item: Boxed::new(alloc, Ty::Int)?,
-        some: true,
-    })
+fn member(alloc: Global, exprs: &mut Vec<TExpr>, name: &str) -> Result<TExpr, Fail> {
+    let owner = operand(alloc, exprs)?;
+    Ok(TExpr::Member(owner, Name::new(alloc, name)?))
 }
 
-/// A form of one part.
-fn single(alloc: Global, word: &str, a: TExpr) -> Result<TExpr, Fail> {
-    if let Some(name) = word.strip_prefix('.') {
-        return Ok(TExpr::Member(Boxed::new(alloc, a)?, Name::new(alloc, name)?));
-    }
-    if word.starts_with('~') {
-        return string(alloc, choice(alloc, word)?, a);
-    }
-    let a = Boxed::new(alloc, a)?;
-    match word {
-        "!" => Ok(TExpr::Not(a)),
-        "neg" => Ok(TExpr::Neg(a)),
-        "as-text" => Ok(TExpr::Cast(a, Ty::Str)),
-        _ => Ok(TExpr::Cast(a, some_ints(alloc)?)),
-    }
+/// A cast to an array of one item or more.
+fn some_ints(alloc: Global, exprs: &mut Vec<TExpr>) -> Result<TExpr, Fail> {
+    let a = operand(alloc, exprs)?;
+    let item = Boxed::new(alloc, Ty::Int)?;
+    Ok(TExpr::Cast(a, Ty::Array { item, some: true }))
 }
 
 /// A form of two parts.
-fn double(alloc: Global, word: &str, a: TExpr, b: TExpr) -> Result<TExpr, Fail> {
-    let a = Boxed::new(alloc, a)?;
-    let b = Boxed::new(alloc, b)?;
+fn double(alloc: Global, exprs: &mut Vec<TExpr>, word: &str) -> Result<TExpr, Fail> {
+    let b = operand(alloc, exprs)?;
+    let a = operand(alloc, exprs)?;
     match operator(word) {
         Some(op) => Ok(TExpr::Binary(op, a, b)),
         None if word == "@" => Ok(TExpr::At(a, b)),
@@ -121,38 +139,71 @@ fn double(alloc: Global, word: &str, a: TExpr, b: TExpr) -> Result<TExpr, Fail> 
     }
 }
 
-fn choose(alloc: Global, c: TExpr, a: TExpr, b: TExpr) -> Result<TExpr, Fail> {
-    let c = Boxed::new(alloc, c)?;
-    let a = Boxed::new(alloc, a)?;
-    let b = Boxed::new(alloc, b)?;
+fn choose(alloc: Global, exprs: &mut Vec<TExpr>) -> Result<TExpr, Fail> {
+    let b = operand(alloc, exprs)?;
+    let a = operand(alloc, exprs)?;
+    let c = operand(alloc, exprs)?;
     Ok(TExpr::Choose(c, a, b))
 }
 
+/// What a word makes of the expressions before it, where it opens and closes no bracket.
+fn form(alloc: Global, exprs: &mut Vec<TExpr>, word: &str) -> Result<TExpr, Fail> {
+    if let Some(name) = word.strip_prefix('.') {
+        return member(alloc, exprs, name);
+    }
+    match word {
+        "if" => choose(alloc, exprs),
+        "!" => Ok(TExpr::Not(operand(alloc, exprs)?)),
+        "neg" => Ok(TExpr::Neg(operand(alloc, exprs)?)),
+        "as-text" => Ok(TExpr::Cast(operand(alloc, exprs)?, Ty::Str)),
+        "as-some" => some_ints(alloc, exprs),
+        "@" | "," => double(alloc, exprs, word),
+        _ if operator(word).is_some() => double(alloc, exprs, word),
+        _ if word.starts_with('~') => string(alloc, exprs, word),
+        _ => leaf(alloc, word),
+    }
+}
+
+/// The last two of the expressions, of which the last is the key.
+fn row(exprs: &mut Vec<TExpr>) -> TPair<TExpr> {
+    let key = popped(exprs);
+    TPair {
+        key,
+        value: popped(exprs),
+    }
+}
+
 /// The rows of a map, whose keys and values stand by turns.
-fn rows(alloc: Global, parts: Vec<TExpr>) -> Result<TExpr, Fail> {
+fn rows(alloc: Global, mut parts: Vec<TExpr>) -> Result<TExpr, Fail> {
+    parts.reverse();
     let mut rows = Items::new(alloc);
-    let mut pending: Option<TExpr> = None;
-    for part in parts {
-        match pending.take() {
-            Some(key) => rows.push(TPair { key, value: part })?,
-            None => pending = Some(part),
-        }
+    for _ in 0..parts.len() / 2 {
+        rows.push(row(&mut parts))?;
     }
     Ok(TExpr::MapOf(rows))
 }
 
+fn field(name: Name, exprs: &mut Vec<TExpr>) -> TField<TExpr> {
+    TField {
+        name,
+        value: popped(exprs),
+    }
+}
+
 /// A struct with the members `a`, `b` and so on.
-fn members(alloc: Global, parts: Vec<TExpr>) -> Result<TExpr, Fail> {
+fn members(alloc: Global, mut parts: Vec<TExpr>) -> Result<TExpr, Fail> {
+    parts.reverse();
     let mut fields = Items::new(alloc);
     let mut names = "a b c".split(' ');
-    for value in parts {
+    for _ in 0..parts.len() {
         let name = Name::new(alloc, names.next().unwrap_or("z"))?;
-        fields.push(TField { name, value })?;
+        fields.push(field(name, &mut parts))?;
     }
     Ok(TExpr::StructOf(Name::new(alloc, "S")?, fields))
 }
 
-fn bracket(alloc: Global, word: &str, parts: Vec<TExpr>) -> Result<TExpr, Fail> {
+/// What a closing word makes of the parts in its bracket.
+fn bracket(alloc: Global, parts: Vec<TExpr>, word: &str) -> Result<TExpr, Fail> {
     match function(word) {
         Some(f) => Ok(TExpr::Apply(f, Items::from_vec(parts))),
         None if word == "]" => Ok(TExpr::ListOf(Items::from_vec(parts))),
@@ -161,81 +212,51 @@ fn bracket(alloc: Global, word: &str, parts: Vec<TExpr>) -> Result<TExpr, Fail> 
     }
 }
 
-fn popped(frame: &mut Vec<TExpr>) -> TExpr {
-    frame.pop().unwrap_or(TExpr::Lit(Value::Absent))
-}
-
-fn with_one(alloc: Global, mut frame: Vec<TExpr>, word: &str) -> Result<Vec<TExpr>, Fail> {
-    let a = popped(&mut frame);
-    frame.push(single(alloc, word, a)?)?;
-    Ok(frame)
-}
-
-fn with_two(alloc: Global, mut frame: Vec<TExpr>, word: &str) -> Result<Vec<TExpr>, Fail> {
-    let b = popped(&mut frame);
-    let a = popped(&mut frame);
-    frame.push(double(alloc, word, a, b)?)?;
-    Ok(frame)
-}
-
-fn with_three(alloc: Global, mut frame: Vec<TExpr>) -> Result<Vec<TExpr>, Fail> {
-    let b = popped(&mut frame);
-    let a = popped(&mut frame);
-    let c = popped(&mut frame);
-    frame.push(choose(alloc, c, a, b)?)?;
-    Ok(frame)
-}
-
-fn with_leaf(alloc: Global, mut frame: Vec<TExpr>, word: &str) -> Result<Vec<TExpr>, Fail> {
-    frame.push(leaf(alloc, word)?)?;
-    Ok(frame)
-}
-
-/// What stands in the innermost bracket after one more word that opens and closes none.
-fn after(alloc: Global, frame: Vec<TExpr>, word: &str) -> Result<Vec<TExpr>, Fail> {
-    match word {
-        "if" => with_three(alloc, frame),
-        "@" | "," => with_two(alloc, frame, word),
-        "!" | "neg" | "as-text" | "as-some" => with_one(alloc, frame, word),
-        _ if operator(word).is_some() => with_two(alloc, frame, word),
-        _ if word.starts_with('.') || word.starts_with('~') => with_one(alloc, frame, word),
-        _ => with_leaf(alloc, frame, word),
-    }
-}
-
 fn is_closing(word: &str) -> bool {
     matches!(word, "]" | "}" | "S") || function(word).is_some()
 }
 
-/// What is read after one more word: the brackets that are open round it, and what stands in the innermost. `[` opens
-/// one; `]`, `}`, `S` or the name of a function closes it.
-fn read(
-    alloc: Global,
-    mut round: Vec<Vec<TExpr>>,
+/// What is read of a text: the brackets that are open, and what stands in the innermost.
+#[derive(Drop)]
+struct Reader {
+    round: Vec<Vec<TExpr>>,
     frame: Vec<TExpr>,
-    word: &str,
-) -> Result<(Vec<Vec<TExpr>>, Vec<TExpr>), Fail> {
-    match word {
-        "[" => {
-            round.push(frame)?;
-            Ok((round, Vec::new(alloc)))
+}
+
+impl Reader {
+    fn open(&mut self, alloc: Global) -> Result<(), Fail> {
+        self.round.push(replace(&mut self.frame, Vec::new(alloc)))?;
+        Ok(())
+    }
+
+    /// Closes the innermost bracket and gives what stands in it.
+    fn close(&mut self, alloc: Global) -> Vec<TExpr> {
+        let outer = self.round.pop().unwrap_or(Vec::new(alloc));
+        replace(&mut self.frame, outer)
+    }
+
+    /// Reads one more word. `[` opens a bracket; `]`, `}`, `S` or the name of a function closes it.
+    fn read(&mut self, alloc: Global, word: &str) -> Result<(), Fail> {
+        if word == "[" {
+            return self.open(alloc);
         }
-        _ if is_closing(word) => {
-            let closed = bracket(alloc, word, frame)?;
-            let mut outer = round.pop().unwrap_or(Vec::new(alloc));
-            outer.push(closed)?;
-            Ok((round, outer))
-        }
-        _ => Ok((round, after(alloc, frame, word)?)),
+        let made = if is_closing(word) {
+            bracket(alloc, self.close(alloc), word)
+        } else {
+            form(alloc, &mut self.frame, word)
+        };
+        push(&mut self.frame, made?)
     }
 }
 
 /// The expression of that text.
-pub fn expression(alloc: Global, text: &str) -> Result<TExpr, Fail> {
-    let mut round = Vec::new(alloc);
-    let mut frame = Vec::new(alloc);
+pub fn expression(alloc: Global, text: &str) -> Result<Boxed<TExpr>, Fail> {
+    let mut reader = Reader {
+        round: Vec::new(alloc),
+        frame: Vec::new(alloc),
+    };
     for word in text.split(' ') {
-        (round, frame) = read(alloc, round, frame, word)?;
+        reader.read(alloc, word)?;
     }
-    Ok(popped(&mut frame))
+    Ok(operand(alloc, &mut reader.frame)?)
 }
