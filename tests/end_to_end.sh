@@ -1,79 +1,299 @@
 #!/bin/sh
-# Runs the built program on real files with the real `sh`, and compares status, output and error line.
-# Its last line is 'N passed, M failed'; it ends non-zero where a check failed.
+# Runs the built program on real files with the real `sh`, and compares status, output and error line: the examples, the statuses, and the
+# documents of docs/CODES.md. Its last line is 'N passed, M failed'; it ends non-zero where a check failed.
+#
+#   tests/end_to_end.sh [PROGRAM]
+#
+# PROGRAM, with its whole path, stands in for the one that is proved and built here.
 top=$(CDPATH= cd -- "$(dirname -- "$0")/.." && pwd) || exit 1
+program=${1:-$top/crates/wdl/out/wdl}
+[ $# -gt 0 ] || "$top/wdl" >/dev/null 2>&1
 work=$(mktemp -d) || exit 1
 trap 'rm -rf "$work"' EXIT
 cd "$work" || exit 1
+root=$work/run
 passed=0
 failed=0
+
+pass() { passed=$((passed + 1)); }
+
+# fail NAME WORDS..: counts a check that failed, and says so.
+fail() {
+  failed=$((failed + 1))
+  echo "FAILED $*"
+}
 
 # expect NAME STATUS OUT ERR WORDS..: runs the program on the words. OUT and ERR are printf formats.
 expect() {
   name=$1 status=$2
-  printf "$3" >"$work/want_out"
-  printf "$4" >"$work/want_err"
+  printf "$3" >want_out
+  printf "$4" >want_err
   shift 4
-  "$top/wdl" "$@" >"$work/out" 2>"$work/err" </dev/null
+  "$program" "$@" >out 2>err </dev/null
   got=$?
-  if [ "$got" = "$status" ] && cmp -s out want_out && cmp -s err want_err; then
-    passed=$((passed + 1))
-  else
-    failed=$((failed + 1))
-    echo "FAILED $name: status $got, wanted $status"
+  if [ "$got" = "$status" ] && cmp -s out want_out && cmp -s err want_err; then pass; else
+    fail "$name: status $got, wanted $status"
     diff want_out out
     diff want_err err
   fi
 }
 
-# document NAME: makes NAME from the hello document, with the sed script that follows.
-document() {
-  sed -e "$2" "$top/examples/hello.wdl" >"$1"
+# refused NAME STATUS TAIL WORDS..: runs the program on the words. It writes nothing but one line of error, which ends with TAIL.
+refused() {
+  name=$1 status=$2 tail=$3
+  shift 3
+  "$program" "$@" >out 2>err </dev/null
+  got=$?
+  case $(cat err) in
+    *"$tail") [ "$got" = "$status" ] && [ ! -s out ] && [ "$(wc -l <err)" -eq 1 ] && pass && return ;;
+  esac
+  fail "$name: status $got, wanted $status with ..$tail: $(cat err)"
 }
 
-"$top/wdl" >/dev/null 2>&1
+# document NAME TEXT: makes the document NAME.
+document() { printf 'version 1.1\n%s' "$2" >"$1"; }
 
-usage='usage: wdl run FILE\n'
-expect "a call's output is written" 0 '{"w.r":"hi"}\n' '' run "$top/examples/hello.wdl"
-expect "a missing file" 5 '' 'cannot read missing.wdl\n' run missing.wdl
-expect "a directory as the file" 5 '' 'cannot read .\n' run .
+# calls NAME TEXT: a document with a task `say`, which echoes its input `s` and gives it as `r`, and the text.
+calls() {
+  document "$1" "task say { input { String s } command <<<
+    echo ~{s}
+>>> output { String r = read_string(stdout()) } }
+$2"
+}
+
+# runs NAME STATUS OUT ERR TEXT: the run of a document of this text. `checks` is the check of it.
+runs() {
+  document w.wdl "$5"
+  expect "$1" "$2" "$3" "$4" run --root "$root" w.wdl
+}
+checks() {
+  document w.wdl "$5"
+  expect "$1" "$2" "$3" "$4" check w.wdl
+}
+
+echo "words"
+usage='usage: wdl run [--inputs FILE] [--root DIR] FILE | check FILE\n'
+document bare.wdl 'workflow w { }'
 expect "no words" 2 '' "$usage"
-expect "another command" 2 '' "$usage" walk hello.wdl
-expect "an option" 2 '' "$usage" run --fast hello.wdl
-expect "two files" 2 '' "$usage" run a.wdl b.wdl
+expect "another command" 2 '' "$usage" walk bare.wdl
+expect "no file" 2 '' "$usage" run
+expect "an empty file name" 2 '' "$usage" check ''
+expect "two files" 2 '' "$usage" run bare.wdl bare.wdl
+expect "an option that there is not" 2 '' "$usage" run --fast bare.wdl
+expect "an option of another command" 2 '' "$usage" check --root /tmp bare.wdl
+expect "an option twice" 2 '' "$usage" run --root /tmp --root /tmp bare.wdl
+expect "an option without its value" 2 '' "$usage" run bare.wdl --inputs
+expect "help" 2 '' "$usage" --help
+expect "a root that is relative" 2 '' "$usage" run --root tmp bare.wdl
+long=$(awk 'BEGIN { while (length(s) < 511) s = s "a"; print s }')
+expect "a root of 512 bytes" 0 '{}\n' '' run --root "/$long" bare.wdl
+expect "a root of 513 bytes" 2 '' "$usage" run --root "/a$long" bare.wdl
+expect "no workers" 2 '' "$usage" run --workers 0 bare.wdl
+expect "65 workers" 2 '' "$usage" run --workers 65 bare.wdl
+expect "a word that is no text" 2 '' "$usage" check "$(printf '\377')"
+expect "one worker" 0 '{}\n' '' run --workers 1 bare.wdl
+expect "a file behind --" 0 'ok\n' '' check -- bare.wdl
+expect "other workers" 12 '' 'not built yet\n' run --workers 2 bare.wdl
+expect "a journal" 12 '' 'not built yet\n' run --journal journal bare.wdl
+expect "cwl" 12 '' 'not built yet\n' cwl bare.wdl
+expect "load" 12 '' 'not built yet\n' load 3
+expect "bundle" 12 '' 'not built yet\n' bundle bare.wdl
 
-document three.wdl 's/echo ~{s}/exit 3/'
-expect "a command that ends with 3" 1 '' 'failed say: status 3\n' run three.wdl
-document killed.wdl 's/echo ~{s}/kill -9 $$/'
-expect "a command that is killed" 1 '' 'failed say: status 255\n' run killed.wdl
-document bytes.wdl "s/echo ~{s}/printf '\\\\377'/"
-expect "an output that is no text" 1 '' 'failed say r: 512 NotText\n' run bytes.wdl
-document long.wdl 's/echo ~{s}/head -c 65537 \/dev\/zero | tr "\\0" a/'
-expect "an output that is too long" 1 '' 'failed say r: 516 BodyLong\n' run long.wdl
-document exact.wdl 's/echo ~{s}/head -c 65536 \/dev\/zero | tr "\\0" a | wc -c/'
-expect "a counted output" 0 '{"w.r":"65536"}\n' '' run exact.wdl
-document other.wdl 's/version 1.1/version 1.0/'
-expect "another version" 12 '' 'not built yet\n' run other.wdl
-printf 'version 1.1\nworkflow w { }' >bare.wdl
-expect "a workflow without a call" 0 '{}\n' '' run bare.wdl
-: >empty.wdl
-expect "an empty document" 12 '' 'not built yet\n' run empty.wdl
-document quoted.wdl 's/echo ~{s}/printf "a\\"b\\tc\\nd"/'
-expect "characters that JSON escapes" 0 '{"w.r":"a\\"b\\tc\\nd"}\n' '' run quoted.wdl
-
-# The directory of the job holds what its command left.
-if [ "$(cat /tmp/wdl-run/say/_stdout)" = "$(printf 'a"b\tc\nd')" ]; then passed=$((passed + 1)); else
-  failed=$((failed + 1)); echo "FAILED the directory of a job"
-fi
-
+echo "files"
+expect "a file that is not there" 5 '' 'cannot read missing.wdl\n' run missing.wdl
+expect "a directory as the file" 5 '' 'cannot read .\n' check .
+expect "an inputs file that is not there" 5 '' 'cannot read missing.json\n' run --inputs missing.json bare.wdl
+document lost.wdl 'import "parts/gone.wdl"'
+expect "an import that is not there" 5 '' 'cannot read parts/gone.wdl\n' check lost.wdl
+document a.wdl 'import "b.wdl"
+'
+document b.wdl 'import "a.wdl"
+'
+expect "an import in a circle" 3 '' 'b.wdl:12..26: 202 ImportCircle\n' check a.wdl
+document b.wdl 'workflow other { Int x = "a" }'
+expect "a fault of an import" 3 '' 'b.wdl:37..40: 303 NoCoercion\n' check a.wdl
 if [ -w /dev/full ]; then
-  "$top/wdl" run "$top/examples/hello.wdl" >/dev/full 2>err
-  got=$?
-  if [ "$got" = 6 ] && [ "$(cat err)" = "cannot write" ]; then passed=$((passed + 1)); else
-    failed=$((failed + 1)); echo "FAILED a full device: status $got"; cat err
-  fi
+  # The status where standard output, and then where standard error, cannot be written.
+  "$program" check bare.wdl >/dev/full 2>err
+  [ $? = 6 ] && [ "$(cat err)" = "cannot write" ] && pass || fail "a full device"
+  "$program" check missing.wdl >out 2>/dev/full
+  [ $? = 6 ] && [ ! -s out ] && pass || fail "a full device for the line"
+fi
+awk 'BEGIN { print "version 1.1\nworkflow w {"; for (i = 0; i < 20000; i++) print "Int a" i " = 1"; print "}" }' >large.wdl
+expect "a large document" 0 'ok\n' '' check large.wdl
+(ulimit -v 16000 && exec "$program" check large.wdl) >out 2>err
+[ $? = 7 ] && [ ! -s out ] && [ "$(cat err)" = "no memory" ] && pass || fail "little memory: $(cat err)"
+
+echo "documents"
+checks "a number too large" 3 '' 'w.wdl:33..52: 106 NumberTooLarge\n' 'workflow w { Int x = 9223372036854775808 }'
+checks "a float" 3 '' 'w.wdl:25..30: 120 FloatUsed\n' 'workflow w { Float x = 1.0 }'
+checks "an object" 3 '' 'w.wdl:33..39: 121 ObjectUsed\n' 'workflow w { Int x = object {} }'
+checks "a call of sub" 3 '' 'w.wdl:36..39: 122 SubUsed\n' 'workflow w { String x = sub("a", "b", "c") }'
+checks "a call of size" 3 '' 'w.wdl:33..37: 120 FloatUsed\n' 'workflow w { Int x = size("f") }'
+checks "an unknown name" 3 '' 'w.wdl:33..34: 301 UnknownName\n' 'workflow w { Int x = y }'
+runs "numbers in meta" 0 '{}\n' '' 'workflow w { meta { v: 1.5 } }'
+checks "a document without a workflow" 0 'ok\n' '' 'task t { command <<<>>> }'
+runs "a run without a workflow" 3 '' 'w.wdl:0..0: 327 NoWorkflow\n' 'task t { command <<<>>> }'
+printf 'version 1.0\nworkflow w { }' >old.wdl
+refused "another version" 3 ': 112 WrongVersion' run old.wdl
+: >empty.wdl
+refused "an empty document" 3 ': 112 WrongVersion' check empty.wdl
+printf 'version 1.1\n# caf\351\nworkflow w { }' >latin.wdl
+expect "a text in Latin-1" 3 '' 'latin.wdl:17..18: 101 NotUtf8\n' check latin.wdl
+letters=$(awk 'BEGIN { while (length(s) < 128) s = s "a"; print s }')
+checks "a name of 128 letters" 0 'ok\n' '' "workflow $letters { }"
+checks "a name of 129 letters" 3 '' 'w.wdl:21..150: 107 TooLong\n' "workflow a$letters { }"
+document whole.wdl "$(awk 'BEGIN { printf "%1048550s", "" }')workflow w { }"
+expect "a document of 1,048,576 bytes" 0 'ok\n' '' check whole.wdl
+printf '\n' >>whole.wdl
+refused "a document of 1,048,577 bytes" 3 ': 107 TooLong' check whole.wdl
+open=$(awk 'BEGIN { while (length(s) < 63) s = s "("; print s }')
+close=$(echo "$open" | tr '(' ')')
+checks "63 pairs of parentheses" 0 'ok\n' '' "workflow w { Int x = ${open}1$close }"
+document deep.wdl "workflow w { Int x = (${open}1$close) }"
+refused "64 pairs of parentheses" 3 ': 111 TooDeep' check deep.wdl
+inner() { awk -v count="$1" 'BEGIN { while (count-- > 0) { s = s "if (true) {"; t = t "}" } print s t }'; }
+checks "24 blocks inside one another" 0 'ok\n' '' "workflow w { $(inner 24) }"
+document nested.wdl "workflow w { $(inner 25) }"
+refused "25 blocks inside one another" 3 ': 328 TooNested' check nested.wdl
+for i in $(seq 1 64); do document "p$i.wdl" ''; done
+document many.wdl "$(for i in $(seq 1 63); do echo "import \"p$i.wdl\""; done)"
+expect "64 documents" 0 'ok\n' '' check many.wdl
+document many.wdl "$(for i in $(seq 1 64); do echo "import \"p$i.wdl\""; done)"
+refused "65 documents" 3 ': 205 TooManyDocuments' check many.wdl
+
+echo "the codes of docs/CODES.md"
+# Each row of a code whose fourth cell is code has an example. `examples` gets it, made into a whole document; 4xx have inputs files.
+mkdir codes
+awk -F ' [|] ' '
+  function whole(text) {
+    if (text ~ /^version /) return text
+    if (text ~ /^(Int|String|Boolean|File|Array|Map|Pair|if|scatter|call)[^a-z]/) text = "workflow w { " text " }"
+    return "version 1.1\n" text
+  }
+  $1 ~ /^[|] [0-9][0-9][0-9]$/ {
+    code = substr($1, 3)
+    print code, $2, ($4 ~ /^`/) ? "example" : "words"
+    if ($4 !~ /^`/) next
+    text = substr($4, 2, length($4) - 2)
+    print (code ~ /^4/) ? text : whole(text) >("codes/" code)
+  }' "$top/docs/CODES.md" >code_rows
+document part.wdl 'struct S { Int x }'
+document inputs.wdl 'workflow w { input { Int x } }'
+while read -r code word kind; do
+  [ "$kind" = example ] || continue
+  cp "codes/$code" main.wdl
+  case $code in
+    327) refused "the example of $code" 3 "main.wdl:0..0: $code $word" run main.wdl ;;
+    [123]*) refused "the example of $code" 3 ": $code $word" check main.wdl ;;
+    40[12]) refused "the example of $code" 4 "inputs: $code $word" run --inputs main.wdl inputs.wdl ;;
+    403) refused "the example of $code" 4 "inputs: $code $word w.y" run --inputs main.wdl inputs.wdl ;;
+    4*) refused "the example of $code" 4 "inputs: $code $word w.x" run --inputs main.wdl inputs.wdl ;;
+    *) refused "the example of $code" 1 ": $code $word" run --root "$root" main.wdl ;;
+  esac
+done <code_rows
+# The codes without an example are those that are tested above and below.
+[ "$(awk '$3 == "words" { printf "%s ", $1 }' code_rows)" = "101 107 111 205 328 407 " ] && pass || fail "codes without an example"
+# The page has exactly the codes and words that the program can print.
+sed -n 's/.*[^0-9]\([1-5][0-9][0-9]\)\( => "\| \)\([A-Z][A-Za-z0-9]*\)".*/\1 \3/p' "$top/crates/report_text/src/code.rt" >words
+awk '{ print $1, $2 }' code_rows | cmp -s - words && pass || fail "the codes of the page: $(awk '{ print $1, $2 }' code_rows | diff - words)"
+
+echo "inputs"
+document w.wdl 'workflow w { input { Boolean c Array[String] xs } output { Array[String] r = xs } }'
+given() {
+  printf '%s' "$4" >i.json
+  expect "$1" "$2" "${5-}" "$3" run --inputs i.json w.wdl
+}
+given "no JSON" 4 'inputs: 401 NotJson\n' '{'
+given "no object" 4 'inputs: 402 NotAnObject\n' '[]'
+given "an unknown input" 4 'inputs: 403 UnknownInput w.d\n' '{"w.d":1}'
+given "a missing input" 4 'inputs: 404 InputMissing w.xs\n' '{"w.c":true}'
+given "a value that does not fit" 4 'inputs: 405 DoesNotFit w.c\n' '{"w.c":1,"w.xs":[]}'
+given "a number that is not whole" 4 'inputs: 406 FloatNumber w.c\n' '{"w.c":1.5,"w.xs":[]}'
+given "1,000 open brackets" 4 'inputs: 401 NotJson\n' "$(awk 'BEGIN { while (n++ < 1000) printf "[" }')"
+given "inputs that fit" 0 '' '{"w.c":true,"w.xs":["b","a"]}' '{"w.r":["b","a"]}\n'
+awk 'BEGIN { printf "%1048577s", "" }' >i.json
+expect "an inputs file of 1,048,577 bytes" 4 '' 'inputs: 407 TooLong\n' run --inputs i.json w.wdl
+expect "no inputs file" 4 '' 'inputs: 404 InputMissing w.c\n' run w.wdl
+
+echo "runs"
+calls w.wdl 'workflow w { call say as b { input: s = a.r + "z" } call say as a { input: s = "x" } output { String r = b.r } }'
+expect "a call before what it needs" 0 '{"w.r":"xz"}\n' '' run --root "$root" w.wdl
+calls w.wdl 'workflow w { scatter (i in [3, 1, 2]) { call say { input: s = i } } output { Array[String] r = say.r } }'
+expect "a scatter" 0 '{"w.r":["3","1","2"]}\n' '' run --root "$root" w.wdl
+calls w.wdl 'workflow w { scatter (p in [(true, "a"), (false, "b"), (true, "c")]) { if (p.left) { call say { input: s = p.right } } }
+  output { Array[String?] r = say.r } }'
+expect "a condition in a scatter" 0 '{"w.r":["a",null,"c"]}\n' '' run --root "$root" w.wdl
+runs "whole numbers" 0 '{"w.a":-3,"w.b":-1}\n' '' 'workflow w { output { Int a = -7 / 2 Int b = -7 % 2 } }'
+runs "an output of a declaration" 1 '' 'failed . a: 501 Overflow\n' 'workflow w { Int a = 9223372036854775807 + 1 }'
+runs "a condition without a value" 1 '' 'failed if-0 if: 502 ZeroDivisor\n' 'workflow w { if (1 / 0 == 1) { Int x = 1 } }'
+runs "a collection without a value" 1 '' 'failed scatter-0 i: 502 ZeroDivisor\n' 'workflow w { scatter (i in [1 / 0]) { Int x = i } }'
+runs "an argument without a value" 1 '' 'failed t x: 502 ZeroDivisor\n' \
+  'task t { input { Int x } command <<<>>> } workflow w { call t { input: x = 1 / 0 } }'
+runs "a placeholder without a value" 1 '' 'failed t command: 502 ZeroDivisor\n' 'task t { command <<<~{1 / 0}>>> } workflow w { call t }'
+runs "return codes without a value" 1 '' 'failed t returnCodes: 502 ZeroDivisor\n' \
+  'task t { command <<<>>> runtime { returnCodes: 1 / 0 } } workflow w { call t }'
+runs "too many retries" 1 '' 'failed t maxRetries: 510 TooLarge\n' \
+  'task t { command <<<>>> runtime { maxRetries: 101 } } workflow w { call t }'
+runs "a command that ends with 3" 1 '' 'failed t: status 3\n' 'task t { command <<<exit 3>>> } workflow w { call t }'
+runs "a command that is killed" 1 '' 'failed t: status 255\n' 'task t { command <<<kill -9 $$>>> } workflow w { call t }'
+runs "a place in blocks" 1 '' 'failed scatter-1/1/if-0/t: status 3\n' \
+  'task t { command <<<exit 3>>> } workflow w { scatter (i in [1]) { } scatter (i in [1, 2]) { if (i == 2) { call t } } }'
+document part.wdl 'task t { command <<<exit 3>>> } workflow inner { call t as first }'
+runs "a place in a called workflow" 1 '' 'failed sub/first: status 3\n' 'import "part.wdl" workflow w { call part.inner as sub }'
+runs "more than 20,000 jobs" 11 '' 'too many jobs\n' \
+  'task t { command <<<>>> } workflow w { scatter (i in range(20001)) { call t } }'
+runs "257 files" 9 '' 'cannot launch t\n' \
+  'task t { command <<<for i in $(seq 257); do : >f$i; done>>> } workflow w { call t }'
+runs "256 files" 0 '{"w.n":256}\n' '' \
+  'task t { command <<<for i in $(seq 256); do : >f$i; done>>> output { Int n = length(glob("f*")) } }
+  workflow w { call t output { Int n = t.n } }'
+calls w.wdl 'workflow w { call say { input: s = "a" } }'
+expect "a directory that cannot be made" 9 '' 'cannot launch say\n' run --root /dev/null/run w.wdl
+
+# bytes NAME STATUS OUT ERR COMMAND: a task of that command whose standard output is read as a text.
+bytes() {
+  runs "$1" "$2" "$3" "$4" "task t { command <<<
+$5
+>>> output { String r = read_string(stdout()) } } workflow w { call t output { Int n = length([t.r]) } }"
+}
+bytes "65,536 bytes of output" 0 '{"w.n":1}\n' '' 'head -c 65536 /dev/zero | tr "\0" a'
+bytes "65,537 bytes of output" 1 '' 'failed t r: 516 BodyLong\n' 'head -c 65537 /dev/zero | tr "\0" a'
+bytes "an output that is no text" 1 '' 'failed t r: 512 NotText\n' "printf '\\377'"
+calls w.wdl 'workflow w { call say { input: s = "\x27a\x22b\\\\c\x27" } output { String r = say.r } }'
+expect "characters that JSON escapes" 0 '{"w.r":"a\\"b\\\\c"}\n' '' run --root "$root" w.wdl
+
+echo "directories of jobs"
+document w.wdl 'task t { input { Array[String] xs } command <<<
+    echo "in $(basename "$PWD")"; echo "no" >&2
+    mkdir kept; cp ~{write_lines(xs)} kept/list
+    case $PWD in *-retry-1) ;; *) exit 7 ;; esac
+>>> output { File list = "kept/list" Array[String] lines = read_lines("kept/list") File? other = "other" } runtime { maxRetries: 1 } }
+workflow w { call t { input: xs = ["b", "a"] } output { File list = t.list Array[String] lines = t.lines File? other = t.other } }'
+mkdir -p "$root/t" && : >"$root/t/old"
+expect "files of a job" 0 "{\"w.lines\":[\"b\",\"a\"],\"w.list\":\"$root/t-retry-1/kept/list\",\"w.other\":null}\n" '' run --root "$root" w.wdl
+[ "$(cat "$root/t/_stdout" "$root/t/_stderr" "$root/t-retry-1/_stdout")" = "$(printf 'in t\nno\nin t-retry-1')" ] && pass || fail "streams of a job"
+[ "$(cat "$root/t-retry-1/kept/list")" = "$(printf 'b\na')" ] && [ ! -e "$root/t/old" ] && pass || fail "what a job leaves"
+
+echo "examples"
+# example NAME: the document, without `_off`, run for the inputs NAME.json, where there are such.
+example() {
+  here=$top/examples
+  expected=$(sed "s|/tmp/wdl-run|$root|g" "$here/expected/$1.json")
+  set -- "$1" "$here/${1%_off}.wdl"
+  [ -f "$here/$1.json" ] && sed "s|@examples@|$here|g" "$here/$1.json" >i.json || echo '{}' >i.json
+  expect "the example $1" 0 "$(echo "$expected" | sed 's/[\\%]/&&/g')\n" '' run --inputs i.json --root "$root" "$2"
+}
+for file in "$top"/examples/expected/*.json; do example "$(basename "$file" .json)"; done
+for file in "$top"/examples/*.wdl "$top"/examples/parts/*.wdl; do expect "the check of $file" 0 'ok\n' '' check "$file"; done
+expect "the example hello" 0 '{"w.r":"hi"}\n' '' run "$top/examples/hello.wdl"
+[ "$(cat /tmp/wdl-run/say/_stdout)" = hi ] && pass || fail "the default directory"
+if [ $# = 0 ]; then
+  "$top/examples/run.sh" count_words "$root" >out 2>&1
+  cmp -s out "$top/examples/expected/count_words.json" && pass || fail "examples/run.sh: $(cat out)"
 fi
 
+echo "journals"
 # A journal is a database that the shell of SQLite reads, and that is read again after that.
 sample="$top/crates/journal_sample/out/journal_sample"
 if command -v sqlite3 >/dev/null 2>&1; then
@@ -85,8 +305,11 @@ if command -v sqlite3 >/dev/null 2>&1; then
   "$sample" journal >out 2>&1 &&
     sqlite3 journal 'SELECT place, attempt, body FROM entry ORDER BY place, attempt; PRAGMA integrity_check' >rows 2>&1
   "$sample" journal 0 >again 2>&1
-  if cmp -s out want_out && cmp -s rows want_rows && cmp -s again want_out; then passed=$((passed + 1)); else
-    failed=$((failed + 1)); echo "FAILED a journal that sqlite3 reads"; diff want_out out; diff want_rows rows; diff want_out again
+  if cmp -s out want_out && cmp -s rows want_rows && cmp -s again want_out; then pass; else
+    fail "a journal that sqlite3 reads"
+    diff want_out out
+    diff want_rows rows
+    diff want_out again
   fi
 fi
 
