@@ -6,12 +6,7 @@
 #   bench/check.sh [PROGRAM]
 #
 # Times are processor seconds, the least of the runs, which take turns. Memory is at least that of the program that measures, some 14 MB.
-top=$(CDPATH= cd -- "$(dirname -- "$0")/.." && pwd) || exit 1
-work=$(mktemp -d) || exit 1
-trap 'rm -rf "$work"' EXIT
-program=${1:-$top/crates/wdl/out/wdl}
-[ $# -gt 0 ] || "$top/wdl" >"$work/build" 2>&1
-[ -x "$program" ] || { cat "$work/build"; exit 1; }
+. "$(dirname -- "$0")/prepare.sh"
 
 # workflow SHAPE COUNT: a workflow of so many calls. In `reverse` and `chain` each needs the one before, which stands behind it or before it.
 workflow() {

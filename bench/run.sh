@@ -5,12 +5,7 @@
 #   bench/run.sh [PROGRAM]
 #
 # Times are wall-clock seconds, the least of the runs, which take turns.
-top=$(CDPATH= cd -- "$(dirname -- "$0")/.." && pwd) || exit 1
-work=$(mktemp -d) || exit 1
-trap 'rm -rf "$work"' EXIT
-program=${1:-$top/crates/wdl/out/wdl}
-[ $# -gt 0 ] || "$top/wdl" >"$work/build" 2>&1
-[ -x "$program" ] || { cat "$work/build"; exit 1; }
+. "$(dirname -- "$0")/prepare.sh"
 
 awk 'BEGIN {
   print "version 1.1\ntask step {\n  input { Int a }\n  command <<<\n    echo $(( ~{a} + 1 ))\n  >>>"
