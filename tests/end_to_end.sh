@@ -1,13 +1,12 @@
 #!/bin/sh
 # Runs the built program on real files with the real `sh`, and compares status, output and error line: the examples, the statuses, and the
-# documents of docs/CODES.md. Its last line is 'N passed, M failed'; it ends non-zero where a check failed.
+# documents of docs/CODES.md and docs/MOVING.md. Its last line is 'N passed, M failed'; it ends non-zero where a check failed.
 #
 #   tests/end_to_end.sh [PROGRAM]
 #
-# PROGRAM, with its whole path, stands in for the one that is proved and built here.
+# PROGRAM, with its whole path, stands in for the one that ./wdl runs.
 top=$(CDPATH= cd -- "$(dirname -- "$0")/.." && pwd) || exit 1
-program=${1:-$top/crates/wdl/out/wdl}
-[ $# -gt 0 ] || "$top/wdl" >/dev/null 2>&1
+program=${1:-$("$top/tools/program.sh")} || exit 1
 work=$(mktemp -d) || exit 1
 trap 'rm -rf "$work"' EXIT
 cd "$work" || exit 1
@@ -292,6 +291,13 @@ if [ $# = 0 ]; then
   "$top/examples/run.sh" count_words "$root" >out 2>&1
   cmp -s out "$top/examples/expected/count_words.json" && pass || fail "examples/run.sh: $(cat out)"
 fi
+
+echo "scripts"
+# script NAME: a script of tests/, whose last line counts its own checks.
+script() {
+  sh "$top/tests/$1.sh" "$program" >out 2>&1 && pass || fail "tests/$1.sh: $(cat out)"
+}
+script program
 
 echo "journals"
 # A journal is a database that the shell of SQLite reads, and that is read again after that.

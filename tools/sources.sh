@@ -1,0 +1,12 @@
+#!/bin/sh
+# Prints the SHA-256 sum of the program's sources: of its crates' lines in crates.txt, and of the names and contents of the
+# files of their src/, specs/ and proofs/. Tests, must-fail edits and what a build leaves are no part of it.
+cd "$(dirname -- "$0")/.." || exit 1
+crates=$(sh tools/crates.sh) && [ -n "$crates" ] || exit 1
+folders=
+for crate in $crates; do
+  for part in src specs proofs; do [ ! -d "crates/$crate/$part" ] || folders="$folders crates/$crate/$part"; done
+done
+sums=$(find $folders -type f \( -name '*.rt' -o -name '*.antt' \) -print | LC_ALL=C sort | xargs sha256sum) || exit 1
+lines=$(grep -E "^($(echo $crates | tr ' ' '|')):" crates.txt)
+printf '%s\n' "$lines" "$sums" | sha256sum | cut -d ' ' -f 1
