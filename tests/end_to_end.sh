@@ -298,6 +298,7 @@ script() {
   sh "$top/tests/$1.sh" "$program" >out 2>&1 && pass || fail "tests/$1.sh: $(cat out)"
 }
 script program
+script moving
 
 echo "journals"
 # A journal is a database that the shell of SQLite reads, and that is read again after that.
