@@ -120,6 +120,7 @@ cp dist/wdl-x86_64-linux.gz "$work/kept.gz"
 cp dist/origin "$work/kept"
 printf 'X' | dd of=dist/wdl-x86_64-linux.gz bs=1 seek=30 conv=notrunc 2>/dev/null
 expect "a changed byte, and no toolchain" 126 '' '*is damaged*no rt on the path*' without_toolchain ./wdl check a
+[ -z "$(find out -type f)" ] && pass || fail "what a damaged program leaves: $(find out)"
 expect "a changed byte, and a toolchain" 0 'first: check a' '*is damaged*proving*' with_toolchain ./wdl check a
 expect "a gate with a changed byte" 1 '' '*dist: the program is not the one that was built*' with_toolchain .ci/run
 fresh
