@@ -1,5 +1,5 @@
 #!/bin/sh
-# Tests ./wdl, the scripts of tools/ and .ci/run on a copy in which each crate has one line and a script stands in for the toolchain. Its last line is
+# Tests ./wdl, tools/ and .ci/run on a copy of the repository where each crate is one line long and a script replaces the toolchain. Its last line is
 # 'N passed, M failed'; it ends non-zero where a check failed.
 top=$(CDPATH= cd -- "$(dirname -- "$0")/.." && pwd) || exit 1
 work=$(mktemp -d) || exit 1
@@ -75,8 +75,8 @@ fresh() { rm -rf out crates/*/out "$work/home/.cache"; }
 cd "$copy" || exit 1
 count=$(tools/crates.sh | wc -l)
 
-expect "nothing is shipped, and no toolchain" 126 '' '*not of these sources*no rt on the path*' without_toolchain ./wdl check a
-expect "a gate with nothing shipped" 1 '' '*no program is shipped*tools/release.sh*' with_toolchain .ci/run
+expect "nothing is shipped, and no toolchain" 126 '' '*no program for these sources*is not on the PATH*' without_toolchain ./wdl check a
+expect "a gate with nothing shipped" 1 '' '*holds no program*tools/release.sh*' with_toolchain .ci/run
 fresh
 
 # A build that was interrupted goes on where it stopped.
@@ -112,36 +112,36 @@ chmod a+rx "$work"
 chmod a+rwx "$work/other"
 expect "a checkout that cannot be written" 0 'first: check a' '' stranger "$work/other" ./wdl check a
 expect "a second time" 0 'first: check a' '' stranger "$work/other" ./wdl check a
-expect "no folder that can be written" 126 '' '*neither*can be written*' stranger /nonexistent ./wdl check a
+expect "no folder that can be written" 126 '' '*neither*is writable*' stranger /nonexistent ./wdl check a
 chmod -R u+w .
 
 # The shipped program is damaged, or is another one.
 cp dist/wdl-x86_64-linux.gz "$work/kept.gz"
 cp dist/origin "$work/kept"
 printf 'X' | dd of=dist/wdl-x86_64-linux.gz bs=1 seek=30 conv=notrunc 2>/dev/null
-expect "a changed byte, and no toolchain" 126 '' '*is damaged*no rt on the path*' without_toolchain ./wdl check a
+expect "a changed byte, and no toolchain" 126 '' '*is damaged*is not on the PATH*' without_toolchain ./wdl check a
 [ -z "$(find out -type f)" ] && pass || fail "what a damaged program leaves: $(find out)"
 expect "a changed byte, and a toolchain" 0 'first: check a' '*is damaged*proving*' with_toolchain ./wdl check a
-expect "a gate with a changed byte" 1 '' '*dist: the program is not the one that was built*' with_toolchain .ci/run
+expect "a gate with a changed byte" 1 '' '*dist: its program is not the one that was built*' with_toolchain .ci/run
 fresh
 printf '#!/bin/sh\n# another\n[ $# -gt 0 ] || exit 2\necho "first: $*"\n' >"$work/program"
 gzip -nc "$work/program" >dist/wdl-x86_64-linux.gz
 sed -i "s/^program .*/program $(sha256sum <"$work/program" | cut -d ' ' -f 1)/" dist/origin
-expect "a gate with another program" 1 '' '*dist: the sum of the program is another*' with_toolchain .ci/run
+expect "a gate with another program" 1 '' '*dist: the recorded sum of the program is wrong*' with_toolchain .ci/run
 fresh
 echo 'exit 1' >"$work/program"
 gzip -nc "$work/program" >dist/wdl-x86_64-linux.gz
 sed -i "s/^program .*/program $(sha256sum <"$work/program" | cut -d ' ' -f 1)/" dist/origin
-expect "a program that does not start" 126 '' '*does not start on this machine*no rt*' without_toolchain ./wdl check a
+expect "a program that does not start" 126 '' '*does not start on this machine*is not on the PATH*' without_toolchain ./wdl check a
 cp "$work/kept.gz" dist/wdl-x86_64-linux.gz
 cp "$work/kept" dist/origin
 
 # A source changes.
 fresh
 base second
-expect "a changed source, and no toolchain" 126 '' '*not of these sources*no rt on the path*' without_toolchain ./wdl check a
-expect "a changed source" 0 'second: check a' '*not of these sources*proving crate*' with_toolchain ./wdl check a
-expect "a gate with a changed source" 1 '' '*dist: the program is of other sources*' with_toolchain .ci/run
+expect "a changed source, and no toolchain" 126 '' '*no program for these sources*is not on the PATH*' without_toolchain ./wdl check a
+expect "a changed source" 0 'second: check a' '*no program for these sources*proving crate*' with_toolchain ./wdl check a
+expect "a gate with a changed source" 1 '' '*dist: its program was built from other sources*' with_toolchain .ci/run
 expect "a release after the gate" 0 '' '' with_toolchain tools/release.sh
 expect "the gate after that" 0 'end to end' '' with_toolchain .ci/run
 base first
@@ -156,7 +156,7 @@ sed 's/^wdl_ast: /&wdl_port /' "$top/crates.txt" >crates.txt
 cp "$top/crates.txt" crates.txt
 expect "a source that changes during the build" 1 '' '*the sources changed*' tools/keep.sh other
 base wrong
-expect "a proof that fails" 126 '' '*it was not built*wdl_base NOT PROVED' with_toolchain ./wdl check a
+expect "a proof that fails" 126 '' '*the build failed*wdl_base NOT PROVED' with_toolchain ./wdl check a
 
 echo "$passed passed, $failed failed"
 [ "$failed" = 0 ]

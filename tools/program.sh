@@ -1,13 +1,13 @@
 #!/bin/sh
-# Prints the path of the program of these sources: the one that was built here; else the one that dist/ ships, where it was built of the
-# same sources, which is unpacked at its first use; else one that is proved and built now.
+# Prints the path of the program for these sources: the one that was built here; else the one in dist/, if it was built from the same sources, which
+# is unpacked at its first use; else one that is proved and built now.
 top=$(CDPATH= cd -- "$(dirname -- "$0")/.." && pwd) || exit 126
 cache=${XDG_CACHE_HOME:-${HOME:-/nonexistent}/.cache}/zinniamorn
 shipped=$top/dist/wdl-x86_64-linux.gz
 say() { echo "wdl: $*" >&2; }
 origin() { awk -v key="$1" '$1 == key { print $2 }' "$top/dist/origin" 2>/dev/null; }
 
-sources=$("$top/tools/sources.sh") || { say "the sources in $top/crates cannot be read"; exit 126; }
+sources=$("$top/tools/sources.sh") || { say "cannot read the sources in $top/crates"; exit 126; }
 for place in "$top/out/built" "$top/out/shipped" "$cache"; do
   [ -x "$place/$sources/wdl" ] && echo "$place/$sources/wdl" && exit
 done
@@ -18,7 +18,7 @@ unpack() {
   [ "$(sha256sum <"$1" | cut -d ' ' -f 1)" = "$(origin program)" ] || { say "$shipped is damaged"; return 1; }
   chmod 755 "$1"
   "$1" >/dev/null 2>&1 </dev/null
-  [ $? = 2 ] || { say "the program of dist/ does not start on this machine: it wants Linux on x86-64 with the GNU C library 2.34 or later"; return 1; }
+  [ $? = 2 ] || { say "the program in dist/ does not start on this machine: it needs Linux on x86-64 with glibc 2.34 or later"; return 1; }
 }
 
 if [ "$(origin sources)" = "$sources" ]; then
@@ -26,11 +26,11 @@ if [ "$(origin sources)" = "$sources" ]; then
     mkdir -p "$place/$sources" 2>/dev/null && new=$(mktemp "$place/$sources/new.XXXXXX" 2>/dev/null) && break
     new=
   done
-  [ "$new" ] || { say "the program cannot be unpacked: neither $top/out nor $cache can be written (XDG_CACHE_HOME names another folder)"; exit 126; }
+  [ "$new" ] || { say "cannot unpack the program: neither $top/out nor $cache is writable (XDG_CACHE_HOME can name another folder)"; exit 126; }
   unpack "$new" && mv "$new" "$place/$sources/wdl" && echo "$place/$sources/wdl" && exit
   rm -f "$new"
   rmdir "$place/$sources" 2>/dev/null
 else
-  say "the program of dist/ is not of these sources"
+  say "dist/ has no program for these sources"
 fi
 exec "$top/tools/build.sh"

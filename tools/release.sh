@@ -1,6 +1,6 @@
 #!/bin/sh
-# Writes dist/, which ships the program: dist/wdl-x86_64-linux.gz is what was proved and built here of these sources, and is built now where nothing
-# was; dist/origin has the sums of those sources and of the program, and the toolchain. Run it, and commit dist/, with each change of the program.
+# Writes dist/: wdl-x86_64-linux.gz is the program that was proved and built here from these sources, and is built first if there is none;
+# origin records the sums of the sources and of the program, and the toolchain. Run it, and commit dist/, with each change of the program.
 top=$(CDPATH= cd -- "$(dirname -- "$0")/.." && pwd) || exit 1
 PATH="$PATH:/opt/rattle/bin"
 export PATH

@@ -1,6 +1,6 @@
 #!/bin/sh
 # Prints the SHA-256 sum of the program's sources: of its crates' lines in crates.txt, and of the names and contents of the
-# files of their src/, specs/ and proofs/. Tests, must-fail edits and what a build leaves are no part of it.
+# files of their src/, specs/ and proofs/. Tests, must-fail edits and build outputs do not count.
 cd "$(dirname -- "$0")/.." || exit 1
 crates=$(sh tools/crates.sh) && [ -n "$crates" ] || exit 1
 folders=
