@@ -87,6 +87,7 @@ expect "a root that is relative" 2 '' "$usage" run --root tmp bare.wdl
 long=$(awk 'BEGIN { while (length(s) < 511) s = s "a"; print s }')
 expect "a root of 512 bytes" 0 '{}\n' '' run --root "/$long" bare.wdl
 expect "a root of 513 bytes" 2 '' "$usage" run --root "/a$long" bare.wdl
+expect "a root of slashes alone" 2 '' "$usage" run --root // bare.wdl
 expect "no workers" 2 '' "$usage" run --workers 0 bare.wdl
 expect "65 workers" 2 '' "$usage" run --workers 65 bare.wdl
 expect "a word that is no text" 2 '' "$usage" check "$(printf '\377')"
@@ -206,6 +207,8 @@ given() {
 given "no JSON" 4 'inputs: 401 NotJson\n' '{'
 given "no object" 4 'inputs: 402 NotAnObject\n' '[]'
 given "an unknown input" 4 'inputs: 403 UnknownInput w.d\n' '{"w.d":1}'
+given "a comment among the inputs" 0 '' '{"## w.d":1.5,"w.c":true,"w.xs":[],"##":"x"}' '{"w.r":[]}\n'
+given "a comment with one number sign" 4 'inputs: 403 UnknownInput #w.c\n' '{"#w.c":1,"w.c":true,"w.xs":[]}'
 given "a missing input" 4 'inputs: 404 InputMissing w.xs\n' '{"w.c":true}'
 given "a value that does not fit" 4 'inputs: 405 DoesNotFit w.c\n' '{"w.c":1,"w.xs":[]}'
 given "a number that is not whole" 4 'inputs: 406 FloatNumber w.c\n' '{"w.c":1.5,"w.xs":[]}'
@@ -273,6 +276,15 @@ mkdir -p "$root/t" && : >"$root/t/old"
 expect "files of a job" 0 "{\"w.lines\":[\"b\",\"a\"],\"w.list\":\"$root/t-retry-1/kept/list\",\"w.other\":null}\n" '' run --root "$root" w.wdl
 [ "$(cat "$root/t/_stdout" "$root/t/_stderr" "$root/t-retry-1/_stdout")" = "$(printf 'in t\nno\nin t-retry-1')" ] && pass || fail "streams of a job"
 [ "$(cat "$root/t-retry-1/kept/list")" = "$(printf 'b\na')" ] && [ ! -e "$root/t/old" ] && pass || fail "what a job leaves"
+document w.wdl 'task t { command <<< mkdir -p d && echo a >d/o >>> output { File o = "./c/..//d/./o" File? up = "../t/d/o" String r = read_string("d/x/../o/") } }
+workflow w { call t output { File o = t.o File? up = t.up String r = t.r } }'
+expect "paths of outputs" 0 "{\"w.o\":\"$root/t/d/o\",\"w.r\":\"a\",\"w.up\":null}\n" '' run --root "$root//" w.wdl
+document w.wdl 'task t { command <<<
+    echo a
+      echo b
+>>> output { Array[String] r = read_lines(stdout()) } } workflow w { call t output { Array[String] r = t.r } }'
+sed 's/$/\r/' w.wdl >crlf.wdl
+expect "a document with the line ends of Windows" 0 '{"w.r":["a","b"]}\n' '' run --root "$root" crlf.wdl
 
 echo "examples"
 # example NAME: the document, without `_off`, run for the inputs NAME.json, where there are such.

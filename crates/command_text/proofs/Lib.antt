@@ -1,3 +1,4 @@
 pub mod Zeros
+pub mod Returns
 pub mod Indents
 pub mod LineLaws

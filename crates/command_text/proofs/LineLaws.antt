@@ -11,9 +11,10 @@ use Rattle.std.proofs.lemmas.List.Sums.{prefix_len-le-length, prefix_len_passes,
 use Rattle.std.proofs.lemmas.Str.{IsCharBoundary-after_ascii}
 use Rattle.std.proofs.lemmas.Str.Pattern.{IsSplitOnceResult, split_parts}
 use Rattle.wdl_base.specs.Plain.{has_nul}
-use Rattle.wdl_base.specs.Templates.{common_indent, cut, dedented_lines, dedented_text, is_blank, is_blank_line, is_indent, lines, without_first, without_last}
+use Rattle.wdl_base.specs.Templates.{common_indent, cut, dedented_lines, dedented_text, is_blank, is_blank_line, is_indent, lines, without_first, without_last, without_returns}
 use Rattle.command_text.specs.Marks.{Fits, led, zeros}
 use Rattle.command_text.proofs.Indents.{common_fits}
+use Rattle.command_text.proofs.Returns.{zeros_kept}
 use Rattle.command_text.proofs.Zeros.{rest_zeros, zeros-append}
 
 -- ---- a hole and what stands around it
@@ -161,13 +162,14 @@ total_cut width (line ∷ more) fits =
 pub zeros_dedented : (text : List ℕ) → zeros (dedented_text text) ≡ zeros text
 unfolding dedented_text
 zeros_dedented text =
-    let all = without_last (without_first (lines text)) in
+    let own = without_returns text in
+    let all = without_last (without_first (lines own)) in
     zeros-join (map (cut (length (common_indent all))) all)
     ∙ (total_cut (length (common_indent all)) all (common_fits all)
-    ∙ (total_last (without_first (lines text)) ∙ (total_first (lines text) ∙ total_lines text)))
+    ∙ (total_last (without_first (lines own)) ∙ (total_first (lines own) ∙ (total_lines own ∙ zeros_kept text))))
 
 -- lent lines that were cut and joined are the text
-pub dedented_is : (text : List ℕ) (all first last : List (Bor (List ℕ))) (width : ℕ) → map (λ s. s.now) all ≡ lines text
+pub dedented_is : (text : List ℕ) (all first last : List (Bor (List ℕ))) (width : ℕ) → map (λ s. s.now) all ≡ lines (without_returns text)
     → map (λ s. s.now) first ≡ without_first (map (λ s. s.now) all) → map (λ s. s.now) last ≡ without_last (map (λ s. s.now) first)
     → width ≡ length (common_indent (map (λ s. s.now) last))
     → join_with_byte 10 (map (cut width) (map (λ s. s.now) last)) ≡ dedented_text text

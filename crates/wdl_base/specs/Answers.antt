@@ -8,7 +8,7 @@ use Rattle.wdl_base.specs.declared.body.Body.TheVariants.{Bytes, Long}
 use Rattle.wdl_base.specs.declared.body.Seen.{Seen}
 use Rattle.wdl_base.specs.Bodies.{is_short}
 
--- relative, of 1 to 255 bytes, and not the name of a kept stream
+-- relative, of 1 to 1,024 bytes, and not the name of a kept stream
 abbrev pub is_relative : List ℕ → Bool
 is_relative [] = false
 is_relative (b ∷ bs) = not (b == 47)
@@ -16,7 +16,7 @@ is_relative (b ∷ bs) = not (b == 47)
 abbrev pub is_file_name : List ℕ → Bool
 is_file_name name =
     is_relative name
-    && nat_le (length name) 255
+    && nat_le (length name) 1024
     && not (bytes_eq name (codes "_stdout"))
     && not (bytes_eq name (codes "_stderr"))
 
@@ -49,7 +49,7 @@ abbrev pub is_answer : Body → Body → List Seen → Bool
 is_answer out err files =
     is_short 65536 out
     && is_short 4096 err
-    && nat_le (length files) 256
+    && nat_le (length files) 4096
     && are_files files
     && ascend files
-    && nat_le (files_size files) 61440
+    && nat_le (files_size files) 262144

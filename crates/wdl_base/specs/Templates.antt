@@ -1,5 +1,5 @@
 -- Templates of commands: the dedent rule, and what a filled template is.
-use Rattle.std.specs.Prelude.{ℕ, zero, suc, ◌<◌, ◌==◌, ◌||◌, Bool, not, List, [], ◌∷◌, ◌++◌, length, map, drop, take, reverse, slice_index_or, if◌then◌else◌}
+use Rattle.std.specs.Prelude.{ℕ, zero, suc, ◌<◌, ◌==◌, ◌&&◌, ◌||◌, Bool, false, not, List, [], ◌∷◌, ◌++◌, length, map, drop, take, reverse, slice_index_or, if◌then◌else◌}
 use Rattle.std.specs.List.{All, common_prefix_len, filter, join_with_byte, fold, list_all, prefix_len, slice_split}
 use Rattle.wdl_base.specs.declared.template.Part.{Part}
 use Rattle.wdl_base.specs.declared.template.Part.TheVariants.{Chars, Hole}
@@ -29,6 +29,16 @@ template_of (zero ∷ text) (k ∷ numbers) = Hole k ∷ template_of text number
 template_of (suc b ∷ text) numbers = onto_text (suc b) (template_of text numbers)
 
 -- ---- lines
+
+abbrev pub begins_with_newline : List ℕ → Bool
+begins_with_newline [] = false
+begins_with_newline (b ∷ text) = b == 10
+
+-- a text without each carriage return that stands directly before a newline
+abbrev pub without_returns : List ℕ → List ℕ
+without_returns [] = []
+without_returns (b ∷ text) =
+    if b == 13 && begins_with_newline text then without_returns text else b ∷ without_returns text
 
 -- a blank or a tab
 abbrev pub is_indent : ℕ → Bool
@@ -85,9 +95,9 @@ dedented_lines all = map (cut (length (common_indent all))) all
 
 unfoldable pub dedented_text : List ℕ → List ℕ
 dedented_text text =
-    join_with_byte 10 (dedented_lines (without_last (without_first (lines text))))
+    join_with_byte 10 (dedented_lines (without_last (without_first (lines (without_returns text)))))
 
--- A hole counts as a character that is not blank.
+-- A hole counts as a character that is not blank and no newline.
 abbrev pub dedented : List Part → List Part
 dedented parts = template_of (dedented_text (marked parts)) (holes parts)
 

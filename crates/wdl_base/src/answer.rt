@@ -1,26 +1,32 @@
 ghost use Rattle.std.specs.Prelude.{◌≡◌, ◌∷◌, ◌+◌, ◌<◌, min, true, false, IfOk, OnErr, OnOk};
 ghost use Rattle.wdl_base.specs.Answers.{is_answer, is_file_name, is_file, are_files, is_below, ascend, body_size, files_size};
 
-use crate::body::{Body, Seen};
+use crate::body::{BODY_LIMIT, Body, Seen};
 use crate::error::{AnswerFault, NoMemory};
 use crate::text::Text;
 use sqlite_items::Items;
 use std::alloc::Global;
 
+/// The most bytes of standard output that are kept.
+pub const OUT_LIMIT: usize = 65_536;
+
 /// The most bytes of standard error that are kept.
-const ERROR_LIMIT: usize = 4_096;
+pub const ERR_LIMIT: usize = 4_096;
 
 /// The most files of an answer.
-const FILE_COUNT: usize = 256;
+pub const FILE_COUNT: usize = 4_096;
 
-/// The most bytes of the names and bodies of an answer's files.
-const FILE_BYTES: u64 = 61_440;
+/// The most bytes of the name of an answer's file.
+pub const FILE_NAME_BYTES: usize = 1_024;
+
+/// The most bytes of the names and bodies of an answer's files together.
+pub const FILE_BYTES: usize = 262_144;
 
 /// How a job ended: its status, what it wrote to its standard streams, and the files that it left.
 ///
-/// At most 65,536 bytes of standard output and 4,096 of standard error are kept; the files are at most 256, with
-/// names of 1 to 255 bytes that are relative, in byte order, distinct and neither `_stdout` nor `_stderr`, and with
-/// at most 61,440 bytes of names and bodies.
+/// At most 65,536 bytes of standard output and 4,096 of standard error are kept; the files are at most 4,096, with
+/// names of 1 to 1,024 bytes that are relative, in byte order, distinct and neither `_stdout` nor `_stderr`, and with
+/// at most 262,144 bytes of names and bodies together.
 #[derive(Debug, Drop)]
 pub struct Answer {
     pub status: u8,
@@ -38,7 +44,10 @@ pub fn is_kept_name(name: &Text) -> bool
     match text.as_bytes() {
         [] => false,
         [first, ..] => {
-            !(*first == b'/') && text.len() <= 255 && !name.is("_stdout") && !name.is("_stderr")
+            !(*first == b'/')
+                && text.len() <= FILE_NAME_BYTES
+                && !name.is("_stdout")
+                && !name.is("_stderr")
         }
     }
 }
@@ -46,7 +55,7 @@ pub fn is_kept_name(name: &Text) -> bool
 fn is_kept_file(file: &Seen) -> bool
     ensures { result ≡ is_file file.now }
 {
-    is_kept_name(&file.name) && file.body.is_within(65_536)
+    is_kept_name(&file.name) && file.body.is_within(BODY_LIMIT)
 }
 
 fn are_kept_files(files: &[Seen]) -> bool
@@ -93,14 +102,14 @@ fn kept_size(body: &Body) -> usize
 }
 
 /// The bytes of the names and bodies, or the last number where they are more.
-fn size_of_files(files: &[Seen]) -> u64
+fn size_of_files(files: &[Seen]) -> usize
     ensures { result ≡ min (files_size files.now) 18446744073709551615 }
 {
-    let mut total: u64 = 0;
+    let mut total: usize = 0;
     for file in files {
         total = total
-            .saturating_add(file.name.as_str().len() as u64)
-            .saturating_add(kept_size(&file.body) as u64);
+            .saturating_add(file.name.as_str().len())
+            .saturating_add(kept_size(&file.body));
     }
     total
 }
@@ -108,8 +117,8 @@ fn size_of_files(files: &[Seen]) -> u64
 fn is_kept(out: &Body, err: &Body, files: &[Seen]) -> bool
     ensures { result ≡ is_answer out.now err.now files.now }
 {
-    out.is_within(65_536)
-        && err.is_within(ERROR_LIMIT)
+    out.is_within(OUT_LIMIT)
+        && err.is_within(ERR_LIMIT)
         && files.len() <= FILE_COUNT
         && are_kept_files(files)
         && do_ascend(files)

@@ -19,7 +19,7 @@ mod steps;
 mod template;
 mod text;
 
-pub use answer::Answer;
+pub use answer::{Answer, ERR_LIMIT, FILE_BYTES, FILE_COUNT, FILE_NAME_BYTES, OUT_LIMIT};
 pub use body::{BODY_LIMIT, Body, Laid, Seen};
 pub use entry::{Entry, Source};
 pub use error::{AnswerFault, NameFault, NoMemory, TextFault};

@@ -104,6 +104,16 @@ fn takes_files(alloc: Global, end: u32) -> Result<bool, Fail> {
     Ok(Answer::new(0, Body::Long, Body::Long, files).is_ok())
 }
 
+/// Whether an answer may have files of these sizes, whose names have one byte each.
+fn takes_sizes(alloc: Global, sizes: &[usize]) -> Result<bool, Fail> {
+    let mut files = Items::new(alloc);
+    for (number, size) in sizes.iter().enumerate() {
+        let name = number.to_string(alloc)?;
+        files.push(file_of(alloc, name.as_str(), *size)?)?;
+    }
+    Ok(Answer::new(0, Body::Long, Body::Long, files).is_ok())
+}
+
 #[test]
 fn answers_keep_their_limits(rt: HostRuntime) -> Result<(), Fail> {
     let alloc = rt.alloc();
@@ -113,10 +123,14 @@ fn answers_keep_their_limits(rt: HostRuntime) -> Result<(), Fail> {
     }
     assert!(rt; !takes(alloc, ("a", 1), ("a", 1))?);
     assert!(rt; !takes(alloc, ("b", 1), ("a", 1))?);
-    assert!(rt; takes(alloc, ("a", 61_437), ("b", 1))?);
-    assert!(rt; !takes(alloc, ("a", 61_438), ("b", 1))?);
-    assert!(rt; takes_files(alloc, 1_256)?);
-    assert!(rt; !takes_files(alloc, 1_257)?);
+    assert!(rt; takes_sizes(alloc, &[65_536, 65_536, 65_536, 65_532])?);
+    assert!(rt; !takes_sizes(alloc, &[65_536, 65_536, 65_536, 65_533])?);
+    let name = "n".repeat(alloc, 1_024)?;
+    assert!(rt; takes(alloc, ("a", 1), (name.as_str(), 1))?);
+    let name = "n".repeat(alloc, 1_025)?;
+    assert!(rt; !takes(alloc, ("a", 1), (name.as_str(), 1))?);
+    assert!(rt; takes_files(alloc, 5_096)?);
+    assert!(rt; !takes_files(alloc, 5_097)?);
     let kept = file_of(alloc, "a", 65_536)?;
     assert!(rt; matches!(&kept.body, Body::Bytes(_)));
     let long = file_of(alloc, "a", 65_537)?;

@@ -6,7 +6,7 @@ use Rattle.serde_json.specs.View.{members_view}
 use Rattle.serde_json.specs.declared.value.Value as json
 use Rattle.serde_json.proofs.Views.{Entry}
 use Rattle.wdl_typed.specs.declared.task.TInput.{TInput}
-use Rattle.wdl_json.specs.Inputs.{member_name, is_input, unknown}
+use Rattle.wdl_json.specs.Inputs.{member_name, is_input, is_known, unknown}
 
 moved : (a b c : Bool) → cond a true b || c ≡ b || (a || c)
 moved true true c = refl
@@ -26,14 +26,14 @@ input_added flow q is k i key old new within at named grown =
     ∙ ap (λ n. contains_text old q || (bytes_eq n q || rest)) named
     ∙ sym (ap (λ xs. contains_text old q || is_input flow xs q) next)
 
--- ---- the first member that is no input
+-- ---- the first member that is no input and no comment
 
-pub known_next : (flow : List ℕ) (is : List TInput) (name : String Global) (x : json.Value) (es rest : List Entry) → es ≡ (name, x) ∷ rest → is_input flow is (string_bytes name) ≡ true
+pub known_next : (flow : List ℕ) (is : List TInput) (name : String Global) (x : json.Value) (es rest : List Entry) → es ≡ (name, x) ∷ rest → is_known flow is (string_bytes name) ≡ true
     → unknown flow is (members_view rest) ≡ unknown flow is (members_view es)
 known_next flow is name x es rest at h =
     sym (ap (λ xs. unknown flow is (members_view xs)) at ∙ ap (λ b. cond b (unknown flow is (members_view rest)) (Some (string_bytes name))) h)
 
-pub unknown_here : (flow : List ℕ) (is : List TInput) (name : String Global) (x : json.Value) (es rest : List Entry) → es ≡ (name, x) ∷ rest → is_input flow is (string_bytes name) ≡ false
+pub unknown_here : (flow : List ℕ) (is : List TInput) (name : String Global) (x : json.Value) (es rest : List Entry) → es ≡ (name, x) ∷ rest → is_known flow is (string_bytes name) ≡ false
     → Some (string_bytes name) ≡ unknown flow is (members_view es)
 unknown_here flow is name x es rest at h =
     sym (ap (λ xs. unknown flow is (members_view xs)) at ∙ ap (λ b. cond b (unknown flow is (members_view rest)) (Some (string_bytes name))) h)

@@ -1,5 +1,5 @@
 -- The inputs of a workflow from JSON (OpenWDL 1.1, "JSON Input Format"), and the order of the faults.
-use Rattle.std.specs.Prelude.{◌≡◌, ◌≢◌, ℕ, Bool, true, false, not, ◌&&◌, ◌||◌, nat_lt, List, [], ◌∷◌, ◌++◌, length, Option, Some, None, option_map, option_and_then, Result, Ok, Err, if◌then◌else◌, slice_get}
+use Rattle.std.specs.Prelude.{◌≡◌, ◌≢◌, ℕ, Bool, true, false, not, ◌&&◌, ◌||◌, nat_lt, List, [], ◌∷◌, ◌++◌, length, take, codes, Option, Some, None, option_map, option_and_then, Result, Ok, Err, if◌then◌else◌, slice_get}
 use Rattle.std.specs.Str.{bytes_eq, is_utf8}
 use Rattle.serde_json.specs.Data.{Data, Members, no_members, member}
 use Rattle.serde_json.specs.Find.{as_object, get_member}
@@ -38,10 +38,17 @@ abbrev pub is_input : List ℕ → List TInput → List ℕ → Bool
 is_input flow [] name = false
 is_input flow (i ∷ is) name = bytes_eq (member_name flow i.name) name || is_input flow is name
 
--- the first member that is no input
+-- A member whose name begins with `##` is a comment.
+abbrev pub is_comment : List ℕ → Bool
+is_comment name = bytes_eq (take 2 name) (codes "##")
+
+abbrev pub is_known : List ℕ → List TInput → List ℕ → Bool
+is_known flow is name = is_comment name || is_input flow is name
+
+-- the first member that is no input and no comment
 abbrev pub unknown : List ℕ → List TInput → Members → Option (List ℕ)
 unknown flow is no_members = None
-unknown flow is (member k d ms) = if is_input flow is k then unknown flow is ms else Some k
+unknown flow is (member k d ms) = if is_known flow is k then unknown flow is ms else Some k
 
 -- A name that holds NUL is not given.
 abbrev pub printed : List ℕ → Option (List ℕ)

@@ -40,7 +40,8 @@ fn from_members(
 
 /// The inputs of a workflow that a JSON text gives, where struct names are those of `structs`. Each binds the name of an
 /// input to the value that the member `workflow.input` is at its type; `null` for an optional input is a given undefined
-/// value. The time is linear but for a logarithm.
+/// value. Members whose names begin with `##` are
+/// comments. The time is linear but for a logarithm.
 pub fn flow_inputs(
     alloc: Global,
     bytes: &[u8],

@@ -1,6 +1,6 @@
 //! Members that are no input.
 
-ghost use Rattle.std.specs.Prelude.{◌≡◌, ℕ, List, IfOk, option_map};
+ghost use Rattle.std.specs.Prelude.{◌≡◌, ◌||◌, ℕ, List, IfOk, option_map};
 ghost use Rattle.std.specs.BTreeSet.{contains_text};
 ghost use Rattle.serde_json.specs.View.{members_view};
 ghost use Rattle.wdl_json.specs.Inputs as spec;
@@ -42,7 +42,21 @@ fn fault_of(alloc: Global, name: &str) -> Result<InputFault, NoMemory>
     Ok(InputFault::Bad { code: 403, name })
 }
 
-/// The fault of the first member that is no input.
+/// Whether a member of that name is a comment.
+fn is_comment(name: &str) -> bool
+    ensures { result ≡ spec.is_comment name.now }
+{
+    matches!(name.as_bytes(), [b'#', b'#', ..])
+}
+
+/// Whether a member of that name is an input or a comment, where these are the names of the inputs.
+fn is_known(names: &BTreeSet<String>, name: &str) -> bool
+    ensures { result ≡ spec.is_comment name.now || contains_text names.now name.now }
+{
+    is_comment(name) || names.contains(name)
+}
+
+/// The fault of the first member that is neither an input nor a comment.
 pub fn unknown_fault(
     alloc: Global,
     flow: &Name,
@@ -53,7 +67,7 @@ pub fn unknown_fault(
 {
     let names = names_of(alloc, flow, inputs)?;
     for (name, _) in members.iter() {
-        if !names.contains(name.as_str()) {
+        if !is_known(&names, name.as_str()) {
             return Ok(Some(fault_of(alloc, name.as_str())?));
         }
     }

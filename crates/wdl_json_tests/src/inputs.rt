@@ -16,6 +16,8 @@ c 30 Bool;xs 40 Str []|{\"w.d\":1}|403 w.d\n\
 c 30 Bool;xs 40 Str []|{\"x\":1.5,\"w.\":1}|403 w.\n\
 c 30 Bool;xs 40 Str []|{\"c\":true}|403 c\n\
 c 30 Bool;xs 40 Str []|{\"\\u0000\":1}|403\n\
+c 30 Bool;xs 40 Str []|{\"##\":1,\"#w.c\":1}|403 #w.c\n\
+c 30 Bool;xs 40 Str []|{\"## w.c\":1.5,\"##\":1,\"##w.d\":1}|404 w.c\n\
 c 30 Bool;xs 40 Str []|{\"w.c\":true}|404 w.xs\n\
 c 30 Bool;xs 40 Str []|{}|404 w.c\n\
 xs 40 Str [];c 30 Bool|{}|404 w.c\n\
@@ -60,6 +62,7 @@ f 1 File|{\"w.f\":\"/data/a\"}|{\"w.f\":\"/data/a\"}\n\
 o 1 Int ?|{}|{}\n\
 o 1 Int ?|{\"w.o\":null}|{\"w.o\":null}\n\
 o 1 Int ?|{\"w.o\":3}|{\"w.o\":3}\n\
+o 1 Int ?|{\"##w.o\":1.5,\"w.o\":3,\"##\":\"\\u0000\"}|{\"w.o\":3}\n\
 d 1 Int =|{}|{}\n\
 d 1 Int ? =|{\"w.d\":null}|{\"w.d\":null}\n\
 xs 1 Int ? []+|{\"w.xs\":[7,null]}|{\"w.xs\":[7,null]}\n\

@@ -1,5 +1,6 @@
 pub mod Bases
 pub mod Ends
+pub mod FileNames
 pub mod FunctionsFit
 pub mod Ints
 pub mod Keys

@@ -4,10 +4,7 @@ use Rattle.std.proofs.lemmas.Bool.{or_parts, or_from}
 use Rattle.std.specs.List.{slice_split, onto_first}
 use Rattle.std.specs.Str.Lines.{lines, lines_of_parts, strip_carriage_return}
 use Rattle.wdl_base.specs.Plain.{has_nul}
-
-abbrev pub EachPlain : List (List ℕ) → Type 0
-EachPlain [] = Unit {0}
-EachPlain (x ∷ xs) = (has_nul x ≡ false) × EachPlain xs
+use Rattle.wdl_stdlib.specs.PathParts.{EachPlain}
 
 pub plain-take : (n : ℕ) (bs : List ℕ) → has_nul bs ≡ false → has_nul (take n bs) ≡ false
 plain-take zero bs h = refl

@@ -2,4 +2,5 @@ pub mod Gives
 pub mod Glob
 pub mod Groups
 pub mod Laws
+pub mod PathParts
 pub mod Trims

@@ -1,44 +1,14 @@
 //! The files that a call's command left, as paths name them.
 
-ghost use Rattle.std.specs.Prelude.{◌≡◌, ◌++◌, ◌∷◌, []};
+ghost use Rattle.std.specs.Prelude.{◌≡◌, Some, IfOk};
 ghost use Rattle.std.specs.Option.{option_copied};
 ghost use Rattle.wdl_value.specs.Files as spec;
 ghost use Rattle.wdl_stdlib.specs.Gives.{Gives};
 
 use crate::fault::EvalFault;
+use crate::file_names::local_name;
 use std::alloc::Global;
-use wdl_value::{Answer, Body, EvalCode, Seen, Text, TextFault};
-
-/// The path without a text and a slash at its front.
-fn below<'a>(dir: &str, path: &'a str) -> Option<&'a str>
-    ensures { option_copied result ≡ spec.stripped (dir.now ++ 47 ∷ []) path.now }
-{
-    match path.strip_prefix(dir) {
-        Some(rest) => rest.strip_prefix('/'),
-        None => None,
-    }
-}
-
-/// The path without any leading `./`.
-fn without_points(path: &str) -> &str
-    ensures { result.now ≡ spec.without_points path.now }
-{
-    let mut rest = path;
-    while let Some(next) = rest.strip_prefix("./") {
-        rest = next;
-    }
-    rest
-}
-
-/// What follows the directory and a slash in the path, or else the path without any leading `./`.
-pub fn local_name<'a>(dir: &Text, path: &'a Text) -> &'a str
-    ensures value { result.now ≡ spec.local_name dir.now path.now }
-{
-    match below(dir.as_str(), path.as_str()) {
-        Some(name) => name,
-        None => without_points(path.as_str()),
-    }
-}
+use wdl_value::{Answer, Body, EvalCode, NoMemory, Seen, Text, TextFault};
 
 fn seen_body<'a>(name: &str, files: &'a [Seen]) -> Option<&'a Body>
     ensures { option_copied result ≡ spec.seen_body name.now files.now }
@@ -51,23 +21,11 @@ fn seen_body<'a>(name: &str, files: &'a [Seen]) -> Option<&'a Body>
     None
 }
 
-fn begins_at_root(name: &str) -> bool
-    ensures { result ≡ spec.begins_at_root name.now }
-{
-    match name.as_bytes() {
-        [] => false,
-        [first, ..] => *first == b'/',
-    }
-}
-
-/// The body of a file that the command left, by its path below the directory of the job: `_stdout` and `_stderr` are its
-/// two streams. It is `None` where no such file is there.
+/// The body of a file that the command left, by its name: `_stdout` and `_stderr` are its two streams. It is `None` where
+/// no such file is there.
 pub fn left_body<'a>(answer: &'a Answer, name: &str) -> Option<&'a Body>
     ensures value { option_copied result ≡ spec.left_body answer.now name.now }
 {
-    if begins_at_root(name) {
-        return None;
-    }
     if name == "_stdout" {
         return Some(&answer.out);
     }
@@ -75,6 +33,21 @@ pub fn left_body<'a>(answer: &'a Answer, name: &str) -> Option<&'a Body>
         return Some(&answer.err);
     }
     seen_body(name, answer.files.as_slice())
+}
+
+/// The body of the file of a path.
+fn body_at<'a>(
+    alloc: Global,
+    dir: &Text,
+    answer: &'a Answer,
+    path: &Text,
+) -> Result<Option<&'a Body>, NoMemory>
+    ensures { IfOk result (λ body. option_copied body ≡ spec.file_body dir.now (Some answer.now) path.now) }
+{
+    match local_name(alloc, dir, path)? {
+        Some(name) => Ok(left_body(answer, name.as_str())),
+        None => Ok(None),
+    }
 }
 
 /// The text of some bytes: they are UTF-8 without NUL.
@@ -113,6 +86,6 @@ pub fn file_text(
 {
     match answer {
         None => Err(EvalFault::Code(EvalCode::FileMissing)),
-        Some(answer) => body_text(alloc, left_body(answer, local_name(dir, path))),
+        Some(answer) => body_text(alloc, body_at(alloc, dir, answer, path)?),
     }
 }

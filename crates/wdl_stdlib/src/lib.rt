@@ -4,6 +4,7 @@
 
 mod calls;
 mod fault;
+mod file_names;
 mod files;
 mod growing;
 mod laws;
@@ -22,7 +23,8 @@ mod within;
 
 pub use calls::apply;
 pub use fault::EvalFault;
-pub use files::{left_body, local_name};
+pub use file_names::{begins_at_root, below, local_name};
+pub use files::left_body;
 pub use laws::{apply_fits, negate_fits, operate_fits};
 pub use operators::{negate, operate};
 pub use parts::{items_in, rows_in, text_in};

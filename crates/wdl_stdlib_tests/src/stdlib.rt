@@ -361,7 +361,11 @@ fn files_are_found_by_their_paths(rt: HostRuntime) -> Result<(), Fail> {
     for (f, cases) in [
         (
             Func::ReadString,
-            "</d/say/_stdout='out|<././_stdout='out|<_stderr='|<./a.b='x|</d/say/d/f='x|</d/say/./a.b=FileMissing|</d/say//a.b=FileMissing|<.//a.b=FileMissing|</a.b=FileMissing|<c=FileMissing",
+            "</d/say/_stdout='out|<././_stdout='out|<_stderr='|<./a.b='x|</d/say/d/f='x|</d/say/./a.b='x|</d/say//a.b=FileMissing|</a.b=FileMissing|<c=FileMissing",
+        ),
+        (
+            Func::ReadString,
+            "<.//a.b='x|<d//./f='x|<c/../a.b='x|<d/f/='x|</d/say/d/../_stdout='out|<d/../../say/a.b=FileMissing|<../a.b=FileMissing|<d/..=FileMissing|<.=FileMissing|<=FileMissing|<d/...=FileMissing",
         ),
         (
             Func::Glob,

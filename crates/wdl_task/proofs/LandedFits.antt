@@ -27,7 +27,7 @@ use Rattle.wdl_value.proofs.FitsLemmas.{takes_out, takes_plain, tests}
 use Rattle.wdl_value.proofs.SameValueLemmas.{same_value-refl, same_value-true}
 use Rattle.wdl_value.proofs.ValueLayers.{Known, plain, firsts, first_fields, first_rows}
 use Rattle.wdl_typed.specs.KnownTypes.{is_some}
-use Rattle.wdl_typed.specs.Requests.{Lander, is_outside, land_all, land_at, land_fields, land_members, land_rows, landed, landed_file, map_row, missing_file}
+use Rattle.wdl_typed.specs.Requests.{Lander, is_outside, land_all, land_at, land_fields, land_members, land_rows, landed, landed_file, map_row, missing_file, named_file}
 use Rattle.wdl_eval.proofs.StructForms.{members_fit, struct_fits}
 use Rattle.wdl_task.specs.Members.{field_landers, row_landers}
 
@@ -206,7 +206,7 @@ module _ (structs : Structs) (dir : List ℕ) (answer : Answer) where
   at_type t z absent y e h = inl (subst (λ (u : Ty). Fits y u) (sym e) h)
 
   file_landed : (path : List ℕ) (absent : Bool) (y : Value) → landed_file dir answer path absent ≡ Ok y → Lands absent type.File y
-  file_landed path absent y e = by_place (is_outside dir path) (is_some (left_body answer (local_name dir path))) e
+  file_landed path absent y e = by_place (is_outside dir path) (local_name dir path) e
     where
       is_file : (s : List ℕ) → v.File s ≡ y → Lands absent type.File y
       is_file s same = at_type ty.File type.File absent y ty.rolls-File (subst (λ (x : Value). Fits x ty.File) same (file_fits structs s))
@@ -215,10 +215,14 @@ module _ (structs : Structs) (dir : List ℕ) (answer : Answer) where
       by_absence true a e = inr (a, cc)
       by_absence false a e = absurd (cc)
 
-      by_place : (outside there : Bool) → cond outside (Ok (v.File path)) (cond there (Ok (v.File (dir ++ 47 ∷ local_name dir path))) (missing_file absent)) ≡ Ok y → Lands absent type.File y
-      by_place true there e = is_file path (cc)
-      by_place false true e = is_file (dir ++ 47 ∷ local_name dir path) (cc)
-      by_place false false e = by_absence absent refl e
+      by_presence : (name : List ℕ) (there : Bool) → cond there (Ok (v.File (dir ++ 47 ∷ name))) (missing_file absent) ≡ Ok y → Lands absent type.File y
+      by_presence name true e = is_file (dir ++ 47 ∷ name) (cc)
+      by_presence name false e = by_absence absent refl e
+
+      by_place : (outside : Bool) (name : Option (List ℕ)) → cond outside (Ok (v.File path)) (named_file dir answer absent name) ≡ Ok y → Lands absent type.File y
+      by_place true name e = is_file path (cc)
+      by_place false None e = by_absence absent refl e
+      by_place false (Some name) e = by_presence name (is_some (left_body answer name)) e
 
   abbrev landers : Value-F Value → Value-F Lander
   landers = map-Value Value Lander lands

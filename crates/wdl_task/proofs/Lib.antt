@@ -12,7 +12,6 @@ pub mod PlaceTypes
 pub mod LandedFits
 pub mod TaskLaws
 pub mod Retries
-pub mod Plain
 pub mod Written
 pub mod Preparing
 pub mod LandedLists

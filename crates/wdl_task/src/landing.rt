@@ -1,16 +1,13 @@
 //! The files of a job's own as paths in its directory (OpenWDL 1.1, "Task Outputs").
 
-ghost use Rattle.std.specs.Prelude.{◌≡◌, ◌++◌, ◌∷◌, [], false, IfOk};
-ghost use Rattle.std.specs.Option.{option_copied};
-ghost use Rattle.wdl_base.specs.Plain.{has_nul};
-ghost use Rattle.wdl_value.specs.Files.{begins_at_root as starts_at_root, stripped};
+ghost use Rattle.std.specs.Prelude.{◌≡◌, ◌++◌, ◌∷◌, Some, IfOk};
 ghost use Rattle.wdl_stdlib.specs.Gives.{Gives};
 ghost use Rattle.wdl_typed.specs.Requests as spec;
 ghost use Rattle.wdl_task.specs.Members as lists;
 
 use std::alloc::Global;
 use wdl_eval::EvalFault;
-use wdl_stdlib::{left_body, local_name};
+use wdl_stdlib::{begins_at_root, below, left_body, local_name};
 use wdl_value::{
     Answer, Boxed, EvalCode, Field, Items, MapRow, Member, Name, NoMemory, StructDef, Text, Ty,
     Value, bare_type, has_key, is_optional,
@@ -24,25 +21,6 @@ pub struct Shore<'a> {
     pub answer: &'a Answer,
 }
 
-/// The path without a text and a slash at its front.
-fn below<'a>(dir: &str, path: &'a str) -> Option<&'a str>
-    ensures { option_copied result ≡ stripped (dir.now ++ 47 ∷ []) path.now }
-{
-    match path.strip_prefix(dir) {
-        Some(rest) => rest.strip_prefix('/'),
-        None => None,
-    }
-}
-
-fn begins_at_root(path: &str) -> bool
-    ensures { result ≡ starts_at_root path.now }
-{
-    match path.as_bytes() {
-        [] => false,
-        [first, ..] => *first == b'/',
-    }
-}
-
 /// Whether a path begins at the root and is not in the directory.
 fn is_outside(dir: &str, path: &str) -> bool
     ensures { result ≡ spec.is_outside dir.now path.now }
@@ -50,14 +28,38 @@ fn is_outside(dir: &str, path: &str) -> bool
     begins_at_root(path) && below(dir, path).is_none()
 }
 
-fn joined(alloc: Global, dir: &Text, name: &str) -> Result<Text, NoMemory>
-    requires { has_nul name.now ≡ false }
+fn joined(alloc: Global, dir: &Text, name: &Text) -> Result<Text, NoMemory>
     ensures { IfOk result (λ t. t ≡ dir.now ++ 47 ∷ name.now) }
 {
     let mut path = dir.copy(alloc)?;
     path.push_ascii(b'/')?;
-    path.push_str(name)?;
+    path.push_str(name.as_str())?;
     Ok(path)
+}
+
+/// A file that is not there is undefined where it may be.
+fn missing_file(absent: bool) -> Result<Value, EvalFault>
+    ensures { Gives (spec.missing_file absent) result }
+{
+    if absent {
+        return Ok(Value::Absent);
+    }
+    Err(EvalFault::Code(EvalCode::FileMissing))
+}
+
+/// The file of that name, where it is there.
+fn named_file(
+    alloc: Global,
+    shore: &Shore<'_>,
+    name: &Text,
+    absent: bool,
+) -> Result<Value, EvalFault>
+    ensures { Gives (spec.named_file shore.now.dir.now shore.now.answer.now absent (Some name.now)) result }
+{
+    if left_body(shore.answer, name.as_str()).is_some() {
+        return Ok(Value::File(joined(alloc, shore.dir, name)?));
+    }
+    missing_file(absent)
 }
 
 /// The path of a file that is there; a file that is not there is undefined where it may be.
@@ -72,14 +74,10 @@ fn landed_file(
     if is_outside(shore.dir.as_str(), path.as_str()) {
         return Ok(Value::File(path.copy(alloc)?));
     }
-    let name = local_name(shore.dir, path);
-    if left_body(shore.answer, name).is_some() {
-        return Ok(Value::File(joined(alloc, shore.dir, name)?));
+    match local_name(alloc, shore.dir, path)? {
+        Some(name) => named_file(alloc, shore, &name, absent),
+        None => missing_file(absent),
     }
-    if absent {
-        return Ok(Value::Absent);
-    }
-    Err(EvalFault::Code(EvalCode::FileMissing))
 }
 
 /// The members of the first struct of that name; none where there is no such struct.

@@ -306,10 +306,15 @@ abbrev pub missing_file : Bool → Outcome Value
 missing_file true = Ok v.Absent
 missing_file false = Err FileMissing
 
+-- a file of this name
+abbrev pub named_file : List ℕ → Answer → Bool → Option (List ℕ) → Outcome Value
+named_file dir answer may_be_absent None = missing_file may_be_absent
+named_file dir answer may_be_absent (Some name) =
+    if is_some (left_body answer name) then Ok (v.File (dir ++ 47 ∷ name)) else missing_file may_be_absent
+
 abbrev pub landed_file : List ℕ → Answer → List ℕ → Bool → Outcome Value
 landed_file dir answer path may_be_absent =
-    if is_outside dir path then Ok (v.File path)
-    else (if is_some (left_body answer (local_name dir path)) then Ok (v.File (dir ++ 47 ∷ local_name dir path)) else missing_file may_be_absent)
+    if is_outside dir path then Ok (v.File path) else named_file dir answer may_be_absent (local_name dir path)
 
 abbrev pub land_at : Structs → List ℕ → Answer → Value-F Lander → Bool → Ty-F Ty → Outcome Value
 land_at structs dir answer (value.Bool b) absent t = Ok (v.Bool b)

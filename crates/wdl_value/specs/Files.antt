@@ -1,5 +1,6 @@
--- The files that a call's command left, as paths name them. Texts are bytes; 47 is a slash, 46 a point.
-use Rattle.std.specs.Prelude.{ℕ, Bool, false, not, ◌&&◌, ◌==◌, List, [], ◌∷◌, ◌++◌, Option, Some, None, Ok, Err, if◌then◌else◌, codes}
+-- The files that a call's command left, as paths name them. Texts are bytes; 47 is a slash.
+use Rattle.std.specs.Prelude.{ℕ, Bool, false, not, ◌&&◌, ◌||◌, ◌==◌, List, [], ◌∷◌, ◌++◌, length, take, Option, Some, None, option_and_then, Ok, Err, if◌then◌else◌, codes}
+use Rattle.std.specs.List.{join_with_byte}
 use Rattle.std.specs.Option.{unwrap_or}
 use Rattle.std.specs.Str.{bytes_eq, is_utf8}
 use Rattle.wdl_base.specs.declared.answer.Answer.{Answer}
@@ -8,6 +9,7 @@ use Rattle.wdl_base.specs.declared.body.Body.TheVariants.{Bytes, Long}
 use Rattle.wdl_base.specs.declared.body.Seen.{Seen}
 use Rattle.wdl_base.specs.declared.fault.EvalCode.TheVariants.{FileMissing, NotText, BodyLong}
 use Rattle.wdl_value.specs.Outcome.{Outcome}
+use Rattle.wdl_value.specs.Paths.{parts_of}
 use Rattle.wdl_base.specs.Plain.{has_nul}
 
 -- what follows a text at the front of another
@@ -16,19 +18,49 @@ stripped [] s = Some s
 stripped (p ∷ ps) [] = None
 stripped (p ∷ ps) (c ∷ cs) = if p == c then stripped ps cs else None
 
--- without any leading "./"
-abbrev pub without_points : List ℕ → List ℕ
-without_points [] = []
-without_points (a ∷ []) = a ∷ []
-without_points (a ∷ b ∷ rest) = if a == 46 && b == 47 then without_points rest else a ∷ b ∷ rest
-
--- a path without the directory of the job and a slash, or else without any leading "./"
-abbrev pub local_name : List ℕ → List ℕ → List ℕ
-local_name dir path = unwrap_or (stripped (dir ++ 47 ∷ []) path) (without_points path)
-
 abbrev pub begins_at_root : List ℕ → Bool
 begins_at_root [] = false
 begins_at_root (c ∷ cs) = c == 47
+
+-- ---- the name of a file, by the text of its path alone
+
+-- a part that stays where it is
+abbrev pub is_here : List ℕ → Bool
+is_here part = bytes_eq part [] || bytes_eq part (codes ".")
+
+abbrev pub is_up : List ℕ → Bool
+is_up part = bytes_eq part (codes "..")
+
+-- all parts but the last one, where there is one
+abbrev pub but_last : List (List ℕ) → Option (List (List ℕ))
+but_last [] = None
+but_last (part ∷ parts) = Some (take (length parts) (part ∷ parts))
+
+-- the parts of a name with one more: an empty part and `.` go, and `..` goes with the part before it
+abbrev pub with_part : List (List ℕ) → List ℕ → Option (List (List ℕ))
+with_part name part =
+    if is_here part then Some name
+    else (if is_up part then but_last name else Some (name ++ part ∷ []))
+
+-- None where no part is before a `..`
+abbrev pub with_parts : List (List ℕ) → List (List ℕ) → Option (List (List ℕ))
+with_parts name [] = Some name
+with_parts name (part ∷ parts) = option_and_then (λ more. with_parts more parts) (with_part name part)
+
+abbrev pub name_of : List (List ℕ) → Option (List ℕ)
+name_of [] = None
+name_of (part ∷ parts) = Some (join_with_byte 47 (part ∷ parts))
+
+-- the name of the file of a path below the directory of the job, unless the path leaves that directory or names it
+abbrev pub relative_name : List ℕ → Option (List ℕ)
+relative_name path =
+    if begins_at_root path then None else option_and_then name_of (with_parts [] (parts_of path))
+
+-- the same of a path that may begin with the directory of the job and a slash
+abbrev pub local_name : List ℕ → List ℕ → Option (List ℕ)
+local_name dir path = relative_name (unwrap_or (stripped (dir ++ 47 ∷ []) path) path)
+
+-- ---- bodies
 
 abbrev pub seen_body : List ℕ → List Seen → Option Body
 seen_body name [] = None
@@ -37,15 +69,14 @@ seen_body name (file ∷ files) = if bytes_eq file.name name then Some file.body
 -- the two streams by their names, and the files that the command left
 abbrev pub left_body : Answer → List ℕ → Option Body
 left_body answer name =
-    if begins_at_root name then None
-    else (if bytes_eq name (codes "_stdout") then Some answer.out
+    if bytes_eq name (codes "_stdout") then Some answer.out
     else (if bytes_eq name (codes "_stderr") then Some answer.err
-    else seen_body name answer.files))
+    else seen_body name answer.files)
 
 -- Without an answer no file is there.
 abbrev pub file_body : List ℕ → Option Answer → List ℕ → Option Body
 file_body dir None path = None
-file_body dir (Some answer) path = left_body answer (local_name dir path)
+file_body dir (Some answer) path = option_and_then (left_body answer) (local_name dir path)
 
 -- UTF-8 without NUL
 abbrev pub bytes_text : List ℕ → Outcome (List ℕ)

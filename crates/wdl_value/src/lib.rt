@@ -33,8 +33,9 @@ pub use typing::{FuncTyping, OpTyping};
 pub use value::{Field, MapRow, Value, copy_values};
 pub use value_text::text_of;
 pub use wdl_base::{
-    Answer, AnswerFault, BODY_LIMIT, Body, Counts, Entry, EvalCode, Fault, Key, Laid, Name,
-    NameFault, NoMemory, Part, Place, PlaceFault, RESERVED, Request, Seen, Segment, Source, Span,
-    Step, Steps, Template, Text, TextFault, Why, copy_place, holds_nul, is_identifier, is_reserved,
-    place_of, place_text, places_are_read, same_place, same_request,
+    Answer, AnswerFault, BODY_LIMIT, Body, Counts, ERR_LIMIT, Entry, EvalCode, FILE_BYTES,
+    FILE_COUNT, FILE_NAME_BYTES, Fault, Key, Laid, Name, NameFault, NoMemory, OUT_LIMIT, Part,
+    Place, PlaceFault, RESERVED, Request, Seen, Segment, Source, Span, Step, Steps, Template, Text,
+    TextFault, Why, copy_place, holds_nul, is_identifier, is_reserved, place_of, place_text,
+    places_are_read, same_place, same_request,
 };

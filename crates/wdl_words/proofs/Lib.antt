@@ -1,4 +1,5 @@
 pub mod Numbers
+pub mod Slashes
 pub mod ReadLaws
 pub mod Found
 pub mod Limits

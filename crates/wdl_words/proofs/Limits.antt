@@ -7,7 +7,8 @@ use Rattle.std.proofs.lemmas.Bool.Decides.{nat_tests}
 use Rattle.clap.specs.Words.{Row, Text, first_of}
 use Rattle.wdl_base.specs.Plain.{has_nul}
 use Rattle.wdl_words.specs.Commands.{found_in, run_app}
-use Rattle.wdl_words.specs.Words.{IsWithinLimits, begins_with_slash, directory_of, file_in, file_of, is_numeral, load_in, named_by_first, number_within, operand_in, optional_file, root_of, run_in, run_of, run_with, some_nul, wants, wants_by, workers_of}
+use Rattle.wdl_words.specs.Words.{IsWithinLimits, begins_with_slash, directory_of, file_in, file_of, is_numeral, load_in, named_by_first, not_empty, number_within, operand_in, optional_file, root_of, run_in, run_of, run_with, some_nul, wants, wants_by, without_slashes, workers_of}
+use Rattle.wdl_words.proofs.Slashes.{slashes_short}
 use Rattle.wdl_words.specs.declared.wants.Wants.{Wants}
 use Rattle.wdl_words.specs.declared.wants.Wants.TheVariants.{Run, Check, Cwl, Load, Bundle}
 
@@ -42,16 +43,21 @@ directory_limits : (text root : Text) → directory_of text ≡ Some root → le
 directory_limits text root h = go (begins_with_slash text) (nat_le (length text) 512) refl h
   where
     go : (a b : Bool) → nat_le (length text) 512 ≡ b
-        → cond (a && (b && not (has_nul text))) (Some text) None ≡ Some root → length root ≤ 512
+        → cond (a && (b && not (has_nul text))) (not_empty (without_slashes text)) None ≡ Some root → length root ≤ 512
     go false b short found = cc
     go true false short found = cc
     go true true short found = last (not (has_nul text)) found
       where
-        last : (c : Bool) → cond c (Some text) None ≡ Some root → length root ≤ 512
+        left : (s : Text) → length s ≤ length text → not_empty s ≡ Some root → length root ≤ 512
+        left [] low given = cc
+        left (b ∷ s) low given =
+            let same : b ∷ s ≡ root = cc in
+            let few : length text ≤ 512 = grind (arith, nat_tests) in
+            rw (← same) (omega (arith, low, few))
+
+        last : (c : Bool) → cond c (not_empty (without_slashes text)) None ≡ Some root → length root ≤ 512
         last false given = cc
-        last true given =
-            let same : text ≡ root = cc in
-            rw (← same) (grind (arith, nat_tests))
+        last true given = left (without_slashes text) (slashes_short text) given
 
 root_limits : (o : Option Text) (root : Text) → root_of o ≡ Some root → length root ≤ 512
 root_limits None root h = let same : codes "/tmp/wdl-run" ≡ root = cc in rw (← same) (omega arith)

@@ -33,8 +33,23 @@ begins_with_slash (b ∷ bs) = b == 47
 abbrev pub is_directory : Text → Bool
 is_directory text = begins_with_slash text && (nat_le (length text) 512 && not (has_nul text))
 
+-- a byte before what is left of the rest
+abbrev pub before_slashes : ℕ → Text → Text
+before_slashes b [] = if b == 47 then [] else b ∷ []
+before_slashes b (c ∷ cs) = b ∷ c ∷ cs
+
+-- a text without the slashes at its end
+abbrev pub without_slashes : Text → Text
+without_slashes [] = []
+without_slashes (b ∷ bs) = before_slashes b (without_slashes bs)
+
+abbrev pub not_empty : Text → Option Text
+not_empty [] = None
+not_empty (b ∷ bs) = Some (b ∷ bs)
+
+-- The slashes at the end go, and something is left.
 abbrev pub directory_of : Text → Option Text
-directory_of text = if is_directory text then Some text else None
+directory_of text = if is_directory text then not_empty (without_slashes text) else None
 
 -- the value of an option, which may be left out
 abbrev pub optional_file : Option Text → Option (Option Text)

@@ -93,8 +93,8 @@ fn named_by_first(alloc: Global, words: &[String]) -> Result<Wants, WordFault>
 /// The words are `run [--inputs FILE] [--workers N] [--root DIR] [--journal FILE] FILE`, `check FILE`, `cwl FILE`,
 /// `load N` or `bundle FILE`. Each option takes one value, as a word of its own or after `=`, and stands at most
 /// once. N is one or more decimal digits, for 1 to 64 workers (4 where it is left out) or 1 to 10,000 calls. DIR
-/// begins with `/`, has at most 512 bytes and is `/tmp/wdl-run` where it is left out. No word holds NUL, no FILE is
-/// empty, and a word that asks for help has no reading.
+/// begins with `/`, has at most 512 bytes as it is given, and is `/tmp/wdl-run` where it is left out; the slashes at its
+/// end are cut, and something is left. No word holds NUL, no FILE is empty, and a word that asks for help has no reading.
 #[tactic(auto, using(crate::proofs::ReadLaws::read_value, crate::proofs::ReadLaws::within, crate::proofs::ReadLaws::read_usage))]
 pub fn read_words(alloc: Global, words: &[String]) -> Result<Wants, WordFault>
     ensures value { IfOk result (λ asked. spec.wants (map string_bytes words.now) ≡ Some asked) }

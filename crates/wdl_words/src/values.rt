@@ -13,7 +13,7 @@ const DEFAULT_ROOT: &str = "/tmp/wdl-run";
 /// How many jobs may run at once, where `--workers` is left out.
 const DEFAULT_WORKERS: u32 = 4;
 
-/// The most bytes of the value of `--root`.
+/// The most bytes of the value of `--root`, with the slashes at its end.
 const ROOT_LIMIT: usize = 512;
 
 fn are_digits(bytes: &[u8]) -> bool
@@ -86,16 +86,38 @@ fn is_directory(text: &str) -> bool
     begins_with_slash(text.as_bytes()) && text.len() <= ROOT_LIMIT && !holds_nul(text.as_bytes())
 }
 
-/// The directory below which jobs get their own: its path begins with `/` and has at most 512 bytes.
-pub fn root_of(alloc: Global, text: Option<&str>) -> Result<Text, WordFault>
-    ensures { Reads (spec.root_of (option_map (λ s. s.now) text.entry)) result }
+/// The text without the slashes at its end.
+fn without_slashes(text: &str) -> &str
+    ensures { result.now ≡ spec.without_slashes text.now }
 {
-    let text = match text {
-        Some(text) => text,
-        None => DEFAULT_ROOT,
-    };
+    let mut rest = text;
+    while let Some(front) = rest.strip_suffix('/') {
+        rest = front;
+    }
+    rest
+}
+
+/// The path of a directory, without the slashes at its end.
+fn directory_of(alloc: Global, text: &str) -> Result<Text, WordFault>
+    ensures { Reads (spec.directory_of text.now) result }
+{
     if !is_directory(text) {
         return Err(WordFault::Usage);
     }
-    Ok(Text::from_plain(alloc, text)?)
+    let root = without_slashes(text);
+    if root.is_empty() {
+        return Err(WordFault::Usage);
+    }
+    Ok(Text::from_plain(alloc, root)?)
+}
+
+/// The directory below which jobs get their own: its path begins with `/` and has at most 512 bytes as it is given. The
+/// slashes at its end go, and something is left.
+pub fn root_of(alloc: Global, text: Option<&str>) -> Result<Text, WordFault>
+    ensures { Reads (spec.root_of (option_map (λ s. s.now) text.entry)) result }
+{
+    match text {
+        Some(text) => directory_of(alloc, text),
+        None => Ok(Text::from_plain(alloc, DEFAULT_ROOT)?),
+    }
 }

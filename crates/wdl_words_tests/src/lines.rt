@@ -75,10 +75,10 @@ fn run_takes_its_options_in_any_order(rt: HostRuntime) -> Result<(), Fail> {
             journal: None,
         },
         Run {
-            words: "run|--root=/|--|w.wdl",
+            words: "run|--root=//a/ //|--|w.wdl",
             inputs: None,
             workers: 4,
-            root: "/",
+            root: "//a/ ",
             journal: None,
         },
     ];
@@ -134,6 +134,8 @@ fn other_words_are_refused(rt: HostRuntime) -> Result<(), Fail> {
         "run|--root|tmp|w.wdl",
         "run|--root||w.wdl",
         "run|--root= /|w.wdl",
+        "run|--root=/|w.wdl",
+        "run|--root=///|w.wdl",
         "run|--color|w.wdl",
         "run|--help",
         "run|-h|w.wdl",

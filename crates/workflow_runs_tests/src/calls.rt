@@ -102,7 +102,7 @@ $ run --inputs i.json w.wdl
 /// Files that a command leaves, and files that are laid before it.
 const FILES: &str =
     r#"version task make { input { String s } String t = u + "!" String u = s command <<<echo ~{t} > o.txt>>> 
-text output { File o = "o.txt" String r = read_string("o.txt") File? z = "no.txt" } } 
+text output { File o = "./x//../o.txt" String r = read_string("o.txt/.") File? z = "x/../../make/o.txt" } } 
 text workflow w { call make { input: s = "hi" } output { File o = make.o String r = make.r File? z = make.z } }
 file w.wdl
 left o.txt hi!

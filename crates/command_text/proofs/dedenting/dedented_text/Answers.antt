@@ -1,6 +1,7 @@
 use Rattle.std.proofs.Common.{◌∙◌, ap, sym, subst, List, ℕ, Bor, map}
 use Rattle.std.specs.List.{All}
 use Rattle.std.proofs.lemmas.Result.{IfOk-weaker}
+use Rattle.wdl_base.specs.Templates.{lines}
 use Rattle.command_text.specs.Marks.{Fits, zeros}
 use Rattle.command_text.proofs.Indents.{common_fits}
 use Rattle.command_text.proofs.LineLaws.{dedented_is, zeros_dedented}
@@ -14,7 +15,7 @@ join_cut-requires c =
 pub returns-clause-value : goal.returns-clause-value
 returns-clause-value c =
     IfOk-weaker c.join_cut.result _ _ (λ t h. h ∙ dedented_is c.args.text.now c.as_slice.result.now c.without_first.result.now
-    c.without_last-lines.result.now c.common_indent.result (ap (map (λ (s : Bor (List ℕ)). s.now)) c.as_slice.ensures.value ∙ c.in_ok-all.ensures)
+    c.without_last-lines.result.now c.common_indent.result (ap (map (λ (s : Bor (List ℕ)). s.now)) c.as_slice.ensures.value ∙ (c.in_ok-all.ensures ∙ ap lines (c.as_str.ensures.value ∙ c.in_ok-own.ensures)))
     c.without_first.ensures c.without_last-lines.ensures c.common_indent.ensures) c.join_cut.ensures
 
 pub returns-clause-holes : goal.returns-clause-holes
