@@ -4,7 +4,9 @@
 mod child;
 mod collect;
 mod directory;
+mod kind;
 mod listing;
+mod owner;
 mod shell;
 mod trouble;
 

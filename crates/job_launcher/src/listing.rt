@@ -1,50 +1,46 @@
-use crate::directory::path_in;
-use crate::trouble::Trouble;
+use crate::directory::{ERR, OUT, path_in};
+use crate::kind::{Kind, kind_of};
+use crate::trouble::{Trouble, if_there};
 use std::alloc::{AllocError, Global};
 use std::fs;
 use std::fs::{DirEntry, Files};
 
-/// The most levels of directories that are listed; the files of the directory itself are at the first.
+/// The most levels of folders that are listed; the files of the job's directory itself are at the first.
 const LEVELS: u32 = 8;
 
 /// The most files of an answer.
-const FILE_COUNT: usize = 256;
+const FILE_COUNT: usize = 4_096;
 
 /// The most bytes of a file's name.
-const NAME_BYTES: usize = 255;
+const NAME_BYTES: usize = 1_024;
 
 /// The most bytes of the names and bodies of an answer's files.
-pub(crate) const FILE_BYTES: usize = 61_440;
+pub(crate) const FILE_BYTES: usize = 262_144;
 
-/// The names of files, relative to the directory of their job, and how many bytes these have.
+/// The regular files below the directory of a job, each with the length that it had, and how many bytes their names have.
 #[derive(Drop)]
-pub(crate) struct Names {
-    pub(crate) names: Vec<String>,
+pub(crate) struct Listing {
+    pub(crate) files: Vec<(u64, String)>,
     pub(crate) bytes: usize,
 }
 
-/// A directory that is still to be listed: its path, what stands before the names of its files, and its level.
+/// A folder that is still to be listed: what stands before the names of its files, and its level.
 #[derive(Drop)]
 struct Pending {
-    path: String,
     prefix: String,
     level: u32,
 }
 
-impl Names {
-    /// Adds a name, unless it passes a limit.
-    fn add(&mut self, name: String) -> Result<(), Trouble> {
+impl Listing {
+    /// Adds a file, unless its name passes a limit.
+    fn add(&mut self, length: u64, name: String) -> Result<(), Trouble> {
         self.bytes = self.bytes.saturating_add(name.len());
-        if self.names.len() >= FILE_COUNT || name.len() > NAME_BYTES || self.bytes > FILE_BYTES {
+        if self.files.len() >= FILE_COUNT || name.len() > NAME_BYTES || self.bytes > FILE_BYTES {
             return Err(Trouble::Refused);
         }
-        self.names.push(name)?;
+        self.files.push((length, name))?;
         Ok(())
     }
-}
-
-fn is_stream(name: &str) -> bool {
-    name == "_stdout" || name == "_stderr"
 }
 
 fn name_in(alloc: Global, prefix: &str, name: &str) -> Result<String, AllocError> {
@@ -53,35 +49,36 @@ fn name_in(alloc: Global, prefix: &str, name: &str) -> Result<String, AllocError
     Ok(whole)
 }
 
-/// A directory that stands in one that is listed.
+/// A folder that stands in one that is listed.
 fn below(alloc: Global, at: &Pending, file_name: &str) -> Result<Pending, AllocError> {
     let mut prefix = name_in(alloc, at.prefix.as_str(), file_name)?;
-    prefix.push_str("/")?;
+    prefix.push('/')?;
     Ok(Pending {
-        path: path_in(alloc, at.path.as_str(), file_name)?,
         prefix,
         level: at.level.saturating_add(1),
     })
 }
 
-/// Takes one entry of a directory: a regular file's name is kept, and a directory is left to be listed.
-fn take_entry<R: Files + AllocGlobal + Clone + Drop>(
+/// Takes one entry of a folder: a file is added to the listing, and a folder is left to be listed.
+fn take_entry<R: Files>(
+    rt: &R,
     alloc: Global,
     at: &Pending,
     entry: &DirEntry<R>,
     pending: &mut Vec<Pending>,
-    found: &mut Names,
+    found: &mut Listing,
 ) -> Result<(), Trouble> {
-    let kind = entry.file_type()?;
-    if kind.is_dir() {
-        if at.level < LEVELS {
+    match kind_of(rt, entry)? {
+        Kind::Folder if at.level < LEVELS => {
             pending.push(below(alloc, at, entry.file_name())?)?;
         }
-    } else if kind.is_file() {
-        let name = name_in(alloc, at.prefix.as_str(), entry.file_name())?;
-        if !is_stream(name.as_str()) {
-            found.add(name)?;
+        Kind::File(length) => {
+            let name = name_in(alloc, at.prefix.as_str(), entry.file_name())?;
+            if name.as_str() != OUT && name.as_str() != ERR {
+                found.add(length, name)?;
+            }
         }
+        Kind::Folder | Kind::Other => {}
     }
     Ok(())
 }
@@ -89,31 +86,34 @@ fn take_entry<R: Files + AllocGlobal + Clone + Drop>(
 fn list_one<R: Files + AllocGlobal + Clone + Drop>(
     rt: &R,
     alloc: Global,
+    dir: &str,
     at: &Pending,
     pending: &mut Vec<Pending>,
-    found: &mut Names,
+    found: &mut Listing,
 ) -> Result<(), Trouble> {
-    for entry in fs::read_dir(rt, at.path.as_str())? {
-        let entry = entry?;
-        take_entry(alloc, at, &entry, pending, found)?;
+    let path = path_in(alloc, dir, at.prefix.as_str())?;
+    let Some(entries) = if_there(fs::read_dir(rt, path.as_str()))? else {
+        return Ok(());
+    };
+    for entry in entries {
+        take_entry(rt, alloc, at, &entry?, pending, found)?;
     }
     Ok(())
 }
 
-/// The names of the regular files below a directory, to 8 levels, but for the two kept streams; in byte order.
-/// A symbolic link is no regular file.
+/// Lists the regular files below a directory, to 8 levels, but for the two kept streams. Shorter files come first, and
+/// those of one length in byte order of their names.
 pub(crate) fn list<R: Files + AllocGlobal + Clone + Drop>(
     rt: &R,
     alloc: Global,
     dir: &str,
-) -> Result<Names, Trouble> {
-    let mut found = Names {
-        names: Vec::new(alloc),
+) -> Result<Listing, Trouble> {
+    let mut found = Listing {
+        files: Vec::new(alloc),
         bytes: 0,
     };
     let mut pending = Vec::new(alloc);
     pending.push(Pending {
-        path: String::from_str(alloc, dir)?,
         prefix: String::new(alloc),
         level: 1,
     })?;
@@ -121,8 +121,8 @@ pub(crate) fn list<R: Files + AllocGlobal + Clone + Drop>(
         let Some(at) = pending.pop() else {
             break;
         };
-        list_one(rt, alloc, &at, &mut pending, &mut found)?;
+        list_one(rt, alloc, dir, &at, &mut pending, &mut found)?;
     }
-    found.names.sort()?;
+    found.files.sort()?;
     Ok(found)
 }
