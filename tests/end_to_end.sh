@@ -243,11 +243,6 @@ document part.wdl 'task t { command <<<exit 3>>> } workflow inner { call t as fi
 runs "a place in a called workflow" 1 '' 'failed sub/first: status 3\n' 'import "part.wdl" workflow w { call part.inner as sub }'
 runs "more than 20,000 jobs" 11 '' 'too many jobs\n' \
   'task t { command <<<>>> } workflow w { scatter (i in range(20001)) { call t } }'
-runs "257 files" 9 '' 'cannot launch t\n' \
-  'task t { command <<<for i in $(seq 257); do : >f$i; done>>> } workflow w { call t }'
-runs "256 files" 0 '{"w.n":256}\n' '' \
-  'task t { command <<<for i in $(seq 256); do : >f$i; done>>> output { Int n = length(glob("f*")) } }
-  workflow w { call t output { Int n = t.n } }'
 calls w.wdl 'workflow w { call say { input: s = "a" } }'
 expect "a directory that cannot be made" 9 '' 'cannot launch say\n' run --root /dev/null/run w.wdl
 
@@ -274,6 +269,8 @@ mkdir -p "$root/t" && : >"$root/t/old"
 expect "files of a job" 0 "{\"w.lines\":[\"b\",\"a\"],\"w.list\":\"$root/t-retry-1/kept/list\",\"w.other\":null}\n" '' run --root "$root" w.wdl
 [ "$(cat "$root/t/_stdout" "$root/t/_stderr" "$root/t-retry-1/_stdout")" = "$(printf 'in t\nno\nin t-retry-1')" ] && pass || fail "streams of a job"
 [ "$(cat "$root/t-retry-1/kept/list")" = "$(printf 'b\na')" ] && [ ! -e "$root/t/old" ] && pass || fail "what a job leaves"
+
+. "$top/tests/shells.sh"
 
 echo "examples"
 # example NAME: the document, without `_off`, run for the inputs NAME.json, where there are such.

@@ -1,5 +1,5 @@
 use crate::trouble::Trouble;
-use std::alloc::Global;
+use std::alloc::{AllocError, Global};
 use std::process::{Command, Processes};
 
 /// Runs the program `$3` on the command `$2` in the directory `$1`. The command's standard streams are files of that
@@ -8,6 +8,13 @@ const SCRIPT: &str = "cd \"$1\" && exec \"$3\" -c \"$2\" >_stdout 2>_stderr </de
 
 /// The status of a child that ended without one, as by a signal.
 const KILLED: u8 = 255;
+
+fn add_words(child: &mut Command, words: &[&str]) -> Result<(), AllocError> {
+    for word in words {
+        child.arg(*word)?;
+    }
+    Ok(())
+}
 
 /// Runs a command as `SHELL -c COMMAND` in a directory, and waits for its end.
 pub(crate) fn status_of<R: Processes>(
@@ -18,7 +25,7 @@ pub(crate) fn status_of<R: Processes>(
     command: &str,
 ) -> Result<u8, Trouble> {
     let mut child = Command::new(alloc, "sh")?;
-    child.args(["-c", SCRIPT, "sh", dir, command, shell])?;
+    add_words(&mut child, &["-c", SCRIPT, "sh", dir, command, shell])?;
     let ended = child.status(rt)?;
     match ended.code() {
         Some(code) => Ok(u8::try_from(code).unwrap_or(KILLED)),

@@ -1,23 +1,19 @@
 use crate::directory::path_in;
-use crate::listing::{FILE_BYTES, list};
+use crate::listing::list;
+use crate::reach::reach_of;
 use crate::trouble::{Trouble, if_there};
 use sqlite_items::Items;
 use std::alloc::Global;
-use std::collections::BTreeMap;
 use std::fs;
 use std::fs::{File, Files};
 use std::io::Read;
 use wdl_value::{Body, Seen, Text};
 
-/// The most bytes of a body.
-const BODY_BYTES: usize = 65_536;
-
 /// The bytes of an open file, or `Long` where it has more than the limit.
-fn read_up_to<F: Read + Drop>(alloc: Global, file: F, limit: usize) -> Result<Body, Trouble> {
+fn read_up_to<F: Read + Drop>(alloc: Global, file: F, limit: u64) -> Result<Body, Trouble> {
     let mut bytes = Vec::new(alloc);
-    file.take((limit as u64).saturating_add(1))
-        .read_to_end(&mut bytes)?;
-    if bytes.len() <= limit {
+    file.take(limit.saturating_add(1)).read_to_end(&mut bytes)?;
+    if bytes.len() as u64 <= limit {
         Ok(Body::Bytes(Items::from_vec(bytes)))
     } else {
         Ok(Body::Long)
@@ -29,7 +25,7 @@ pub(crate) fn body_of<R: Files>(
     rt: &R,
     alloc: Global,
     path: &str,
-    limit: usize,
+    limit: u64,
 ) -> Result<Option<Body>, Trouble> {
     // Nothing else is opened: a named pipe would wait for its writer.
     match if_there(fs::metadata(rt, path))? {
@@ -42,60 +38,41 @@ pub(crate) fn body_of<R: Files>(
     }
 }
 
-/// The body of a listed file of that length, with so many bytes left. What cannot fit is not read.
-fn kept_body<R: Files>(
-    rt: &R,
-    alloc: Global,
-    path: &str,
-    length: u64,
-    left: usize,
-) -> Result<Option<Body>, Trouble> {
-    match usize::try_from(length) {
-        Ok(length) if length <= left && length <= BODY_BYTES => body_of(rt, alloc, path, length),
-        _ => Ok(Some(Body::Long)),
-    }
-}
-
-/// The bytes that a body takes of the limit.
-fn size_of(body: &Body) -> usize {
-    match body {
-        Body::Bytes(bytes) => bytes.len(),
-        Body::Long => 0,
-    }
-}
-
-/// The bodies of the regular files below a directory, by their names. Names are counted first, and then bodies, the
-/// shortest first: one that does not fit into what is left of the limit is `Long`.
-fn bodies_of<R: Files + AllocGlobal + Clone + Drop>(
+/// The file of this name with its body, or `None` where it is gone.
+fn seen_of<R: Files>(
     rt: &R,
     alloc: Global,
     dir: &str,
-) -> Result<BTreeMap<String, Body>, Trouble> {
-    let found = list(rt, alloc, dir)?;
-    let mut left = FILE_BYTES.saturating_sub(found.bytes);
-    let mut bodies = BTreeMap::new(alloc);
-    for (length, name) in found.files {
-        let path = path_in(alloc, dir, name.as_str())?;
-        if let Some(body) = kept_body(rt, alloc, path.as_str(), length, left)? {
-            left = left.saturating_sub(size_of(&body));
-            bodies.insert(name, body)?;
-        }
+    name: &str,
+    length: u64,
+) -> Result<Option<Seen>, Trouble> {
+    let path = path_in(alloc, dir, name)?;
+    match body_of(rt, alloc, path.as_str(), length)? {
+        Some(body) => Ok(Some(seen(alloc, name, body)?)),
+        None => Ok(None),
     }
-    Ok(bodies)
 }
 
-/// The regular files below a directory, in byte order of their names.
+fn seen(alloc: Global, name: &str, body: Body) -> Result<Seen, Trouble> {
+    let name = Text::new(alloc, name)?;
+    Ok(Seen { name, body })
+}
+
+/// The regular files below a directory, in byte order of their names. A file whose body is not kept is not read.
 pub(crate) fn files_of<R: Files + AllocGlobal + Clone + Drop>(
     rt: &R,
     alloc: Global,
     dir: &str,
 ) -> Result<Items<Seen>, Trouble> {
+    let listing = list(rt, alloc, dir)?;
+    let mut reach = reach_of(alloc, &listing)?;
     let mut files = Items::new(alloc);
-    for (name, body) in bodies_of(rt, alloc, dir)? {
-        files.push(Seen {
-            name: Text::new(alloc, name.as_str())?,
-            body,
-        })?;
+    for (name, length) in &listing.files {
+        if !reach.takes(*length) {
+            files.push(seen(alloc, name.as_str(), Body::Long)?)?;
+        } else if let Some(file) = seen_of(rt, alloc, dir, name.as_str(), *length)? {
+            files.push(file)?;
+        }
     }
     Ok(files)
 }

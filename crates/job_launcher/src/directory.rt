@@ -19,22 +19,16 @@ pub(crate) fn path_in(alloc: Global, dir: &str, name: &str) -> Result<String, Al
     Ok(path)
 }
 
-/// Whether a job of this program left this directory.
-fn is_of_a_job<R: Files>(rt: &R, alloc: Global, dir: &str) -> Result<bool, Trouble> {
-    let out = path_in(alloc, dir, OUT)?;
-    Ok(if_there(fs::symlink_metadata(rt, out.as_str()))?.is_some())
-}
-
 /// Removes what stands in the place of a job's directory: a directory that a job left, with what it holds, or an empty one.
-/// Nothing else is touched.
-fn clear<R: Files>(rt: &R, alloc: Global, dir: &str) -> Result<(), Trouble> {
+/// Nothing else is touched. The path of the directory's standard output is `out`.
+fn clear<R: Files>(rt: &R, alloc: Global, dir: &str, out: &str) -> Result<(), Trouble> {
     let Some(old) = if_there(fs::symlink_metadata(rt, dir))? else {
         return Ok(());
     };
     if !old.is_dir() {
         return Err(Trouble::Refused);
     }
-    if is_of_a_job(rt, alloc, dir)? {
+    if if_there(fs::symlink_metadata(rt, out))?.is_some() {
         rt.remove_dir_all(alloc, dir)?;
     } else {
         fs::remove_dir(rt, dir)?;
@@ -50,10 +44,11 @@ pub(crate) fn make<R: Files>(
     dir: &str,
     levels: usize,
 ) -> Result<(), Trouble> {
+    let out = path_in(alloc, dir, OUT)?;
     hold(rt, dir, levels)?;
-    clear(rt, alloc, dir)?;
+    clear(rt, alloc, dir, out.as_str())?;
     make_private(rt, dir)?;
-    fs::write(rt, path_in(alloc, dir, OUT)?.as_str(), "")?;
+    fs::write(rt, out.as_str(), "")?;
     Ok(())
 }
 

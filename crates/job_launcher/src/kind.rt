@@ -4,6 +4,7 @@ use std::fs::{DirEntry, Files, Metadata};
 use std::io::ErrorKind;
 
 /// What an entry of a directory is to a listing.
+#[derive(Clone, Copy)]
 pub(crate) enum Kind {
     Folder,
     /// A regular file of so many bytes, or a symbolic link to one.

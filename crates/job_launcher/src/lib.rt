@@ -7,6 +7,7 @@ mod directory;
 mod kind;
 mod listing;
 mod owner;
+mod reach;
 mod shell;
 mod trouble;
 

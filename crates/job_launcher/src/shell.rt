@@ -8,13 +8,7 @@ use std::alloc::Global;
 use std::fs::Files;
 use std::process::Processes;
 use wdl_port::{LaunchFault, Launcher};
-use wdl_value::{Answer, Body, Request};
-
-/// The most bytes of standard output that are kept.
-const OUT_LIMIT: usize = 65_536;
-
-/// The most bytes of standard error that are kept.
-const ERR_LIMIT: usize = 4_096;
+use wdl_value::{Answer, Body, ERR_LIMIT, OUT_LIMIT, Request};
 
 /// Runs each command as `SHELL -c COMMAND`, as a child of its own in the request's directory, which is made anew and in
 /// which the request's files are laid down. The answer has the child's status, 255 where it ended without one, the two
@@ -26,13 +20,14 @@ const ERR_LIMIT: usize = 4_096;
 #[derive(Drop)]
 pub struct ShellLauncher<R> {
     rt: R,
-    shell: String,
+    shell: Option<String>,
 }
 
 impl<R> ShellLauncher<R> {
     /// A launcher that starts its children by this runtime, and runs each command by the program `shell`: a path where
-    /// it holds a `/`, and else a name that is looked for on the `PATH`. It takes no memory.
-    pub fn new(rt: R, shell: String) -> ShellLauncher<R> {
+    /// it holds a `/`, and else a name that is looked for on the `PATH`. Without such a program it refuses every request.
+    /// It takes no memory.
+    pub fn new(rt: R, shell: Option<String>) -> ShellLauncher<R> {
         ShellLauncher { rt, shell }
     }
 }
@@ -43,7 +38,7 @@ fn stream_of<R: Files>(
     alloc: Global,
     dir: &str,
     name: &str,
-    limit: usize,
+    limit: u64,
 ) -> Result<Body, Trouble> {
     let path = path_in(alloc, dir, name)?;
     match body_of(rt, alloc, path.as_str(), limit)? {
@@ -59,8 +54,8 @@ fn answer_of<R: Files + AllocGlobal + Clone + Drop>(
     dir: &str,
     status: u8,
 ) -> Result<Answer, Trouble> {
-    let out = stream_of(rt, alloc, dir, OUT, OUT_LIMIT)?;
-    let err = stream_of(rt, alloc, dir, ERR, ERR_LIMIT)?;
+    let out = stream_of(rt, alloc, dir, OUT, OUT_LIMIT as u64)?;
+    let err = stream_of(rt, alloc, dir, ERR, ERR_LIMIT as u64)?;
     let files = files_of(rt, alloc, dir)?;
     match Answer::new(status, out, err, files) {
         Ok(answer) => Ok(answer),
@@ -70,11 +65,14 @@ fn answer_of<R: Files + AllocGlobal + Clone + Drop>(
 
 impl<R: Files + Processes + AllocGlobal + Clone + Drop> ShellLauncher<R> {
     fn run(&self, alloc: Global, request: &Request) -> Result<Answer, Trouble> {
+        let Some(shell) = &self.shell else {
+            return Err(Trouble::Refused);
+        };
         let dir = request.dir.as_str();
         make(&self.rt, alloc, dir, request.place.len().max(1))?;
         lay_down(&self.rt, alloc, dir, request.files.as_slice())?;
-        let shell = self.shell.as_str();
-        let status = status_of(&self.rt, alloc, shell, dir, request.command.as_str())?;
+        let command = request.command.as_str();
+        let status = status_of(&self.rt, alloc, shell.as_str(), dir, command)?;
         answer_of(&self.rt, alloc, dir, status)
     }
 }
