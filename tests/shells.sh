@@ -67,9 +67,9 @@ $6
 >>> output { String r = read_string(stdout()) } } workflow w { call t output { String r = t.r } }"
   unset WDL_SHELL
 }
-for name in apptainer docker; do
-  shell "the shell $name without an image" 1 '' 'failed t: status 2\n' "$top/examples/shells/$name" 'echo a'
-  [ "$(cat "$t/_stderr")" = "$name: WDL_IMAGE names no image" ] && pass || fail "the error of $name"
+for script in apptainer docker; do
+  shell "the shell $script without an image" 1 '' 'failed t: status 2\n' "$top/examples/shells/$script" 'echo a'
+  [ "$(cat "$t/_stderr")" = "$script: WDL_IMAGE names no image" ] && pass || fail "the error of $script"
 done
 if command -v bash >/dev/null 2>&1; then
   shell "Bash" 0 '{"w.r":"b"}\n' '' bash 'set -euo pipefail
