@@ -245,11 +245,6 @@ document part.wdl 'task t { command <<<exit 3>>> } workflow inner { call t as fi
 runs "a place in a called workflow" 1 '' 'failed sub/first: status 3\n' 'import "part.wdl" workflow w { call part.inner as sub }'
 runs "more than 20,000 jobs" 11 '' 'too many jobs\n' \
   'task t { command <<<>>> } workflow w { scatter (i in range(20001)) { call t } }'
-runs "257 files" 9 '' 'cannot launch t\n' \
-  'task t { command <<<for i in $(seq 257); do : >f$i; done>>> } workflow w { call t }'
-runs "256 files" 0 '{"w.n":256}\n' '' \
-  'task t { command <<<for i in $(seq 256); do : >f$i; done>>> output { Int n = length(glob("f*")) } }
-  workflow w { call t output { Int n = t.n } }'
 calls w.wdl 'workflow w { call say { input: s = "a" } }'
 expect "a directory that cannot be made" 9 '' 'cannot launch say\n' run --root /dev/null/run w.wdl
 
@@ -285,6 +280,8 @@ document w.wdl 'task t { command <<<
 >>> output { Array[String] r = read_lines(stdout()) } } workflow w { call t output { Array[String] r = t.r } }'
 sed 's/$/\r/' w.wdl >crlf.wdl
 expect "a document with the line ends of Windows" 0 '{"w.r":["a","b"]}\n' '' run --root "$root" crlf.wdl
+
+. "$top/tests/shells.sh"
 
 echo "examples"
 # example NAME: the document, without `_off`, run for the inputs NAME.json, where there are such.

@@ -1,6 +1,7 @@
 use crate::directory::path_in;
-use crate::listing::{FILE_BYTES, list};
-use crate::trouble::Trouble;
+use crate::listing::list;
+use crate::reach::reach_of;
+use crate::trouble::{Trouble, if_there};
 use sqlite_items::Items;
 use std::alloc::Global;
 use std::fs;
@@ -8,56 +9,70 @@ use std::fs::{File, Files};
 use std::io::Read;
 use wdl_value::{Body, Seen, Text};
 
-/// The bytes of a file, or `Long` where it has more than the limit.
+/// The bytes of an open file, or `Long` where it has more than the limit.
+fn read_up_to<F: Read + Drop>(alloc: Global, file: F, limit: u64) -> Result<Body, Trouble> {
+    let mut bytes = Vec::new(alloc);
+    file.take(limit.saturating_add(1)).read_to_end(&mut bytes)?;
+    if bytes.len() as u64 <= limit {
+        Ok(Body::Bytes(Items::from_vec(bytes)))
+    } else {
+        Ok(Body::Long)
+    }
+}
+
+/// The bytes of the regular file at a path, or `Long` where it has more than the limit; `None` where there is no such file.
 pub(crate) fn body_of<R: Files>(
     rt: &R,
     alloc: Global,
     path: &str,
-    limit: usize,
-) -> Result<Body, Trouble> {
+    limit: u64,
+) -> Result<Option<Body>, Trouble> {
     // Nothing else is opened: a named pipe would wait for its writer.
-    if !fs::metadata(rt, path)?.is_file() {
-        return Err(Trouble::Refused);
+    match if_there(fs::metadata(rt, path))? {
+        Some(found) if found.is_file() => {}
+        _ => return Ok(None),
     }
-    let mut file = File::open(rt, path)?;
-    let mut bytes = Vec::new(alloc);
-    let mut buf = [0u8; 4096];
-    while bytes.len() <= limit {
-        let count = file.read(&mut buf)?;
-        if count == 0 {
-            return Ok(Body::Bytes(Items::from_vec(bytes)));
-        }
-        bytes.extend_from_slice(&buf[..count])?;
-    }
-    Ok(Body::Long)
-}
-
-/// The bytes that a body takes of the limit.
-fn size_of(body: &Body) -> usize {
-    match body {
-        Body::Bytes(bytes) => bytes.len(),
-        Body::Long => 0,
+    match if_there(File::open(rt, path))? {
+        Some(file) => Ok(Some(read_up_to(alloc, file, limit)?)),
+        None => Ok(None),
     }
 }
 
-/// The regular files below a directory, in byte order of their names. Names are counted first, and then each body
-/// that fits into what is left of the limit is kept.
+/// The file of this name with its body, or `None` where it is gone.
+fn seen_of<R: Files>(
+    rt: &R,
+    alloc: Global,
+    dir: &str,
+    name: &str,
+    length: u64,
+) -> Result<Option<Seen>, Trouble> {
+    let path = path_in(alloc, dir, name)?;
+    match body_of(rt, alloc, path.as_str(), length)? {
+        Some(body) => Ok(Some(seen(alloc, name, body)?)),
+        None => Ok(None),
+    }
+}
+
+fn seen(alloc: Global, name: &str, body: Body) -> Result<Seen, Trouble> {
+    let name = Text::new(alloc, name)?;
+    Ok(Seen { name, body })
+}
+
+/// The regular files below a directory, in byte order of their names. A file whose body is not kept is not read.
 pub(crate) fn files_of<R: Files + AllocGlobal + Clone + Drop>(
     rt: &R,
     alloc: Global,
     dir: &str,
 ) -> Result<Items<Seen>, Trouble> {
-    let found = list(rt, alloc, dir)?;
-    let mut left = FILE_BYTES.saturating_sub(found.bytes);
+    let listing = list(rt, alloc, dir)?;
+    let mut reach = reach_of(alloc, &listing)?;
     let mut files = Items::new(alloc);
-    for name in &found.names {
-        let path = path_in(alloc, dir, name.as_str())?;
-        let body = body_of(rt, alloc, path.as_str(), left)?;
-        left = left.saturating_sub(size_of(&body));
-        files.push(Seen {
-            name: Text::new(alloc, name.as_str())?,
-            body,
-        })?;
+    for (name, length) in &listing.files {
+        if !reach.takes(*length) {
+            files.push(seen(alloc, name.as_str(), Body::Long)?)?;
+        } else if let Some(file) = seen_of(rt, alloc, dir, name.as_str(), *length)? {
+            files.push(file)?;
+        }
     }
     Ok(files)
 }

@@ -1,9 +1,15 @@
-use crate::trouble::Trouble;
+use crate::owner::{hold, make_private};
+use crate::trouble::{Trouble, if_there};
 use std::alloc::{AllocError, Global};
 use std::fs;
 use std::fs::Files;
-use std::io::ErrorKind;
 use wdl_value::Laid;
+
+/// The file of a job's directory that takes its standard output. Each directory of a job has it from the first on.
+pub(crate) const OUT: &str = "_stdout";
+
+/// The file of a job's directory that takes its standard error.
+pub(crate) const ERR: &str = "_stderr";
 
 /// The path of a name below a directory.
 pub(crate) fn path_in(alloc: Global, dir: &str, name: &str) -> Result<String, AllocError> {
@@ -13,22 +19,36 @@ pub(crate) fn path_in(alloc: Global, dir: &str, name: &str) -> Result<String, Al
     Ok(path)
 }
 
-/// Removes the directory with what it holds, if it is there.
-fn clear<R: Files>(rt: &R, alloc: Global, dir: &str) -> Result<(), Trouble> {
-    match rt.remove_dir_all(alloc, dir) {
-        Ok(()) => Ok(()),
-        Err(e) if e.kind() == ErrorKind::NotFound => Ok(()),
-        Err(e) => Err(Trouble::from(e)),
+/// Removes what stands in the place of a job's directory: a directory that a job left, with what it holds, or an empty one.
+/// Nothing else is touched. The path of the directory's standard output is `out`.
+fn clear<R: Files>(rt: &R, alloc: Global, dir: &str, out: &str) -> Result<(), Trouble> {
+    let Some(old) = if_there(fs::symlink_metadata(rt, dir))? else {
+        return Ok(());
+    };
+    if !old.is_dir() {
+        return Err(Trouble::Refused);
     }
+    if if_there(fs::symlink_metadata(rt, out))?.is_some() {
+        rt.remove_dir_all(alloc, dir)?;
+    } else {
+        fs::remove_dir(rt, dir)?;
+    }
+    Ok(())
 }
 
-/// Makes the directory anew, and those above it where they are missing. What stood there goes.
-pub(crate) fn make<R: Files>(rt: &R, alloc: Global, dir: &str) -> Result<(), Trouble> {
-    clear(rt, alloc, dir)?;
-    if let Some((above, _)) = dir.rsplit_once('/') {
-        fs::create_dir_all(rt, above)?;
-    }
-    fs::create_dir(rt, dir)?;
+/// Makes the directory of a job anew, and those above it where they are missing. The job's place has `levels` parts, which
+/// are the last of the path.
+pub(crate) fn make<R: Files>(
+    rt: &R,
+    alloc: Global,
+    dir: &str,
+    levels: usize,
+) -> Result<(), Trouble> {
+    let out = path_in(alloc, dir, OUT)?;
+    hold(rt, dir, levels)?;
+    clear(rt, alloc, dir, out.as_str())?;
+    make_private(rt, dir)?;
+    fs::write(rt, out.as_str(), "")?;
     Ok(())
 }
 

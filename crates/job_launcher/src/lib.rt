@@ -4,7 +4,10 @@
 mod child;
 mod collect;
 mod directory;
+mod kind;
 mod listing;
+mod owner;
+mod reach;
 mod shell;
 mod trouble;
 

@@ -1,128 +1,111 @@
-use crate::directory::path_in;
-use crate::trouble::Trouble;
+use crate::directory::{ERR, OUT, path_in};
+use crate::kind::{Kind, kind_of};
+use crate::trouble::{Trouble, if_there};
 use std::alloc::{AllocError, Global};
 use std::fs;
 use std::fs::{DirEntry, Files};
+use wdl_value::{FILE_BYTES, FILE_COUNT, FILE_NAME_BYTES};
 
-/// The most levels of directories that are listed; the files of the directory itself are at the first.
-const LEVELS: u32 = 8;
+/// The most levels of folders that are listed; the files of the job's directory itself are at the first.
+const LEVELS: usize = 8;
 
-/// The most files of an answer.
-const FILE_COUNT: usize = 256;
-
-/// The most bytes of a file's name.
-const NAME_BYTES: usize = 255;
-
-/// The most bytes of the names and bodies of an answer's files.
-pub(crate) const FILE_BYTES: usize = 61_440;
-
-/// The names of files, relative to the directory of their job, and how many bytes these have.
+/// The regular files below the directory of a job: their names, relative to it, and the lengths that they had.
 #[derive(Drop)]
-pub(crate) struct Names {
-    pub(crate) names: Vec<String>,
+pub(crate) struct Listing {
+    pub(crate) files: Vec<(String, u64)>,
+    /// The bytes of the names.
     pub(crate) bytes: usize,
+    /// The folders that are still to be listed, as what stands before the names of their files: `d/e/`, and nothing for
+    /// the directory itself.
+    folders: Vec<String>,
 }
 
-/// A directory that is still to be listed: its path, what stands before the names of its files, and its level.
-#[derive(Drop)]
-struct Pending {
-    path: String,
-    prefix: String,
-    level: u32,
-}
+impl Listing {
+    fn start(alloc: Global) -> Result<Listing, AllocError> {
+        let mut folders = Vec::new(alloc);
+        folders.push(String::new(alloc))?;
+        Ok(Listing {
+            files: Vec::new(alloc),
+            bytes: 0,
+            folders,
+        })
+    }
 
-impl Names {
-    /// Adds a name, unless it passes a limit.
-    fn add(&mut self, name: String) -> Result<(), Trouble> {
+    /// Adds a file, unless its name passes a limit. The two streams are no files.
+    fn add_file(&mut self, name: String, length: u64) -> Result<(), Trouble> {
+        if name.as_str() == OUT || name.as_str() == ERR {
+            return Ok(());
+        }
         self.bytes = self.bytes.saturating_add(name.len());
-        if self.names.len() >= FILE_COUNT || name.len() > NAME_BYTES || self.bytes > FILE_BYTES {
+        if self.files.len() >= FILE_COUNT
+            || name.len() > FILE_NAME_BYTES
+            || self.bytes > FILE_BYTES
+        {
             return Err(Trouble::Refused);
         }
-        self.names.push(name)?;
+        self.files.push((name, length))?;
+        Ok(())
+    }
+
+    /// Adds a folder that stands at this level, unless it is the last.
+    fn add_folder(&mut self, mut name: String, level: usize) -> Result<(), Trouble> {
+        if level < LEVELS {
+            name.push('/')?;
+            self.folders.push(name)?;
+        }
+        Ok(())
+    }
+
+    /// Adds an entry of the folder whose prefix this is.
+    fn add<R: Files>(
+        &mut self,
+        rt: &R,
+        alloc: Global,
+        prefix: &str,
+        entry: &DirEntry<R>,
+    ) -> Result<(), Trouble> {
+        let kind = kind_of(rt, entry)?;
+        let mut name = String::from_str(alloc, prefix)?;
+        name.push_str(entry.file_name())?;
+        match kind {
+            Kind::Folder => self.add_folder(name, prefix.matches('/').count() + 1),
+            Kind::File(length) => self.add_file(name, length),
+            Kind::Other => Ok(()),
+        }
+    }
+
+    /// Adds what a folder holds, where it is still there.
+    fn add_all<R: Files + AllocGlobal + Clone + Drop>(
+        &mut self,
+        rt: &R,
+        alloc: Global,
+        path: &str,
+        prefix: &str,
+    ) -> Result<(), Trouble> {
+        let Some(entries) = if_there(fs::read_dir(rt, path))? else {
+            return Ok(());
+        };
+        for entry in entries {
+            self.add(rt, alloc, prefix, &entry?)?;
+        }
         Ok(())
     }
 }
 
-fn is_stream(name: &str) -> bool {
-    name == "_stdout" || name == "_stderr"
-}
-
-fn name_in(alloc: Global, prefix: &str, name: &str) -> Result<String, AllocError> {
-    let mut whole = String::from_str(alloc, prefix)?;
-    whole.push_str(name)?;
-    Ok(whole)
-}
-
-/// A directory that stands in one that is listed.
-fn below(alloc: Global, at: &Pending, file_name: &str) -> Result<Pending, AllocError> {
-    let mut prefix = name_in(alloc, at.prefix.as_str(), file_name)?;
-    prefix.push_str("/")?;
-    Ok(Pending {
-        path: path_in(alloc, at.path.as_str(), file_name)?,
-        prefix,
-        level: at.level.saturating_add(1),
-    })
-}
-
-/// Takes one entry of a directory: a regular file's name is kept, and a directory is left to be listed.
-fn take_entry<R: Files + AllocGlobal + Clone + Drop>(
-    alloc: Global,
-    at: &Pending,
-    entry: &DirEntry<R>,
-    pending: &mut Vec<Pending>,
-    found: &mut Names,
-) -> Result<(), Trouble> {
-    let kind = entry.file_type()?;
-    if kind.is_dir() {
-        if at.level < LEVELS {
-            pending.push(below(alloc, at, entry.file_name())?)?;
-        }
-    } else if kind.is_file() {
-        let name = name_in(alloc, at.prefix.as_str(), entry.file_name())?;
-        if !is_stream(name.as_str()) {
-            found.add(name)?;
-        }
-    }
-    Ok(())
-}
-
-fn list_one<R: Files + AllocGlobal + Clone + Drop>(
-    rt: &R,
-    alloc: Global,
-    at: &Pending,
-    pending: &mut Vec<Pending>,
-    found: &mut Names,
-) -> Result<(), Trouble> {
-    for entry in fs::read_dir(rt, at.path.as_str())? {
-        let entry = entry?;
-        take_entry(alloc, at, &entry, pending, found)?;
-    }
-    Ok(())
-}
-
-/// The names of the regular files below a directory, to 8 levels, but for the two kept streams; in byte order.
-/// A symbolic link is no regular file.
+/// Lists the regular files below a directory, to 8 levels, but for the two kept streams, in byte order of their names.
 pub(crate) fn list<R: Files + AllocGlobal + Clone + Drop>(
     rt: &R,
     alloc: Global,
     dir: &str,
-) -> Result<Names, Trouble> {
-    let mut found = Names {
-        names: Vec::new(alloc),
-        bytes: 0,
-    };
-    let mut pending = Vec::new(alloc);
-    pending.push(Pending {
-        path: String::from_str(alloc, dir)?,
-        prefix: String::new(alloc),
-        level: 1,
-    })?;
+) -> Result<Listing, Trouble> {
+    let mut listing = Listing::start(alloc)?;
     for _ in 0..u64::MAX {
-        let Some(at) = pending.pop() else {
+        let Some(prefix) = listing.folders.pop() else {
             break;
         };
-        list_one(rt, alloc, &at, &mut pending, &mut found)?;
+        let path = path_in(alloc, dir, prefix.as_str())?;
+        listing.add_all(rt, alloc, path.as_str(), prefix.as_str())?;
     }
-    found.names.sort()?;
-    Ok(found)
+    listing.files.sort()?;
+    Ok(listing)
 }

@@ -4,6 +4,7 @@ ghost use Rattle.wdl_base.specs.declared.error.TextFault.TheVariants.{NoMemory a
 ghost use Rattle.wdl_port.specs.declared.fault.LaunchFault.TheVariants.{NoMemory as LaunchNoMemory};
 
 use std::alloc::{AllocError, AllocFailed};
+use std::io;
 use std::io::{Error, ErrorKind};
 use wdl_port::LaunchFault;
 use wdl_value::{NoMemory, TextFault};
@@ -12,6 +13,15 @@ use wdl_value::{NoMemory, TextFault};
 pub(crate) enum Trouble {
     Refused,
     NoMemory,
+}
+
+/// Returns what a call on a path gave, or `None` where nothing is at that path.
+pub(crate) fn if_there<T>(given: io::Result<T>) -> Result<Option<T>, Trouble> {
+    match given {
+        Ok(it) => Ok(Some(it)),
+        Err(e) if e.kind() == ErrorKind::NotFound => Ok(None),
+        Err(e) => Err(Trouble::from(e)),
+    }
 }
 
 impl From<Error> for Trouble {

@@ -1,98 +1,93 @@
-//! A command that is really run.
+//! What a launch answers, by the shell that the launcher was given.
+use crate::answers::told;
 use job_launcher::ShellLauncher;
-use sqlite_items::Items;
 use std::alloc::Global;
 use std::fs::Files;
 use std::test::Fail;
 use wdl_port::{LaunchFault, Launcher};
-use wdl_value::{Answer, Body, Laid, NoMemory, Request, Seen, Text};
 
-fn text(alloc: Global, s: &str) -> Result<Text, LaunchFault> {
-    match Text::new(alloc, s) {
-        Ok(text) => Ok(text),
-        Err(_) => Err(LaunchFault::NoMemory),
-    }
+// Each command with what it leaves. All are run one after another in one directory, which is made anew for each.
+const COMMANDS: &str = "\
+$ cat .laid; echo oops >&2; exit 3
+3 <x|> <oops|> .laid=x|
+$ kill -9 $$
+255 <> <> .laid=x|
+$ mkdir -p d/e; printf 1 > d/e/f; printf 2 > d-e; printf 3 > d.e
+0 <> <> .laid=x| d-e=2 d.e=3 d/e/f=1
+$ printf 1 > a; ln -s a b; mkdir d; ln -s ../a d/c
+0 <> <> .laid=x| a=1 b=1 d/c=1
+$ mkdir d; printf 1 > d/a; ln -s d e; ln -s gone f; ln -s g g; ln -s .laid/h h; ln -s /dev/null i; mkfifo j
+0 <> <> .laid=x| d/a=1
+$ d=.; for i in 1 2 3 4 5 6 7 8; do printf $i > $d/f; mkdir $d/d; d=$d/d; done; printf 9 > $d/f
+0 <> <> .laid=x| d/d/d/d/d/d/d/f=8 d/d/d/d/d/d/f=7 d/d/d/d/d/f=6 d/d/d/d/f=5 d/d/d/f=4 d/d/f=3 d/f=2 f=1
+$ for i in a b c d e; do head -c 60000 /dev/zero > $i; done; printf 1234567890 > z
+0 <> <> .laid=x| a=#60000 b=#60000 c=#60000 d=#60000 e=! z=1234567890
+$ head -c 65536 /dev/zero > a; head -c 65537 /dev/zero > b; head -c 65536 /dev/zero; head -c 4096 /dev/zero >&2
+0 <#65536> <#4096> .laid=x| a=#65536 b=!
+$ head -c 65537 /dev/zero; head -c 4097 /dev/zero >&2
+0 <!> <!> .laid=x|
+$ printf 1 > \"$(printf 'a\\377')\"
+refused
+$ d=$(printf %0255d 0); mkdir -p $d/$d/$d/$d; printf 1 > $d/$d/$d/$d/0
+refused
+$ for i in $(seq 4096); do : > $i; done
+refused
+$ rm _stdout _stderr .laid; mkfifo _stderr
+0 <!> <!>
+$ true
+refused";
+
+fn is_as_wanted(got: &[u8], want: &str) -> bool {
+    got == want.as_bytes()
 }
 
-// Workers share a launcher.
-fn launch<L: Launcher + Sync>(
+// Runs each command, and gives the first whose line is another one than the table's, with its line.
+fn first_wrong<L: Launcher + Sync>(
     launcher: &L,
     alloc: Global,
     dir: &str,
-    command: &str,
-) -> Result<Answer, LaunchFault> {
-    let mut files = Items::new(alloc);
-    files.push(Laid {
-        name: text(alloc, ".written-0")?,
-        body: text(alloc, "x\ty\n")?,
-    })?;
-    let request = Request {
-        place: Items::new(alloc),
-        attempt: 0,
-        dir: text(alloc, dir)?,
-        command: text(alloc, command)?,
-        files,
-    };
-    launcher.launch(alloc, &request)
-}
-
-// The names and bodies of the files, one line each, where a body that was too long is `!`.
-fn listed(alloc: Global, files: &[Seen]) -> Result<Vec<u8>, LaunchFault> {
-    let mut all = Vec::new(alloc);
-    for file in files {
-        all.extend_from_slice(file.name.as_str().as_bytes())?;
-        all.push(b' ')?;
-        add_body(&mut all, &file.body)?;
-        all.push(b'\n')?;
+) -> Result<Option<Vec<u8>>, LaunchFault> {
+    for case in COMMANDS.split("$ ").skip(1) {
+        if let Some((command, want)) = case.split_once('\n') {
+            let got = told(launcher, alloc, dir, command)?;
+            if !is_as_wanted(got.as_slice(), want.trim_end()) {
+                return Ok(Some(got));
+            }
+        }
     }
-    Ok(all)
+    Ok(None)
 }
 
-fn add_body(all: &mut Vec<u8>, body: &Body) -> Result<(), LaunchFault> {
-    match body {
-        Body::Bytes(bytes) => all.extend_from_slice(bytes.as_slice())?,
-        Body::Long => all.push(b'!')?,
+#[test]
+fn tells_what_a_command_did(rt: HostRuntime) -> Result<(), Fail> {
+    let alloc = rt.alloc();
+    let launcher = ShellLauncher::new(&rt, Some(String::from_str(alloc, "sh")?));
+    let wrong = first_wrong(&launcher, alloc, "told/job")?;
+    rt.remove_dir_all(alloc, "told")?;
+    if let Some(line) = wrong {
+        assert_eq!(rt; String::from_utf8(line)?.as_str(), "");
     }
     Ok(())
 }
 
+// `echo` says how it was started. A program that is not there is found out by the child.
 #[test]
-fn runs_a_command_in_its_directory(rt: HostRuntime) -> Result<(), Fail> {
+fn runs_a_command_by_the_given_shell(rt: HostRuntime) -> Result<(), Fail> {
     let alloc = rt.alloc();
-    let launcher = ShellLauncher::new(&rt);
-    let command =
-        "cat .written-0; echo oops >&2; mkdir -p d/e; printf 1 > d/e/f; printf 2 > d-e; ln -s d-e link; head -c 70000 /dev/zero > big; exit 3";
-    let answer = launch(&launcher, alloc, "job/one", command)?;
-    assert_eq!(rt; answer.status, 3);
-    let mut streams = Vec::new(alloc);
-    add_body(&mut streams, &answer.out)?;
-    add_body(&mut streams, &answer.err)?;
-    assert_eq!(rt; streams.as_slice(), b"x\ty\noops\n".as_slice());
-    let files = listed(alloc, answer.files.as_slice())?;
-    assert_eq!(rt;
-        files.as_slice(),
-        b".written-0 x\ty\n\nbig !\nd-e 2\nd/e/f 1\n".as_slice()
-    );
-    // The directory is made anew, and a child that is killed has no status.
-    let answer = launch(&launcher, alloc, "job/one", "kill -9 $$")?;
-    assert_eq!(rt; answer.status, 255);
-    assert_eq!(rt; answer.files.len(), 1);
-    rt.remove_dir_all(alloc, "job")?;
-    Ok(())
-}
-
-#[test]
-fn refuses_where_the_directory_cannot_be_made(rt: HostRuntime) -> Result<(), Fail> {
-    let alloc = rt.alloc();
-    let launcher = ShellLauncher::new(&rt);
-    let answer = launch(&launcher, alloc, "held/one", "printf x > file")?;
-    assert_eq!(rt; answer.status, 0);
-    let below_a_file = launch(&launcher, alloc, "held/one/file/two", "true");
-    assert!(rt; matches!(&below_a_file, Err(LaunchFault::Refused)));
-    let at_a_file = launch(&launcher, alloc, "held/one/file", "true");
-    assert!(rt; matches!(&at_a_file, Err(LaunchFault::Refused)));
-    let without_a_name = launch(&launcher, alloc, "", "true");
-    assert!(rt; matches!(&without_a_name, Err(LaunchFault::Refused)));
-    rt.remove_dir_all(alloc, "held")?;
+    for name in ["echo", "/bin/echo"] {
+        let launcher = ShellLauncher::new(&rt, Some(String::from_str(alloc, name)?));
+        let line = told(&launcher, alloc, "shell/job", "a  'b'")?;
+        assert!(rt;
+            is_as_wanted(line.as_slice(), "0 <-c a  'b'|> <> .laid=x|"),
+            "{name}"
+        );
+    }
+    let launcher = ShellLauncher::new(&rt, Some(String::from_str(alloc, "./no shell")?));
+    let line = told(&launcher, alloc, "shell/job", "true")?;
+    assert!(rt; line.as_slice().starts_with(b"127 <> <"));
+    let launcher = ShellLauncher::new(&rt, None);
+    let line = told(&launcher, alloc, "shell/job", "true")?;
+    assert!(rt; is_as_wanted(line.as_slice(), "refused"));
+    rt.remove_dir_all(alloc, "shell")?;
     Ok(())
 }

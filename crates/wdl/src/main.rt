@@ -3,6 +3,9 @@
 
 ghost use Rattle.std.specs.Prelude.{◌≡◌, ◌<◌, None};
 
+mod environment;
+
+use environment::shell;
 use job_launcher::ShellLauncher;
 use report_text::{Status, no_memory_line, number_of};
 use std::alloc::Global;
@@ -55,13 +58,13 @@ fn number<F: Shelf, O: Sink, E: Sink, L: Launcher + Sync, K: Keeper, S: Ledger>(
 fn main(rt: HostRuntime) -> ExitCode {
     let alloc: Global = rt.alloc();
     let mut err = StreamSink::new(rt.stderr());
-    let Ok(words) = words(&rt) else {
+    let (Ok(words), Ok(shell)) = (words(&rt), shell(&rt)) else {
         let _ = err.write(no_memory_line().as_bytes());
         return ExitCode::from(number_of(&Status::NoMemory));
     };
     let mut shelf = FileShelf::new(&rt);
     let mut out = StreamSink::new(rt.stdout());
-    let launcher = ShellLauncher::new(&rt);
+    let launcher = ShellLauncher::new(&rt, shell);
     let mut keeper = NoKeeper::new();
     let number = number::<_, _, _, _, _, Brand>(
         alloc,

@@ -1,0 +1,50 @@
+use crate::trouble::Trouble;
+use std::fs;
+use std::fs::{DirBuilder, Files};
+use std::os::unix::fs::{DirBuilderExt, MetadataExt};
+
+/// The mode of each folder that is made: nobody but its owner reads or changes what it holds.
+const PRIVATE: u32 = 0o700;
+
+/// Makes a folder, which must not be there.
+pub(crate) fn make_private<R: Files>(rt: &R, path: &str) -> Result<(), Trouble> {
+    let mut builder = DirBuilder::new();
+    builder.mode(PRIVATE);
+    builder.create(rt, path)?;
+    Ok(())
+}
+
+/// Makes a folder and those above it, where they are missing.
+fn make_all_private<R: Files>(rt: &R, path: &str) -> Result<(), Trouble> {
+    let mut builder = DirBuilder::new();
+    builder.mode(PRIVATE).recursive(true);
+    builder.create(rt, path)?;
+    Ok(())
+}
+
+/// Whether a folder belongs to the user who runs the program. Where the path is a symbolic link, that must be the user's
+/// own too.
+fn is_own<R: Files>(rt: &R, path: &str) -> Result<bool, Trouble> {
+    let user = libc::geteuid();
+    let here = fs::symlink_metadata(rt, path)?.uid();
+    let behind = fs::metadata(rt, path)?.uid();
+    Ok(here == user && behind == user)
+}
+
+/// Makes the folders that are to hold a directory, where they are missing. The lowest `levels` of them must belong to the
+/// user who runs the program: in another's folder, what is made could be replaced.
+pub(crate) fn hold<R: Files>(rt: &R, dir: &str, levels: usize) -> Result<(), Trouble> {
+    if levels == 0 {
+        return Ok(());
+    }
+    let Some((above, _)) = dir.rsplit_once('/') else {
+        return Ok(());
+    };
+    hold(rt, above, levels - 1)?;
+    make_all_private(rt, above)?;
+    if is_own(rt, above)? {
+        Ok(())
+    } else {
+        Err(Trouble::Refused)
+    }
+}

@@ -1,0 +1,33 @@
+//! What the program reads of its environment.
+use std::env::{Env, VarError};
+use std::io::ErrorKind;
+use std::{env, io};
+use wdl_value::NoMemory;
+
+/// Returns the path of a file that is named from the folder in which the program was started, since jobs run in others.
+fn from_here<R: Env + AllocGlobal>(rt: &R, name: &str) -> io::Result<String> {
+    let mut path = String::from_str(rt.alloc(), env::current_dir(rt)?.as_str())?;
+    path.push('/')?;
+    path.push_str(name)?;
+    Ok(path)
+}
+
+fn is_relative_path(name: &str) -> bool {
+    name.contains('/') && !name.starts_with('/')
+}
+
+/// Returns the program that runs commands: what `WDL_SHELL` names, and `sh` where it is unset or empty. `None` where the
+/// name, or the folder that it is relative to, is not UTF-8.
+pub(crate) fn shell<R: Env + AllocGlobal>(rt: &R) -> Result<Option<String>, NoMemory> {
+    match env::var(rt, "WDL_SHELL") {
+        Ok(name) if is_relative_path(name.as_str()) => match from_here(rt, name.as_str()) {
+            Ok(path) => Ok(Some(path)),
+            Err(e) if e.kind() == ErrorKind::OutOfMemory => Err(NoMemory),
+            Err(_) => Ok(None),
+        },
+        Ok(name) if !name.is_empty() => Ok(Some(name)),
+        Ok(_) | Err(VarError::NotPresent) => Ok(Some(String::from_str(rt.alloc(), "sh")?)),
+        Err(VarError::NotUnicode) => Ok(None),
+        Err(VarError::OutOfMemory) => Err(NoMemory),
+    }
+}
