@@ -20,8 +20,8 @@ use Rattle.wdl_parse_expr.specs.Contract.{expr_continues, Fronts, IsLongest, Sta
 use Rattle.wdl_parse_expr.proofs.Steps.{same}
 use Rattle.wdl_parse_expr.proofs.Says.{Takes, said, blamed}
 use Rattle.wdl_parse_expr.proofs.Sound.{tall_words, expr_sound}
-use Rattle.wdl_parse_expr.proofs.Full.{Reaches}
-use Rattle.wdl_parse_expr.proofs.Chains.{expr_full}
+use Rattle.wdl_parse_expr.proofs.Goes.{Reaches}
+use Rattle.wdl_parse_expr.proofs.Rules.{expr_full}
 use Rattle.wdl_parse_expr.proofs.TypeLaws.{ReachesType, type_sound, type_full}
 
 -- ---- expressions

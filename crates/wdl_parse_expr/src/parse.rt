@@ -48,7 +48,8 @@ fn span_before(tokens: &[Token], left: usize) -> Span {
     }
 }
 
-/// What a refusal of reading is to the caller. `left` tells how many tokens were left where nothing could be read.
+/// What a refusal of reading is to the caller. `left` tells how many tokens were left from the first one on that fits
+/// nothing.
 pub fn fault_of(stop: Stop, tokens: &[Token], left: usize) -> ParseFault
     ensures { FaultOf stop result }
 {
@@ -96,7 +97,7 @@ pub fn parse_expr(alloc: Global, tokens: &[Token], at: usize) -> Result<ParsedEx
                 next: tokens.len() - left,
             })
         }
-        Err(stop) => Err(fault_of(stop, tokens, cursor.left_at_most())),
+        Err(stop) => Err(fault_of(stop, tokens, cursor.left_at_fault())),
     }
 }
 
@@ -121,6 +122,6 @@ pub fn parse_type(alloc: Global, tokens: &[Token], at: usize) -> Result<ParsedTy
                 next: tokens.len() - left,
             })
         }
-        Err(stop) => Err(fault_of(stop, tokens, cursor.left_at_most())),
+        Err(stop) => Err(fault_of(stop, tokens, cursor.left_at_fault())),
     }
 }
