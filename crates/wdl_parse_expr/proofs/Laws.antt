@@ -20,8 +20,8 @@ use Rattle.wdl_parse_expr.specs.Contract.{expr_continues, Fronts, IsLongest, Sta
 use Rattle.wdl_parse_expr.proofs.Steps.{same}
 use Rattle.wdl_parse_expr.proofs.Says.{Takes, said, blamed}
 use Rattle.wdl_parse_expr.proofs.Sound.{tall_words, expr_sound}
-use Rattle.wdl_parse_expr.proofs.Full.{Reaches}
-use Rattle.wdl_parse_expr.proofs.Chains.{expr_full}
+use Rattle.wdl_parse_expr.proofs.Goes.{Reaches}
+use Rattle.wdl_parse_expr.proofs.Rules.{expr_full}
 use Rattle.wdl_parse_expr.proofs.TypeLaws.{ReachesType, type_sound, type_full}
 
 -- ---- expressions
@@ -62,10 +62,10 @@ may_go_on ts b h y rest f = go (front ts y rest f)
 pub is_blamed : (ts : Words) (b : Fault) → expr max_depth rule.Expr ts ≡ Err (Bad b) → Blames b.code b.span ts
 is_blamed ts b h = blamed (Takes Whole tall_words ts) ts _ b (expr_sound max_depth rule.Expr ts) h
 
-pub refused : (ts : Words) (s : Stop) (f : ParseFault) → FaultOf s f → Fails (expr max_depth rule.Expr ts) s → IfBad {A = Expr} (RefusesExpr ts) (Err f)
-refused ts stop.NoMemory f q h = subst (λ z. IfBad {A = Expr} (RefusesExpr ts) (Err z)) (sym q) tt
-refused ts (stop.Refused Missing) f q h = subst (λ z. IfBad {A = Expr} (RefusesExpr ts) (Err z)) (sym q.1) (inl (refl, starts_none ts h))
-refused ts (stop.Refused (Bad b)) f q h = subst (λ z. IfBad {A = Expr} (RefusesExpr ts) (Err z)) (sym q) (inr (is_blamed ts b h, may_go_on ts b h))
+pub refused : (all ts : Words) (s : Stop) (f : ParseFault) → FaultOf all s f → Fails (expr max_depth rule.Expr ts) s → IfBad {A = Expr} (RefusesExpr all ts) (Err f)
+refused all ts stop.NoMemory f q h = subst (λ z. IfBad {A = Expr} (RefusesExpr all ts) (Err z)) (sym q) tt
+refused all ts (stop.Refused Missing) f q h = subst (λ z. IfBad {A = Expr} (RefusesExpr all ts) (Err z)) (sym q.1) (inl (refl, q.2, starts_none ts h))
+refused all ts (stop.Refused (Bad b)) f q h = subst (λ z. IfBad {A = Expr} (RefusesExpr all ts) (Err z)) (sym q) (inr (is_blamed ts b h, may_go_on ts b h))
 
 -- ---- types
 
@@ -89,8 +89,8 @@ no_type ts f h y rest k = go (type_front ts y rest k)
     go (inl q) = let n = sym h ∙ q in cc
     go (inr (c, o)) = let n = sym h ∙ o.1 in cc
 
-pub refused_type : (ts : Words) (s : Stop) (f : ParseFault) → FaultOf s f → Fails (type_at max_type_depth ts) s → IfBad {A = TypeTree} (RefusesType ts) (Err f)
-refused_type ts stop.NoMemory f q h = subst (λ z. IfBad {A = TypeTree} (RefusesType ts) (Err z)) (sym q) tt
-refused_type ts (stop.Refused Missing) f q h = subst (λ z. IfBad {A = TypeTree} (RefusesType ts) (Err z)) (sym q.1) (inl refl, no_type ts Missing h)
-refused_type ts (stop.Refused (Bad b)) f q h =
-    subst (λ z. IfBad {A = TypeTree} (RefusesType ts) (Err z)) (sym q) (inr (blamed (Takes IsType type_words ts) ts (type_at max_type_depth ts) b (type_sound max_type_depth ts) h), no_type ts (Bad b) h)
+pub refused_type : (all ts : Words) (s : Stop) (f : ParseFault) → FaultOf all s f → Fails (type_at max_type_depth ts) s → IfBad {A = TypeTree} (RefusesType all ts) (Err f)
+refused_type all ts stop.NoMemory f q h = subst (λ z. IfBad {A = TypeTree} (RefusesType all ts) (Err z)) (sym q) tt
+refused_type all ts (stop.Refused Missing) f q h = subst (λ z. IfBad {A = TypeTree} (RefusesType all ts) (Err z)) (sym q.1) (inl (refl, q.2), no_type ts Missing h)
+refused_type all ts (stop.Refused (Bad b)) f q h =
+    subst (λ z. IfBad {A = TypeTree} (RefusesType all ts) (Err z)) (sym q) (inr (blamed (Takes IsType type_words ts) ts (type_at max_type_depth ts) b (type_sound max_type_depth ts) h), no_type ts (Bad b) h)

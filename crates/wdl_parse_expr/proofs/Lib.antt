@@ -7,8 +7,12 @@ pub mod Tables
 pub mod Lists
 pub mod Strings
 pub mod Sound
-pub mod Full
+pub mod Choices
+pub mod Begins
+pub mod Goes
+pub mod Primaries
 pub mod Chains
+pub mod Rules
 pub mod TypeLaws
 pub mod Laws
 pub mod Places

@@ -17,8 +17,9 @@ use Rattle.wdl_parse_expr.specs.Contract.{expr_continues, type_continues, read_e
 use Rattle.wdl_parse_expr.proofs.Steps.{then_is}
 use Rattle.wdl_parse_expr.proofs.Says.{Takes, Sound, says_then}
 use Rattle.wdl_parse_expr.proofs.Sound.{tall_words, expr_sound, parts_sound}
-use Rattle.wdl_parse_expr.proofs.Full.{exact, parts_is}
-use Rattle.wdl_parse_expr.proofs.Chains.{expr_full, expr_starts}
+use Rattle.wdl_parse_expr.proofs.Goes.{exact}
+use Rattle.wdl_parse_expr.proofs.Primaries.{parts_is}
+use Rattle.wdl_parse_expr.proofs.Rules.{expr_full, expr_starts}
 use Rattle.wdl_parse_expr.proofs.TypeLaws.{type_exact, type_sound, type_full}
 
 pub expr_reads : Sound IsExpr words read_expr

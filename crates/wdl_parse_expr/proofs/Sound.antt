@@ -28,7 +28,7 @@ use Rattle.wdl_parse_expr.specs.declared.tall.Rule.TheVariants as rule
 use Rattle.wdl_parse_expr.specs.Outcome.{Parser, is_hole_close, is_str_close, eat_if, eat, eat_word, ident_at, tall, bad}
 use Rattle.wdl_parse_expr.specs.Forms.{left_out, is_code, is_open_paren, begins_form}
 use Rattle.wdl_parse_expr.specs.Grammar as g
-use Rattle.wdl_parse_expr.specs.Grammar.{looseness, ends_bare, Listed, IsEntry, IsMember, Parts, IsPrimary, IsPost, IsUnary, IsRule, IsWhole, IsOf, Tree}
+use Rattle.wdl_parse_expr.specs.Grammar.{looseness, ends_bare, ends_in_choice, Listed, IsEntry, IsMember, Parts, IsPrimary, IsPost, IsUnary, IsRule, IsWhole, IsOf, Tree}
 use Rattle.wdl_parse_expr.specs.Reading as r
 use Rattle.wdl_parse_expr.specs.Reading.{binary_at, unary_at, list_of, options_at, chained, linked, leaf, one_more, Step, step, turns, expr}
 use Rattle.wdl_parse_expr.specs.Contract.{Blames}
@@ -367,55 +367,13 @@ module _ (In : Rule → ℕ → Expr → Type 0) (depth : ℕ) (inner : Rule →
   of_post : (t : Tall Expr) → Summed (IsPost In) t → Unary t
   of_post t s = (subst (λ n. IsUnary In n t.tree) (sym s.3) (g.post s.0 s.1 t.tree s.2), s.4)
 
-  pub unary_sound : Sound Unary tall_words (r.unary depth inner)
-  unfolding r.unary
-  unary_sound ts = says_found (Takes Unary tall_words ts) ts (unary_at ts) _ _
-      (λ o h.
-      let ate = ate_unary ts o h in
-      says_then (Takes (λ t. In rule.Unary t.depth t.tree) tall_words o.1) (Takes Unary tall_words ts) ts (marked (unary_mark o.0.0) o.0.1 ∷ []) o.1 (inner rule.Unary o.1) _ ate (sound rule.Unary o.1) (λ x rest a.
-      says_grown (Takes Unary tall_words ts) ts depth o.0.1 x.depth (e.Unary o.0.0 o.0.1 x.tree) rest (deep_at ts [] (kind.Mark (unary_mark o.0.0)) o.0.1 o.1 ate)
-      (λ fits. (ate ∙ ap (λ z. marked (unary_mark o.0.0) o.0.1 ∷ z) a.0 ∙ sym (ap (λ z. z ++ rest) (words_unary o.0.0 o.0.1 x.tree)), (g.signed x.depth o.0.0 o.0.1 x.tree a.1, omega (arith, fits))))))
-      (λ _. carry (Takes (Summed (IsPost In)) tall_words ts) (Takes Unary tall_words ts) ts [] ts (r.post depth inner ts) refl (λ t rest a. (a.0, of_post t a.1)) (post_sound ts))
+  -- ---- choices and signs
 
-  abbrev pub Ruled : ℕ → Tall Expr → Type 0
-  Ruled k = Summed (IsRule In k)
-
-  operation_sound : (k : ℕ) (lower : Parser (Tall Expr)) → Sound (Ruled k) tall_words lower → (all : Words) (c : Chain) (ts : Words) → Chained (IsRule In (suc k)) all c ts
-      → Says (StepOf (IsRule In (suc k)) all ts) all (r.operation depth inner lower k c ts)
-  unfolding r.operation
-  operation_sound k lower reads all c ts chain =
-      let R : Option Chain → Words → Type 0 = StepOf (IsRule In (suc k)) all ts in
-      let left : Expr = c.left.tree in
-      says_found R all (binary_at k ts) _ _
-      (λ o h.
-      let ate = ate_binary k ts o h in
-      let text : all ≡ (words left ++ marked (binary_mark o.0.0) o.0.1 ∷ []) ++ o.1 = chain.0 ∙ ap (λ z. words left ++ z) ate.0 ∙ sym (append_assoc (words left) (marked (binary_mark o.0.0) o.0.1 ∷ []) o.1) in
-      says_attempt (Takes (Ruled k) tall_words o.1) R all (words left ++ marked (binary_mark o.0.0) o.0.1 ∷ []) o.1 (lower o.1) _ _ text (reads o.1)
-      (λ right more a.
-      let whole : all ≡ words left ++ marked (binary_mark o.0.0) o.0.1 ∷ (words right.tree ++ more) = text ∙ ap (λ z. (words left ++ marked (binary_mark o.0.0) o.0.1 ∷ []) ++ z) a.0 ∙ simp append_assoc in
-      linked_says (IsRule In (suc k)) all ts o.0.1 c.links (max c.inside right.depth) (e.Binary left o.0.0 o.0.1 right.tree) more (deep_at all (words left) (kind.Mark (binary_mark o.0.0)) o.0.1 (words right.tree ++ more) whole)
-      (whole ∙ sym (simp (words_binary, append_assoc)))
-      (subst (λ n. IsRule In (suc k) (suc c.links) (max c.inside n) (e.Binary left o.0.0 o.0.1 right.tree)) (sym a.1.3) (g.binary k c.links c.inside a.1.0 a.1.1 left o.0.0 o.0.1 right.tree ate.1 chain.1 a.1.2)))
-      refl)
-      (λ _. refl)
-
-  pub rule_sound : (k : ℕ) → Sound (Ruled k) tall_words (r.rule_at depth inner k)
-  unfolding r.rule_at
-  rule_sound zero ts = carry (Takes Unary tall_words ts) (Takes (Ruled 0) tall_words ts) ts [] ts (r.unary depth inner ts) refl (λ t rest a. (a.0, (0, t.depth, g.unary t.depth t.tree a.1.0, omega arith, a.1.1))) (unary_sound ts)
-  rule_sound (suc k) ts = says_then (Takes (Ruled k) tall_words ts) (Takes (Ruled (suc k)) tall_words ts) ts [] ts (r.rule_at depth inner k ts) _ refl (rule_sound k ts)
-      (λ x rest a. turns_sound (IsRule In (suc k)) (r.operation depth inner (r.rule_at depth inner k) k) (operation_sound k (r.rule_at depth inner k) (rule_sound k)) (length rest) ts (chained x) rest
-      (starts_chain (IsRule In (suc k)) ts x rest a.0 (subst (λ n. IsRule In (suc k) 0 n x.tree) (sym a.1.3) (g.tighter k a.1.0 a.1.1 x.tree a.1.2)) a.1.4))
-
-  -- ---- whole expressions
-
-  abbrev Whole : Tall Expr → Type 0
-  Whole t = IsWhole In t.depth t.tree × (t.depth ≤ suc depth)
-
-  choice_sound : (i : Span) (ts : Words) → Says (Takes Whole tall_words (keyword (codes "if") i ∷ ts)) (keyword (codes "if") i ∷ ts) (r.choice depth inner i ts)
+  choice_sound : (i : Span) (ts : Words) → Says (Takes Unary tall_words (keyword (codes "if") i ∷ ts)) (keyword (codes "if") i ∷ ts) (r.choice depth inner i ts)
   unfolding r.choice r.other_choice
   choice_sound i ts =
       let all : Words = keyword (codes "if") i ∷ ts in
-      let R : Tall Expr → Words → Type 0 = Takes Whole tall_words all in
+      let R : Tall Expr → Words → Type 0 = Takes Unary tall_words all in
       says_then (Inside ts) R all (keyword (codes "if") i ∷ []) ts (inner rule.Expr ts) _ refl (sound rule.Expr ts) (λ c rest a.
       says_found R all (eat_word (codes "then") rest) _ _ (λ t h.
       let one : Words = keyword (codes "if") i ∷ (words c.tree ++ keyword (codes "then") t.0 ∷ []) in
@@ -429,12 +387,58 @@ module _ (In : Rule → ℕ → Expr → Type 0) (depth : ℕ) (inner : Rule →
       (λ fits. (second ∙ ap (λ z. two ++ z) d.0 ∙ sym (simp (words_if, append_assoc)), (g.choice i c.tree t.0 x.tree s.0 y.tree c.depth x.depth y.depth a.1 b.1 d.1, omega (arith, fits))))))
       (λ _. tt))) (λ _. tt))
 
-  pub whole_sound : Sound Whole tall_words (r.whole depth inner)
-  unfolding r.whole
-  whole_sound ts = says_found (Takes Whole tall_words ts) ts (eat_word (codes "if") ts) _ _
-      (λ i h. let text = ate_word (codes "if") ts i h in subst (λ z. Says (Takes Whole tall_words z) z (r.choice depth inner i.0 i.1)) (sym text) (choice_sound i.0 i.1))
-      (λ _. carry (Takes (Ruled 6) tall_words ts) (Takes Whole tall_words ts) ts [] ts (r.rule_at depth inner 6 ts) refl
-      (λ t rest a. (a.0, (subst (λ n. IsWhole In n t.tree) (sym a.1.3) (g.or a.1.0 a.1.1 t.tree a.1.2), a.1.4))) (rule_sound 6 ts))
+  pub unary_sound : Sound Unary tall_words (r.unary depth inner)
+  unfolding r.unary
+  unary_sound ts = says_found (Takes Unary tall_words ts) ts (unary_at ts) _ _
+      (λ o h.
+      let ate = ate_unary ts o h in
+      says_then (Takes (λ t. In rule.Unary t.depth t.tree) tall_words o.1) (Takes Unary tall_words ts) ts (marked (unary_mark o.0.0) o.0.1 ∷ []) o.1 (inner rule.Unary o.1) _ ate (sound rule.Unary o.1) (λ x rest a.
+      says_grown (Takes Unary tall_words ts) ts depth o.0.1 x.depth (e.Unary o.0.0 o.0.1 x.tree) rest (deep_at ts [] (kind.Mark (unary_mark o.0.0)) o.0.1 o.1 ate)
+      (λ fits. (ate ∙ ap (λ z. marked (unary_mark o.0.0) o.0.1 ∷ z) a.0 ∙ sym (ap (λ z. z ++ rest) (words_unary o.0.0 o.0.1 x.tree)), (g.signed x.depth o.0.0 o.0.1 x.tree a.1, omega (arith, fits))))))
+      (λ _. says_found (Takes Unary tall_words ts) ts (eat_word (codes "if") ts) _ _
+      (λ i h. let text = ate_word (codes "if") ts i h in subst (λ z. Says (Takes Unary tall_words z) z (r.choice depth inner i.0 i.1)) (sym text) (choice_sound i.0 i.1))
+      (λ _. carry (Takes (Summed (IsPost In)) tall_words ts) (Takes Unary tall_words ts) ts [] ts (r.post depth inner ts) refl (λ t rest a. (a.0, of_post t a.1)) (post_sound ts)))
+
+  -- ---- operators
+
+  abbrev pub Ruled : ℕ → Tall Expr → Type 0
+  Ruled k = Summed (IsRule In k)
+
+  operation_sound : (k : ℕ) (lower : Parser (Tall Expr)) → Sound (Ruled k) tall_words lower → (all : Words) (c : Chain) (ts : Words) → Chained (IsRule In (suc k)) all c ts
+      → Says (StepOf (IsRule In (suc k)) all ts) all (r.operation depth inner lower k c ts)
+  unfolding r.operation
+  operation_sound k lower reads all c ts chain =
+      let R : Option Chain → Words → Type 0 = StepOf (IsRule In (suc k)) all ts in
+      let left : Expr = c.left.tree in
+      says_cond R all (ends_in_choice left) _ _ (λ _. refl) (λ closed.
+      says_found R all (binary_at k ts) _ _
+      (λ o h.
+      let ate = ate_binary k ts o h in
+      let text : all ≡ (words left ++ marked (binary_mark o.0.0) o.0.1 ∷ []) ++ o.1 = chain.0 ∙ ap (λ z. words left ++ z) ate.0 ∙ sym (append_assoc (words left) (marked (binary_mark o.0.0) o.0.1 ∷ []) o.1) in
+      says_attempt (Takes (Ruled k) tall_words o.1) R all (words left ++ marked (binary_mark o.0.0) o.0.1 ∷ []) o.1 (lower o.1) _ _ text (reads o.1)
+      (λ right more a.
+      let whole : all ≡ words left ++ marked (binary_mark o.0.0) o.0.1 ∷ (words right.tree ++ more) = text ∙ ap (λ z. (words left ++ marked (binary_mark o.0.0) o.0.1 ∷ []) ++ z) a.0 ∙ simp append_assoc in
+      linked_says (IsRule In (suc k)) all ts o.0.1 c.links (max c.inside right.depth) (e.Binary left o.0.0 o.0.1 right.tree) more (deep_at all (words left) (kind.Mark (binary_mark o.0.0)) o.0.1 (words right.tree ++ more) whole)
+      (whole ∙ sym (simp (words_binary, append_assoc)))
+      (subst (λ n. IsRule In (suc k) (suc c.links) (max c.inside n) (e.Binary left o.0.0 o.0.1 right.tree)) (sym a.1.3) (g.binary k c.links c.inside a.1.0 a.1.1 left o.0.0 o.0.1 right.tree ate.1 closed chain.1 a.1.2)))
+      refl)
+      (λ _. refl))
+
+  pub rule_sound : (k : ℕ) → Sound (Ruled k) tall_words (r.rule_at depth inner k)
+  unfolding r.rule_at
+  rule_sound zero ts = carry (Takes Unary tall_words ts) (Takes (Ruled 0) tall_words ts) ts [] ts (r.unary depth inner ts) refl (λ t rest a. (a.0, (0, t.depth, g.unary t.depth t.tree a.1.0, omega arith, a.1.1))) (unary_sound ts)
+  rule_sound (suc k) ts = says_then (Takes (Ruled k) tall_words ts) (Takes (Ruled (suc k)) tall_words ts) ts [] ts (r.rule_at depth inner k ts) _ refl (rule_sound k ts)
+      (λ x rest a. turns_sound (IsRule In (suc k)) (r.operation depth inner (r.rule_at depth inner k) k) (operation_sound k (r.rule_at depth inner k) (rule_sound k)) (length rest) ts (chained x) rest
+      (starts_chain (IsRule In (suc k)) ts x rest a.0 (subst (λ n. IsRule In (suc k) 0 n x.tree) (sym a.1.3) (g.tighter k a.1.0 a.1.1 x.tree a.1.2)) a.1.4))
+
+  -- ---- whole expressions
+
+  abbrev Whole : Tall Expr → Type 0
+  Whole t = IsWhole In t.depth t.tree × (t.depth ≤ suc depth)
+
+  pub whole_sound : Sound Whole tall_words (r.rule_at depth inner 6)
+  whole_sound ts = carry (Takes (Ruled 6) tall_words ts) (Takes Whole tall_words ts) ts [] ts (r.rule_at depth inner 6 ts) refl
+      (λ t rest a. (a.0, (subst (λ n. IsWhole In n t.tree) (sym a.1.3) (g.or a.1.0 a.1.1 t.tree a.1.2), a.1.4))) (rule_sound 6 ts)
 
   pub of_rule_sound : (k : Rule) → Sound (λ t. IsOf In k t.depth t.tree × (t.depth ≤ suc depth)) tall_words (r.of_rule depth inner k)
   of_rule_sound rule.Unary = unary_sound

@@ -1,5 +1,6 @@
 -- What the readers of expressions and types answer, by the grammar alone.
 use Rattle.std.specs.Prelude.{◌≡◌, ◌⊎◌, ◌<◌, ℕ, Bool, true, false, ◌||◌, nat_lt, List, [], ◌∷◌, ◌++◌, length, Option, Some, None, Result, Ok, Err}
+use Rattle.std.specs.List.{Contains}
 use Rattle.wdl_base.specs.declared.span.Span.{Span}
 use Rattle.wdl_ast.specs.declared.token.Mark.{Mark}
 use Rattle.wdl_ast.specs.declared.token.Mark.TheVariants as mark
@@ -89,13 +90,22 @@ MayGoOn ts = (y : Expr) (rest : Words) → FrontsExpr ts y rest → expr_continu
 abbrev pub Blames : ℕ → Span → Words → Type 0
 Blames c s ts = (before : Words) × (t : Token) × (after : Words) × (ts ≡ before ++ t ∷ after) × (t.span ≡ s) × ((c ≡ 111) ⊎ (begins_form c t.kind after ≡ true))
 
--- 110 where no expression starts there; else the code is true of its token, and each expression that starts there may go on
-abbrev pub RefusesExpr : Words → ℕ → Span → Type 0
-RefusesExpr ts c s = ((c ≡ 110) × StartsNone IsExpr words ts) ⊎ (Blames c s ts × MayGoOn ts)
+-- one of the tokens has that span
+abbrev pub IsSpanOf : Words → Span → Type 0
+IsSpanOf ts s = (t : Token) × Contains ts t × (t.span ≡ s)
 
--- no type starts there; with a code other than 110 the code is true of its token
-abbrev pub RefusesType : Words → ℕ → Span → Type 0
-RefusesType ts c s = ((c ≡ 110) ⊎ Blames c s ts) × StartsNone IsType type_words ts
+-- the same, where there are any
+abbrev pub IsPlaced : Words → Span → Type 0
+IsPlaced ts s = (ts ≡ []) ⊎ IsSpanOf ts s
+
+-- Of all the tokens, those of the second list stand behind the place. 110, at one of the tokens, where no expression starts there; else the code is
+-- true of its token, and each expression that starts there may go on.
+abbrev pub RefusesExpr : Words → Words → ℕ → Span → Type 0
+RefusesExpr all ts c s = ((c ≡ 110) × IsPlaced all s × StartsNone IsExpr words ts) ⊎ (Blames c s ts × MayGoOn ts)
+
+-- no type starts there; 110 is said of one of the tokens, and any other code is true of its token
+abbrev pub RefusesType : Words → Words → ℕ → Span → Type 0
+RefusesType all ts c s = (((c ≡ 110) × IsPlaced all s) ⊎ Blames c s ts) × StartsNone IsType type_words ts
 
 abbrev pub IfBad : {A : Type 0} → (ℕ → Span → Type 0) → Result A ParseFault → Type 0
 IfBad P (Ok a) = Unit {0}
@@ -114,8 +124,8 @@ read_type = type_at max_type_depth
 unfoldable pub read_parts : Parser (List (StringPart Expr))
 read_parts ts = then_ (parts (expr max_depth) ts) (λ x rest. Ok (x.tree, rest))
 
--- what a refusal of reading is to the caller
-abbrev pub FaultOf : Stop → ParseFault → Type 0
-FaultOf stop.NoMemory f = f ≡ fault.NoMemory
-FaultOf (stop.Refused refusal.Missing) f = (s : Span) × (f ≡ fault.Bad 110 s)
-FaultOf (stop.Refused (refusal.Bad b)) f = f ≡ fault.Bad b.code b.span
+-- what a refusal of reading these tokens is to the caller
+abbrev pub FaultOf : Words → Stop → ParseFault → Type 0
+FaultOf ts stop.NoMemory f = f ≡ fault.NoMemory
+FaultOf ts (stop.Refused refusal.Missing) f = (s : Span) × (f ≡ fault.Bad 110 s) × IsPlaced ts s
+FaultOf ts (stop.Refused (refusal.Bad b)) f = f ≡ fault.Bad b.code b.span

@@ -1,5 +1,5 @@
 -- Which trees are derivations of the grammar of expressions, and how deep they are.
-use Rattle.std.specs.Prelude.{◌≡◌, ℕ, ℤ, zero, suc, ◌+◌, ◌≤◌, max, Bool, true, List, [], ◌∷◌, Option, Some, None, is_none}
+use Rattle.std.specs.Prelude.{◌≡◌, ℕ, ℤ, zero, suc, ◌+◌, ◌≤◌, max, Bool, true, false, List, [], ◌∷◌, Option, Some, None, is_none}
 use Rattle.wdl_base.specs.declared.span.Span.{Span}
 use Rattle.wdl_base.specs.Names.{is_name}
 use Rattle.wdl_ast.specs.declared.token.Quote.{Quote}
@@ -12,7 +12,8 @@ use Rattle.wdl_ast.specs.declared.expr.BinaryOperator.TheVariants as op
 use Rattle.wdl_ast.specs.declared.expr.UnaryOperator.{UnaryOperator}
 use Rattle.wdl_ast.specs.declared.expr.MapEntry.{MapEntry}
 use Rattle.wdl_ast.specs.declared.expr.MemberEntry.{MemberEntry}
-use Rattle.wdl_ast.specs.declared.expr.Expr.{Expr}
+use Rattle.wdl_ast.specs.declared.expr.Expr.{Expr, Expr-F, fold-Expr}
+use Rattle.wdl_ast.specs.declared.expr.Expr.TheOpen as layer
 use Rattle.wdl_ast.specs.declared.expr.Expr.TheVariants as e
 use Rattle.wdl_parse_expr.specs.declared.tall.Rule.{Rule}
 use Rattle.wdl_parse_expr.specs.declared.tall.Rule.TheVariants as rule
@@ -51,6 +52,18 @@ ends_bare (x ∷ y ∷ more) = ends_bare (y ∷ more)
 abbrev pub Listed : {E : Type 0} → (ℕ → E → Type 0) → List (ListItem E) → ℕ → ℕ → Type 0
 Listed P [] i n = n ≡ i
 Listed P (x ∷ more) i n = (a : ℕ) × P a x.item × CommaFits x.comma more × Listed P more (max i a) n
+
+-- ---- choices
+
+abbrev pub last_step : Expr-F Bool → Bool
+last_step (layer.If i c t a e r) = true
+last_step (layer.Binary l o s r) = r
+last_step (layer.Unary o s x) = x
+last_step _ = false
+
+-- Whether the last operand is an `if`. What stands behind its `else` takes all that goes on, so such an expression is no left operand.
+unfoldable pub ends_in_choice : Expr → Bool
+ends_in_choice = fold-Expr Bool last_step
 
 -- ---- expressions
 
@@ -91,17 +104,18 @@ module _ (In : Rule → ℕ → Expr → Type 0) where
   pub data IsUnary : ℕ → Expr → Type 0 where
     post : (m i : ℕ) (x : Expr) → IsPost m i x → IsUnary (m + i) x
     signed : (n : ℕ) (o : UnaryOperator) (s : Span) (x : Expr) → In rule.Unary n x → IsUnary (suc n) (e.Unary o s x)
+    choice : (i : Span) (c : Expr) (t : Span) (a : Expr) (s : Span) (r : Expr) (p q w : ℕ) → In rule.Expr p c → In rule.Expr q a → In rule.Expr w r → IsUnary (suc (max (max p q) w)) (e.If i c t a s r)
 
   -- Operands with operators that bind so loosely: how many, and the depth of the deepest operand. Rule 0 is a unary expression, 1 a product, 2 a sum,
   -- 3 an order, 4 an equality, 5 a conjunction, 6 a disjunction.
   pub data IsRule : ℕ → ℕ → ℕ → Expr → Type 0 where
     unary : (n : ℕ) (x : Expr) → IsUnary n x → IsRule 0 0 n x
     tighter : (k m i : ℕ) (x : Expr) → IsRule k m i x → IsRule (suc k) 0 (m + i) x
-    binary : (k m i p j : ℕ) (l : Expr) (o : BinaryOperator) (s : Span) (r : Expr) → looseness o ≡ k → IsRule (suc k) m i l → IsRule k p j r → IsRule (suc k) (suc m) (max i (p + j)) (e.Binary l o s r)
+    binary : (k m i p j : ℕ) (l : Expr) (o : BinaryOperator) (s : Span) (r : Expr) → looseness o ≡ k → ends_in_choice l ≡ false → IsRule (suc k) m i l → IsRule k p j r
+        → IsRule (suc k) (suc m) (max i (p + j)) (e.Binary l o s r)
 
   pub data IsWhole : ℕ → Expr → Type 0 where
     or : (m i : ℕ) (x : Expr) → IsRule 6 m i x → IsWhole (m + i) x
-    choice : (i : Span) (c : Expr) (t : Span) (a : Expr) (s : Span) (r : Expr) (p q w : ℕ) → In rule.Expr p c → In rule.Expr q a → In rule.Expr w r → IsWhole (suc (max (max p q) w)) (e.If i c t a s r)
 
   abbrev pub IsOf : Rule → ℕ → Expr → Type 0
   IsOf rule.Unary n x = IsUnary n x

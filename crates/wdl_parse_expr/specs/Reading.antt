@@ -36,7 +36,7 @@ use Rattle.wdl_parse_expr.specs.declared.operator.OptionWord.{OptionWord}
 use Rattle.wdl_parse_expr.specs.declared.operator.OptionWord.TheVariants as word
 use Rattle.wdl_parse_expr.specs.Outcome.{Outcome, Parser, missing, bad, then_, attempt, found, too_deep, is_hole_close, is_str_close, eat_if, eat, eat_word, ident_at, tall, grown}
 use Rattle.wdl_parse_expr.specs.Forms.{left_out}
-use Rattle.wdl_parse_expr.specs.Grammar.{looseness, ends_bare}
+use Rattle.wdl_parse_expr.specs.Grammar.{looseness, ends_bare, ends_in_choice}
 
 -- ---- operators
 
@@ -334,22 +334,7 @@ module _ (depth : ℕ) (inner : Rule → Parser (Tall Expr)) where
   unfoldable pub post : Parser (Tall Expr)
   post ts = then_ (primary ts) (λ x rest. turns suffix (length rest) (chained x) rest)
 
-  -- ---- operators
-
-  unfoldable pub unary : Parser (Tall Expr)
-  unary ts = found (unary_at ts) (λ o rest. then_ (inner rule.Unary rest) (λ x after. grown depth o.1 0 x.depth (e.Unary o.0 o.1 x.tree) after)) (post ts)
-
-  -- one more operand behind its operator, if one stands there
-  unfoldable pub operation : Parser (Tall Expr) → ℕ → Chain → Words → Step
-  operation lower k left ts = found (binary_at k ts)
-      (λ o rest. attempt (lower rest)
-      (λ right more. step (linked depth o.1 left.links (max left.inside right.depth) (e.Binary left.left.tree o.0 o.1 right.tree) more))
-      (Ok (None, ts)))
-      (Ok (None, ts))
-
-  unfoldable pub rule_at : ℕ → Parser (Tall Expr)
-  rule_at zero = unary
-  rule_at (suc k) = λ ts. then_ (rule_at k ts) (λ x rest. turns (operation (rule_at k) k) (length rest) (chained x) rest)
+  -- ---- choices
 
   -- the branch behind `else`
   unfoldable pub other_choice : Span → Tall Expr → Span → Tall Expr → Span → Parser (Tall Expr)
@@ -362,12 +347,29 @@ module _ (depth : ℕ) (inner : Rule → Parser (Tall Expr)) where
       missing))
       missing)
 
-  unfoldable pub whole : Parser (Tall Expr)
-  whole ts = found (eat_word (codes "if") ts) choice (rule_at 6 ts)
+  -- ---- operators
+
+  unfoldable pub unary : Parser (Tall Expr)
+  unary ts = found (unary_at ts) (λ o rest. then_ (inner rule.Unary rest) (λ x after. grown depth o.1 0 x.depth (e.Unary o.0 o.1 x.tree) after))
+      (found (eat_word (codes "if") ts) choice (post ts))
+
+  -- one more operand behind its operator, if one stands there
+  unfoldable pub operation : Parser (Tall Expr) → ℕ → Chain → Words → Step
+  operation lower k left ts =
+      if ends_in_choice left.left.tree then Ok (None, ts)
+      else found (binary_at k ts)
+      (λ o rest. attempt (lower rest)
+      (λ right more. step (linked depth o.1 left.links (max left.inside right.depth) (e.Binary left.left.tree o.0 o.1 right.tree) more))
+      (Ok (None, ts)))
+      (Ok (None, ts))
+
+  unfoldable pub rule_at : ℕ → Parser (Tall Expr)
+  rule_at zero = unary
+  rule_at (suc k) = λ ts. then_ (rule_at k ts) (λ x rest. turns (operation (rule_at k) k) (length rest) (chained x) rest)
 
   abbrev pub of_rule : Rule → Parser (Tall Expr)
   of_rule rule.Unary = unary
-  of_rule rule.Expr = whole
+  of_rule rule.Expr = rule_at 6
 
 -- an expression of at most that depth
 unfoldable pub expr : ℕ → Rule → Parser (Tall Expr)

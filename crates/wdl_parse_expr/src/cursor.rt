@@ -11,11 +11,15 @@ use std::marker::Model;
 use wdl_ast::{BinaryOperator, Chars, Ident, Kind, Mark, Quote, Token, UnaryOperator};
 use wdl_value::{Name, NameFault, NoMemory, Span};
 
-/// The tokens that are left. It remembers how far reading came before it went back.
+/// The tokens that are left. It remembers how far reading came before it went back, and the first token that was
+/// blamed, so that a refusal can name the first token that fits nothing.
 #[derive(Drop)]
 pub struct Cursor<'a> {
     rest: &'a [Token],
+    /// How many tokens were left where reading came farthest before it went back.
     farthest: usize,
+    /// How many were left from the token on that was blamed.
+    blamed: Option<usize>,
 }
 
 impl<'a> Model for Cursor<'a> {
@@ -64,6 +68,7 @@ impl<'a> Cursor<'a> {
     {
         Cursor {
             farthest: rest.len(),
+            blamed: None,
             rest,
         }
     }
@@ -97,12 +102,38 @@ impl<'a> Cursor<'a> {
         self.rest = rest;
     }
 
-    /// How many tokens were left where reading came farthest.
-    pub fn left_at_most(&self) -> usize {
+    /// Blames the next token: no tree has it there, though reading goes on. The first blame counts.
+    pub fn blame_next(&mut self)
+        ensures { self.new ≡ self.old }
+    {
+        if self.blamed.is_none() {
+            self.blamed = Some(self.rest.len());
+        }
+    }
+
+    /// Blames the token that was taken last.
+    pub fn blame_last(&mut self)
+        ensures { self.new ≡ self.old }
+    {
+        if self.blamed.is_none() {
+            self.blamed = Some(self.rest.len().saturating_add(1));
+        }
+    }
+
+    fn left_at_most(&self) -> usize {
         if self.farthest < self.rest.len() {
             self.farthest
         } else {
             self.rest.len()
+        }
+    }
+
+    /// How many tokens were left from the first one on that fits nothing: the one that was blamed, or else the one where
+    /// reading came farthest.
+    pub fn left_at_fault(&self) -> usize {
+        match self.blamed {
+            Some(left) => left,
+            None => self.left_at_most(),
         }
     }
 

@@ -10,6 +10,7 @@ ghost use Rattle.wdl_parse_expr.specs.Grammar as grammar;
 ghost use Rattle.wdl_parse_expr.specs.Nests.{Nests};
 
 mod chain;
+mod choice;
 mod list;
 mod plain_string;
 mod primary;

@@ -2,7 +2,7 @@ ghost use Rattle.std.specs.Prelude.{◌≡◌, ◌≤◌, length, drop, IfOk};
 ghost use Rattle.wdl_ast.specs.Words.{words, type_words};
 ghost use Rattle.wdl_parse_expr.specs.Grammar.{IsExpr};
 ghost use Rattle.wdl_parse_expr.specs.TypeGrammar.{IsType};
-ghost use Rattle.wdl_parse_expr.specs.Contract.{Fronts, IsLongest, IfBad, RefusesExpr, RefusesType, FaultOf};
+ghost use Rattle.wdl_parse_expr.specs.Contract.{Fronts, IsLongest, IsPlaced, IfBad, RefusesExpr, RefusesType, FaultOf};
 
 use crate::cursor::Cursor;
 use crate::fault::{ParseFault, Refusal, Stop};
@@ -33,30 +33,33 @@ pub struct ParsedType {
     pub next: usize,
 }
 
-/// The span of the token before which so many are left; of the last one, where none is.
-fn span_before(tokens: &[Token], left: usize) -> Span {
-    match tokens.get(tokens.len().saturating_sub(left)) {
-        Some(token) => token.span,
-        None => match tokens.last() {
+/// The span of the token from which on so many are left; of the last one, where none is.
+fn span_from(tokens: &[Token], left: usize) -> Span
+    ensures { IsPlaced tokens.now result }
+{
+    match tokens {
+        [] => Span {
+            doc: 0,
+            start: 0,
+            end: 0,
+        },
+        [.., last] => match tokens.get(tokens.len().saturating_sub(left)) {
             Some(token) => token.span,
-            None => Span {
-                doc: 0,
-                start: 0,
-                end: 0,
-            },
+            None => last.span,
         },
     }
 }
 
-/// What a refusal of reading is to the caller. `left` tells how many tokens were left where nothing could be read.
+/// What a refusal of reading is to the caller. `left` tells how many tokens were left from the first one on that fits
+/// nothing.
 pub fn fault_of(stop: Stop, tokens: &[Token], left: usize) -> ParseFault
-    ensures { FaultOf stop result }
+    ensures { FaultOf tokens.now stop result }
 {
     match stop {
         Stop::NoMemory => ParseFault::NoMemory,
         Stop::Refused(Refusal::Missing) => ParseFault::Bad {
             code: 110,
-            span: span_before(tokens, left),
+            span: span_from(tokens, left),
         },
         Stop::Refused(Refusal::Bad(fault)) => ParseFault::Bad {
             code: fault.code,
@@ -84,8 +87,8 @@ pub fn parse_expr(alloc: Global, tokens: &[Token], at: usize) -> Result<ParsedEx
     ensures found { IfOk result (λ r. Fronts IsExpr words (drop at tokens.now) r.expr (drop r.next tokens.now)) }
     // No other one does that is as long.
     ensures longest { IfOk result (λ r. IsLongest IsExpr words (drop at tokens.now) r.expr (drop r.next tokens.now)) }
-    // 110 where none starts there; any other code is true of a token, and each that starts there may go on.
-    ensures refused { IfBad (RefusesExpr (drop at tokens.now)) result }
+    // 110, at one of the tokens, where none starts there; any other code is true of a token, and each that starts there may go on.
+    ensures refused { IfBad (RefusesExpr tokens.now (drop at tokens.now)) result }
 {
     let mut cursor = cursor_at(tokens, at);
     match expr(alloc, &mut cursor, MAX_DEPTH, Rule::Expr) {
@@ -96,7 +99,7 @@ pub fn parse_expr(alloc: Global, tokens: &[Token], at: usize) -> Result<ParsedEx
                 next: tokens.len() - left,
             })
         }
-        Err(stop) => Err(fault_of(stop, tokens, cursor.left_at_most())),
+        Err(stop) => Err(fault_of(stop, tokens, cursor.left_at_fault())),
     }
 }
 
@@ -109,8 +112,8 @@ pub fn parse_type(alloc: Global, tokens: &[Token], at: usize) -> Result<ParsedTy
     ensures found { IfOk result (λ r. Fronts IsType type_words (drop at tokens.now) r.ty (drop r.next tokens.now)) }
     // No other one does that is as long.
     ensures longest { IfOk result (λ r. IsLongest IsType type_words (drop at tokens.now) r.ty (drop r.next tokens.now)) }
-    // None starts there; a code other than 110 is true of a token.
-    ensures refused { IfBad (RefusesType (drop at tokens.now)) result }
+    // None starts there; 110 is said of one of the tokens, and any other code is true of its token.
+    ensures refused { IfBad (RefusesType tokens.now (drop at tokens.now)) result }
 {
     let mut cursor = cursor_at(tokens, at);
     match type_at(alloc, &mut cursor, MAX_TYPE_DEPTH) {
@@ -121,6 +124,6 @@ pub fn parse_type(alloc: Global, tokens: &[Token], at: usize) -> Result<ParsedTy
                 next: tokens.len() - left,
             })
         }
-        Err(stop) => Err(fault_of(stop, tokens, cursor.left_at_most())),
+        Err(stop) => Err(fault_of(stop, tokens, cursor.left_at_fault())),
     }
 }

@@ -181,6 +181,7 @@ impl<F: Fn(Global, &mut Cursor<'_>, usize) -> Result<TypeTree, Stop>> TypeReader
         if word.is("Object") {
             return bad(121, span);
         }
+        tokens.blame_last();
         missing()
     }
 

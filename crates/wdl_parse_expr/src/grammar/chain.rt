@@ -1,4 +1,4 @@
-ghost use Rattle.std.specs.Prelude.{◌≡◌, IfOk, List};
+ghost use Rattle.std.specs.Prelude.{◌≡◌, IfOk, List, codes};
 ghost use Rattle.wdl_ast.specs.declared.token.Token.{Token};
 ghost use Rattle.wdl_parse_expr.specs.Outcome.{Reads};
 ghost use Rattle.wdl_parse_expr.specs.Reading as spec;
@@ -8,6 +8,7 @@ ghost use Rattle.wdl_parse_expr.specs.declared.tall.Chain.{Chain};
 use crate::cursor::Cursor;
 use crate::fault::{Refusal, Stop};
 use crate::grammar::Grammar;
+use crate::grammar::choice::ends_in_choice;
 use crate::read::{deeper, linked};
 use crate::tall::{Chain, Rule, Tall};
 use sqlite_items::Boxed;
@@ -160,7 +161,7 @@ impl<F: Fn(Global, &mut Cursor<'_>, usize, Rule) -> Result<Tall<Expr>, Stop>> Gr
         Ok(chain.left)
     }
 
-    /// Reads a unary expression.
+    /// Reads a unary expression: one with signs, a choice, or a primary with its members and indices.
     #[tactic(auto, using(std::proofs::lemmas::Grind::common_steps), unfolding(crate::specs::Outcome::then_, crate::specs::Outcome::found, crate::specs::Reading::unary))]
     pub fn unary(&self, tokens: &mut Cursor<'_>) -> Result<Tall<Expr>, Stop>
         requires { Nests self.now.depth (F.pre self.now.expr) (F.post self.now.expr) }
@@ -173,11 +174,14 @@ impl<F: Fn(Global, &mut Cursor<'_>, usize, Rule) -> Result<Tall<Expr>, Stop>> Gr
                 let tree = signed(self.alloc, operator, sign, operand)?;
                 self.grown(sign, inside, tree)
             }
-            None => self.post(tokens),
+            None => match tokens.eat_word("if") {
+                Some(keyword) => self.choice(tokens, keyword),
+                None => self.post(tokens),
+            },
         }
     }
 
-    /// One more operand, and whether its operator stands there.
+    /// One more operand, and whether its operator stands there. None stands behind a choice, which took all that goes on.
     #[cycle(rules)]
     #[tactic(auto, using(std::proofs::lemmas::Grind::common_steps), unfolding(crate::specs::Outcome::attempt, crate::specs::Outcome::found, crate::specs::Reading::operation))]
     fn operation(
@@ -189,6 +193,9 @@ impl<F: Fn(Global, &mut Cursor<'_>, usize, Rule) -> Result<Tall<Expr>, Stop>> Gr
         requires { Nests self.now.depth (F.pre self.now.expr) (F.post self.now.expr) }
         ensures { Reads (spec.told chain (spec.operation self.now.depth (spec.expr self.now.depth) (spec.rule_at self.now.depth (spec.expr self.now.depth) k) k chain tokens.old)) result tokens.new }
     {
+        if ends_in_choice(&chain.left.tree) {
+            return Ok((chain, false));
+        }
         let before = tokens.rest();
         let Some((operator, sign)) = tokens.binary(k) else {
             return Ok((chain, false));

@@ -7,8 +7,8 @@ use crate::fault::Stop;
 use crate::operator::{OptionWord, same_option};
 use crate::read::missing;
 use std::alloc::Global;
-use wdl_ast::{PlaceholderOption, PlaceholderOptions, PlainString};
-use wdl_value::Span;
+use wdl_ast::{PlaceholderOption, PlaceholderOptions, PlainString, Token};
+use wdl_value::{NoMemory, Span};
 
 /// Reads a string without a placeholder.
 #[tactic(auto, using(std::proofs::lemmas::Grind::common_steps), unfolding(crate::specs::Outcome::found, crate::specs::Reading::plain))]
@@ -46,6 +46,15 @@ fn option_end(
     })
 }
 
+/// Goes past a word that is to be an option, where `=` is what lacks.
+fn pass_option(tokens: &mut Cursor<'_>, word: OptionWord) {
+    if same_option(word, OptionWord::True) {
+        tokens.eat_word("true");
+    } else {
+        tokens.eat_word("false");
+    }
+}
+
 /// The second of `true` and `false`.
 #[tactic(auto, using(std::proofs::lemmas::Grind::common_steps), unfolding(crate::specs::Outcome::found, crate::specs::Reading::other_option))]
 fn other_option(
@@ -55,16 +64,30 @@ fn other_option(
 ) -> Result<PlaceholderOption, Stop>
     ensures { Reads (spec.other_option word tokens.old) result tokens.new }
 {
+    let before = tokens.rest();
     match tokens.option_start() {
         Some((found, spans)) if same_option(found, word) => option_end(alloc, tokens, spans),
-        _ => missing(),
+        _ => {
+            tokens.go(before);
+            pass_option(tokens, word);
+            missing()
+        }
     }
 }
 
+/// Goes past a word that is no option, where an expression may begin with it: then it is its `=` that fits nothing.
+fn pass_start(alloc: Global, tokens: &mut Cursor<'_>) -> Result<(), NoMemory> {
+    if tokens.ident(alloc)?.is_none() && tokens.eat_word("None").is_none() {
+        tokens.eat_word("if");
+    }
+    Ok(())
+}
+
 #[tactic(auto, using(std::proofs::lemmas::Grind::common_steps), unfolding(crate::specs::Outcome::then_))]
-fn options_by(
+fn options_by<'a>(
     alloc: Global,
-    tokens: &mut Cursor<'_>,
+    tokens: &mut Cursor<'a>,
+    before: &'a [Token],
     word: OptionWord,
     spans: (Span, Span),
 ) -> Result<PlaceholderOptions, Stop>
@@ -83,7 +106,11 @@ fn options_by(
             let accepted = other_option(alloc, tokens, OptionWord::True)?;
             Ok(PlaceholderOptions::FalseTrue(refused, accepted))
         }
-        OptionWord::Other => missing(),
+        OptionWord::Other => {
+            tokens.go(before);
+            pass_start(alloc, tokens)?;
+            missing()
+        }
     }
 }
 
@@ -92,8 +119,9 @@ fn options_by(
 pub fn options(alloc: Global, tokens: &mut Cursor<'_>) -> Result<PlaceholderOptions, Stop>
     ensures { Reads (spec.options_at tokens.old) result tokens.new }
 {
+    let before = tokens.rest();
     match tokens.option_start() {
-        Some((word, spans)) => options_by(alloc, tokens, word, spans),
+        Some((word, spans)) => options_by(alloc, tokens, before, word, spans),
         None => Ok(PlaceholderOptions::Plain),
     }
 }

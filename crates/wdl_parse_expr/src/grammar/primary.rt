@@ -67,6 +67,7 @@ impl<F: Fn(Global, &mut Cursor<'_>, usize, Rule) -> Result<Tall<Expr>, Stop>> Gr
         match self.list::<Expr>(tokens, Mark::CloseParen) {
             Ok(list) => {
                 if !ends_bare(list.items.as_slice()) {
+                    tokens.blame_last();
                     tokens.back(before);
                     return leaf(Expr::Name(name));
                 }
@@ -218,8 +219,8 @@ impl<F: Fn(Global, &mut Cursor<'_>, usize, Rule) -> Result<Tall<Expr>, Stop>> Gr
 
     /// What begins with a reserved word.
     #[tactic(auto, unfolding(crate::specs::Reading::literal))]
-    fn literal(&self, tokens: &Cursor<'_>, word: &Text, span: Span) -> Result<Tall<Expr>, Stop>
-        ensures { Reads (spec.literal self.now.depth (spec.expr self.now.depth) word.now span tokens.now) result tokens.now }
+    fn literal(&self, tokens: &mut Cursor<'_>, word: &Text, span: Span) -> Result<Tall<Expr>, Stop>
+        ensures { Reads (spec.literal self.now.depth (spec.expr self.now.depth) word.now span tokens.old) result tokens.new }
     {
         if word.is("true") {
             return leaf(Expr::True(span));
@@ -233,6 +234,7 @@ impl<F: Fn(Global, &mut Cursor<'_>, usize, Rule) -> Result<Tall<Expr>, Stop>> Gr
         if word.is("object") {
             return bad(121, span);
         }
+        tokens.blame_last();
         missing()
     }
 

@@ -32,4 +32,4 @@ returns-in-Ok-clause-longest c =
     (longest_at IsExpr words ts c.args.at c.in-Ok.tall.tree c.expr.new.tokens (is_front (drop c.args.at ts) c.in-Ok.tall c.expr.new.tokens read) c.requires (is_longest (drop c.args.at ts) c.in-Ok.tall c.expr.new.tokens read)))
 
 pub returns-in-Err-clause-refused : goal.returns-in-Err-clause-refused
-returns-in-Err-clause-refused c = refused (drop c.args.at c.args.tokens.now) c.in-Err.stop c.fault_of.result c.fault_of.ensures (subst (λ z. Fails (expr max_depth rule.Expr z) c.in-Err.stop) c.cursor_at-cursor.ensures c.in-Err.ensures)
+returns-in-Err-clause-refused c = refused c.args.tokens.now (drop c.args.at c.args.tokens.now) c.in-Err.stop c.fault_of.result c.fault_of.ensures (subst (λ z. Fails (expr max_depth rule.Expr z) c.in-Err.stop) c.cursor_at-cursor.ensures c.in-Err.ensures)

@@ -29,4 +29,4 @@ returns-in-Ok-clause-longest c =
     (longest_at IsType type_words ts c.args.at c.in-Ok.ty c.type_at.new.tokens (is_type_front (drop c.args.at ts) c.in-Ok.ty c.type_at.new.tokens read) c.requires (is_longest_type (drop c.args.at ts) c.in-Ok.ty c.type_at.new.tokens read))
 
 pub returns-in-Err-clause-refused : goal.returns-in-Err-clause-refused
-returns-in-Err-clause-refused c = refused_type (drop c.args.at c.args.tokens.now) c.in-Err.stop c.fault_of.result c.fault_of.ensures (subst (λ z. Fails (type_at max_type_depth z) c.in-Err.stop) c.cursor_at-cursor.ensures c.in-Err.ensures)
+returns-in-Err-clause-refused c = refused_type c.args.tokens.now (drop c.args.at c.args.tokens.now) c.in-Err.stop c.fault_of.result c.fault_of.ensures (subst (λ z. Fails (type_at max_type_depth z) c.in-Err.stop) c.cursor_at-cursor.ensures c.in-Err.ensures)
