@@ -82,7 +82,7 @@ printf '#!/bin/sh\necho own\nexec sh "$@"\n' >'own shell'
 chmod +x 'own shell'
 shell "a shell by a relative path" 0 '{"w.r":"own\\na"}\n' '' './own shell' 'echo a'
 shell "a shell that is empty" 0 '{"w.r":"a"}\n' '' '' 'echo a'
-shell "a shell that is not there" 1 '' 'failed t: status 127\n' no-such-shell 'echo a'
+shell "a shell that is not there" 1 '' 'failed t: status 127\n' /no/such/shell 'echo a'
 shell "a shell that is no text" 9 '' 'cannot launch t\n' "$(printf '\377')" 'echo a'
 
 echo "what a command leaves"

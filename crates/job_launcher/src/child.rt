@@ -16,6 +16,14 @@ fn add_words(child: &mut Command, words: &[&str]) -> Result<(), AllocError> {
     Ok(())
 }
 
+fn end_of<R: Processes>(rt: &R, child: &mut Command, words: &[&str]) -> Result<u8, Trouble> {
+    add_words(child, words)?;
+    match child.status(rt)?.code() {
+        Some(code) => Ok(u8::try_from(code).unwrap_or(KILLED)),
+        None => Ok(KILLED),
+    }
+}
+
 /// Runs a command as `SHELL -c COMMAND` in a directory, and waits for its end.
 pub(crate) fn status_of<R: Processes>(
     rt: &R,
@@ -25,10 +33,6 @@ pub(crate) fn status_of<R: Processes>(
     command: &str,
 ) -> Result<u8, Trouble> {
     let mut child = Command::new(alloc, "sh")?;
-    add_words(&mut child, &["-c", SCRIPT, "sh", dir, command, shell])?;
-    let ended = child.status(rt)?;
-    match ended.code() {
-        Some(code) => Ok(u8::try_from(code).unwrap_or(KILLED)),
-        None => Ok(KILLED),
-    }
+    let words = ["-c", SCRIPT, "sh", dir, command, shell];
+    end_of(rt, &mut child, words.as_slice())
 }

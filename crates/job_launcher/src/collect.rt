@@ -1,6 +1,6 @@
 use crate::directory::path_in;
 use crate::listing::list;
-use crate::reach::reach_of;
+use crate::reach::{Reach, reach_of};
 use crate::trouble::{Trouble, if_there};
 use sqlite_items::Items;
 use std::alloc::Global;
@@ -38,16 +38,19 @@ pub(crate) fn body_of<R: Files>(
     }
 }
 
-/// The file of this name with its body, or `None` where it is gone.
+/// The file of this name, with its body where it is kept up to a limit; `None` where the file is gone.
 fn seen_of<R: Files>(
     rt: &R,
     alloc: Global,
     dir: &str,
     name: &str,
-    length: u64,
+    kept: Option<u64>,
 ) -> Result<Option<Seen>, Trouble> {
+    let Some(limit) = kept else {
+        return Ok(Some(seen(alloc, name, Body::Long)?));
+    };
     let path = path_in(alloc, dir, name)?;
-    match body_of(rt, alloc, path.as_str(), length)? {
+    match body_of(rt, alloc, path.as_str(), limit)? {
         Some(body) => Ok(Some(seen(alloc, name, body)?)),
         None => Ok(None),
     }
@@ -58,6 +61,23 @@ fn seen(alloc: Global, name: &str, body: Body) -> Result<Seen, Trouble> {
     Ok(Seen { name, body })
 }
 
+fn read_all<R: Files>(
+    rt: &R,
+    alloc: Global,
+    dir: &str,
+    listed: &[(String, u64)],
+    mut reach: Reach,
+) -> Result<Items<Seen>, Trouble> {
+    let mut files = Items::new(alloc);
+    for (name, length) in listed {
+        let kept = reach.takes(*length).then_some(*length);
+        if let Some(file) = seen_of(rt, alloc, dir, name.as_str(), kept)? {
+            files.push(file)?;
+        }
+    }
+    Ok(files)
+}
+
 /// The regular files below a directory, in byte order of their names. A file whose body is not kept is not read.
 pub(crate) fn files_of<R: Files + AllocGlobal + Clone + Drop>(
     rt: &R,
@@ -65,14 +85,6 @@ pub(crate) fn files_of<R: Files + AllocGlobal + Clone + Drop>(
     dir: &str,
 ) -> Result<Items<Seen>, Trouble> {
     let listing = list(rt, alloc, dir)?;
-    let mut reach = reach_of(alloc, &listing)?;
-    let mut files = Items::new(alloc);
-    for (name, length) in &listing.files {
-        if !reach.takes(*length) {
-            files.push(seen(alloc, name.as_str(), Body::Long)?)?;
-        } else if let Some(file) = seen_of(rt, alloc, dir, name.as_str(), *length)? {
-            files.push(file)?;
-        }
-    }
-    Ok(files)
+    let reach = reach_of(alloc, &listing)?;
+    read_all(rt, alloc, dir, listing.files.as_slice(), reach)
 }

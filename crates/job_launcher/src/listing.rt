@@ -90,6 +90,24 @@ impl Listing {
         }
         Ok(())
     }
+
+    /// Adds what the waiting folders hold, in byte order of the names.
+    fn fill<R: Files + AllocGlobal + Clone + Drop>(
+        &mut self,
+        rt: &R,
+        alloc: Global,
+        dir: &str,
+    ) -> Result<(), Trouble> {
+        for _ in 0..u64::MAX {
+            let Some(prefix) = self.folders.pop() else {
+                break;
+            };
+            let path = path_in(alloc, dir, prefix.as_str())?;
+            self.add_all(rt, alloc, path.as_str(), prefix.as_str())?;
+        }
+        self.files.sort()?;
+        Ok(())
+    }
 }
 
 /// Lists the regular files below a directory, to 8 levels, but for the two kept streams, in byte order of their names.
@@ -99,13 +117,6 @@ pub(crate) fn list<R: Files + AllocGlobal + Clone + Drop>(
     dir: &str,
 ) -> Result<Listing, Trouble> {
     let mut listing = Listing::start(alloc)?;
-    for _ in 0..u64::MAX {
-        let Some(prefix) = listing.folders.pop() else {
-            break;
-        };
-        let path = path_in(alloc, dir, prefix.as_str())?;
-        listing.add_all(rt, alloc, path.as_str(), prefix.as_str())?;
-    }
-    listing.files.sort()?;
+    listing.fill(rt, alloc, dir)?;
     Ok(listing)
 }
