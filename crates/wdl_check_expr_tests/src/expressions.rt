@@ -36,7 +36,9 @@ false && 1 / 0 == 1 => Boolean;1 + nope => 301 nope;nope + 1 => 301 nope";
 const BRANCHES: &str =
     "if true then 1 else None => Int?;if b then 1 else 'a' => 310 if b then 1 else 'a';if 1 then 1 else 2 => 304 1;\
 if ob then 1 else 2 => 304 ob;if [][0] then 1 else 2 => 304 [][0];if b then f else s => String;if b then xs else [] => Array[Int];\
-if b then ys else [1] => Array[Int]+;if b then oi else 1 => Int?;if b then nope else 1 => 301 nope";
+if b then ys else [1] => Array[Int]+;if b then oi else 1 => Int?;if b then nope else 1 => 301 nope;\
+'a' + if b then 'x' else s => String;- if b then 1 else 2 + 3 => Int;b && if b then 1 < 2 else !b => Boolean;1 + if b then 2 else s => 310 if b then 2 else s;\
+1 - if b then 's' else s => 304 1 - if b then 's' else s";
 
 const ITEMS: &str =
     "xs[0] => Int;xs['a'] => 304 xs['a'];xs[oi] => 304 xs[oi];xs[[][0]] => 304 xs[[][0]];[][0] => Empty;m['a'] => Int;m[f] => Int;\

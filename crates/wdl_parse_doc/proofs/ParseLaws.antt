@@ -15,7 +15,7 @@ use Rattle.wdl_parse_expr.specs.declared.fault.Stop.TheVariants as stop
 use Rattle.wdl_parse_expr.specs.declared.fault.ParseFault.{ParseFault}
 use Rattle.wdl_parse_expr.specs.declared.fault.ParseFault.TheVariants as fault
 use Rattle.wdl_parse_expr.specs.Outcome.{Fails}
-use Rattle.wdl_parse_expr.specs.Contract.{Blames, IfBad, FaultOf}
+use Rattle.wdl_parse_expr.specs.Contract.{IsSpanOf, IsPlaced, IfBad, FaultOf}
 use Rattle.wdl_parse_expr.proofs.Steps.{same, done}
 use Rattle.wdl_parse_expr.proofs.Says.{said, blamed, later}
 use Rattle.wdl_parse_doc.specs.Grammar.{Each, IsSection, IsDocument}
@@ -66,10 +66,14 @@ unread ts v n rest f e h d w = let q = sym h ∙ ap (λ z. sections (behind z)) 
 pub versionless : (ts : Words) (s : Span) → begins_version ts ≡ false → s ≡ version_span ts → RefusesDocument ts 112 s
 versionless ts s h q = (no_version ts h, inl (h, refl, q))
 
-pub refused : (ts : Words) (v n : Span) (rest : Words) → BehindVersion ts v n rest → (s : Stop) (f : ParseFault) → FaultOf s f → Fails (sections rest) s → IfBad {A = Document} (RefusesDocument ts) (Err f)
+placed : (ts : Words) (v n : Span) (rest : Words) (s : Span) → BehindVersion ts v n rest → IsPlaced ts s → IsSpanOf ts s
+placed ts v n rest s e (inl empty) = (let q = sym e ∙ empty in let z : ⊥ = cc in absurd z)
+placed ts v n rest s e (inr at) = at
+
+pub refused : (ts : Words) (v n : Span) (rest : Words) → BehindVersion ts v n rest → (s : Stop) (f : ParseFault) → FaultOf ts s f → Fails (sections rest) s → IfBad {A = Document} (RefusesDocument ts) (Err f)
 refused ts v n rest e stop.NoMemory f q h = subst (λ z. IfBad {A = Document} (RefusesDocument ts) (Err z)) (sym q) tt
 refused ts v n rest e (stop.Refused Missing) f q h =
-    subst (λ z. IfBad {A = Document} (RefusesDocument ts) (Err z)) (sym q.1) (unread ts v n rest Missing e h, inr (has_version ts v n rest e, inl refl))
+    subst (λ z. IfBad {A = Document} (RefusesDocument ts) (Err z)) (sym q.1) (unread ts v n rest Missing e h, inr (has_version ts v n rest e, inl (refl, placed ts v n rest q.0 e q.2)))
 refused ts v n rest e (stop.Refused (Bad b)) f q h =
     subst (λ z. IfBad {A = Document} (RefusesDocument ts) (Err z)) (sym q)
     (unread ts v n rest (Bad b) e h, inr (has_version ts v n rest e, inr (later b ts (keyword (codes "version") v ∷ at (kind.Frac (codes "1.1")) n ∷ []) rest e (blamed (AllOf rest) rest (sections rest) b (sections_sound rest) h))))

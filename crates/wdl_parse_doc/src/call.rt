@@ -7,7 +7,7 @@ ghost use Rattle.wdl_parse_doc.specs.Reading.Parts as parts;
 
 use crate::declaration::assigned;
 use crate::part::{Part, many};
-use crate::token::{comma, commas_fit, missing, take, take_name};
+use crate::token::{comma_or, commas_fit, missing, take, take_name};
 use std::alloc::Global;
 use wdl_ast::{
     After, Argument, Call, CallBody, CallInputs, CallTarget, ListItem, Mark, Renaming, TargetMember,
@@ -85,7 +85,7 @@ fn argument_item(alloc: Global, tokens: &mut Cursor<'_>) -> Result<ListItem<Argu
     ensures { Reads (parts.item spec.argument tokens.old) result tokens.new }
 {
     let item = argument(alloc, tokens)?;
-    let comma = comma(tokens);
+    let comma = comma_or(tokens, Mark::CloseBrace);
     Ok(ListItem { item, comma })
 }
 

@@ -75,6 +75,6 @@ pub fn parse(alloc: Global, tokens: &[Token]) -> Result<Document, ParseFault>
             number,
             sections,
         }),
-        Err(stop) => Err(fault_of(stop, tokens, cursor.left_at_most())),
+        Err(stop) => Err(fault_of(stop, tokens, cursor.left_at_fault())),
     }
 }

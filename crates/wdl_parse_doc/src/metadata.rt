@@ -9,7 +9,7 @@ ghost use Rattle.wdl_parse_doc.specs.Reading.Metadata as spec;
 ghost use Rattle.wdl_ast.specs.declared.token.Mark.TheVariants as mark;
 
 use crate::part::{Part, read_braced};
-use crate::token::{comma, commas_fit, missing, take, take_key};
+use crate::token::{comma, comma_or, commas_fit, missing, take, take_key};
 use sqlite_items::Items;
 use std::alloc::Global;
 use wdl_ast::{Attribute, Kind, ListItem, Mark, MetaSection, MetaValue, Number};
@@ -128,7 +128,7 @@ impl<F: Fn(Global, &mut Cursor<'_>, usize) -> Result<MetaValue, Stop>> MetaReade
         ensures { Reads (parts.item (spec.meta_at self.now.depth) tokens.old) result tokens.new }
     {
         let item = self.inner(tokens)?;
-        let comma = comma(tokens);
+        let comma = comma_or(tokens, Mark::CloseBracket);
         Ok(ListItem { item, comma })
     }
 

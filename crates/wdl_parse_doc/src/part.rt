@@ -29,6 +29,11 @@ pub trait Part: Sized {
     /// Reads one more, where one stands there.
     fn read(alloc: Global, tokens: &mut Cursor<'_>) -> Result<Option<Self>, Stop>
         ensures { Reads (reading tokens.old) result tokens.new };
+
+    /// Whether no list has the next token behind these parts, which is refused once the list is read.
+    fn is_misplaced(_before: &[Self], _tokens: &Cursor<'_>) -> bool {
+        false
+    }
 }
 
 /// Reads part after part.
@@ -38,6 +43,9 @@ pub fn many<P: Part + Drop>(alloc: Global, tokens: &mut Cursor<'_>) -> Result<It
 {
     let mut parts = Items::new(alloc);
     for _turn in 0..tokens.len() {
+        if P::is_misplaced(parts.as_slice(), tokens) {
+            tokens.blame_next();
+        }
         let Some(part) = P::read(alloc, tokens)? else {
             return Ok(parts);
         };

@@ -9,9 +9,9 @@ ghost use Rattle.wdl_parse_doc.specs.Reading.Tasks as spec;
 use crate::declaration::{command, declaration, inputs, outputs, runtime};
 use crate::metadata::metadata;
 use crate::part::{Part, read_braced};
-use crate::token::{missing, take_name};
+use crate::token::{is_section, is_word, missing, take_name};
 use std::alloc::Global;
-use wdl_ast::{Mark, TaskElement, TaskSection};
+use wdl_ast::{Kind, Mark, TaskElement, TaskSection};
 use wdl_parse_expr::{Cursor, Stop};
 use wdl_value::Span;
 
@@ -55,6 +55,38 @@ impl Part for TaskElement {
         }
         Ok(Some(task_element(alloc, tokens)?))
     }
+
+    /// A section whose word stood before.
+    fn is_misplaced(before: &[TaskElement], tokens: &Cursor<'_>) -> bool {
+        match tokens.rest() {
+            [first, ..] => is_section(&first.kind) && has_section(before, &first.kind),
+            [] => false,
+        }
+    }
+}
+
+/// The word that a section begins with.
+fn word_of(element: &TaskElement) -> Option<&'static str> {
+    match element {
+        TaskElement::Input(_) => Some("input"),
+        TaskElement::Output(_) => Some("output"),
+        TaskElement::Runtime(_) => Some("runtime"),
+        TaskElement::Meta(_) => Some("meta"),
+        TaskElement::ParameterMeta(_) => Some("parameter_meta"),
+        TaskElement::Command(_) => Some("command"),
+        TaskElement::Declaration(_) => None,
+    }
+}
+
+fn has_section(elements: &[TaskElement], word: &Kind) -> bool {
+    for element in elements {
+        if let Some(section) = word_of(element) {
+            if is_word(word, section) {
+                return true;
+            }
+        }
+    }
+    false
 }
 
 fn at_most_one_input(elements: &[TaskElement]) -> bool
@@ -146,5 +178,6 @@ pub fn task(alloc: Global, tokens: &mut Cursor<'_>, keyword: Span) -> Result<Tas
             closing: braced.closing,
         });
     }
+    tokens.blame_last();
     missing()
 }

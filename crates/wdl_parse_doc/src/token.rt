@@ -1,6 +1,7 @@
 //! Tokens that have to stand somewhere, or may.
 
 ghost use Rattle.std.specs.Prelude.{◌≡◌, Ok, Err, is_none as none};
+ghost use Rattle.wdl_parse_expr.specs.Outcome as outcome;
 ghost use Rattle.wdl_parse_expr.specs.Outcome.{Reads};
 ghost use Rattle.wdl_parse_expr.specs.declared.fault.Refusal.TheVariants.{Missing};
 ghost use Rattle.wdl_parse_expr.specs.declared.fault.Stop.TheVariants.{Refused};
@@ -79,6 +80,18 @@ pub fn comma(tokens: &mut Cursor<'_>) -> Option<Span>
     tokens.eat(Mark::Comma)
 }
 
+/// Takes the comma behind an element of a list. Only the last one may lack it, before the mark that closes the list.
+#[tactic(auto, using(std::proofs::lemmas::Grind::common_steps), unfolding(wdl_parse_expr::specs::Outcome::found, crate::specs::Reading::Parts::comma_at))]
+pub fn comma_or(tokens: &mut Cursor<'_>, close: Mark) -> Option<Span>
+    ensures { spec.comma_at tokens.old ≡ Ok (result, tokens.new) }
+{
+    let comma = tokens.eat(Mark::Comma);
+    if is_none(comma) && !tokens.sees(close) {
+        tokens.blame_next();
+    }
+    comma
+}
+
 fn is_none(comma: Option<Span>) -> bool
     ensures { result ≡ none comma }
 {
@@ -97,4 +110,24 @@ pub fn commas_fit<E>(items: &[ListItem<E>]) -> bool
         is_bare = is_none(item.comma);
     }
     true
+}
+
+/// Whether a token is that word.
+pub fn is_word(kind: &Kind, word: &str) -> bool
+    ensures { result ≡ outcome.is_word word.now kind.now }
+{
+    match kind {
+        Kind::Word(found) => found.is(word),
+        _ => false,
+    }
+}
+
+/// Whether a token begins a section of a task or a workflow.
+pub fn is_section(kind: &Kind) -> bool {
+    is_word(kind, "input")
+        || is_word(kind, "output")
+        || is_word(kind, "runtime")
+        || is_word(kind, "meta")
+        || is_word(kind, "parameter_meta")
+        || is_word(kind, "command")
 }

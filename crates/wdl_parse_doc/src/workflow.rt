@@ -9,9 +9,9 @@ use crate::declaration::{inputs, outputs};
 use crate::metadata::metadata;
 use crate::part::{Part, read_braced};
 use crate::statement::statement;
-use crate::token::{missing, take_name};
+use crate::token::{is_section, is_word, missing, take_name};
 use std::alloc::Global;
-use wdl_ast::{Mark, Workflow, WorkflowElement};
+use wdl_ast::{Kind, Mark, Workflow, WorkflowElement};
 use wdl_parse_expr::{Cursor, Stop};
 use wdl_value::Span;
 
@@ -49,6 +49,36 @@ impl Part for WorkflowElement {
         }
         Ok(Some(workflow_element(alloc, tokens)?))
     }
+
+    /// A section whose word stood before.
+    fn is_misplaced(before: &[WorkflowElement], tokens: &Cursor<'_>) -> bool {
+        match tokens.rest() {
+            [first, ..] => is_section(&first.kind) && has_section(before, &first.kind),
+            [] => false,
+        }
+    }
+}
+
+/// The word that a section begins with.
+fn word_of(element: &WorkflowElement) -> Option<&'static str> {
+    match element {
+        WorkflowElement::Input(_) => Some("input"),
+        WorkflowElement::Output(_) => Some("output"),
+        WorkflowElement::Meta(_) => Some("meta"),
+        WorkflowElement::ParameterMeta(_) => Some("parameter_meta"),
+        WorkflowElement::Statement(_) => None,
+    }
+}
+
+fn has_section(elements: &[WorkflowElement], word: &Kind) -> bool {
+    for element in elements {
+        if let Some(section) = word_of(element) {
+            if is_word(word, section) {
+                return true;
+            }
+        }
+    }
+    false
 }
 
 fn at_most_one_input(elements: &[WorkflowElement]) -> bool
