@@ -1,11 +1,8 @@
 -- Literals, names, calls, strings and what stands in brackets: what is in the grammar is read, or more than that.
-use Rattle.std.proofs.Common.{◌≡◌, ℕ, zero, suc, ◌+◌, ◌<◌, ◌≤◌, max, Bool, true, false, cond, not, ◌||◌, ◌⊎◌, inl, inr, List, [], ◌∷◌, ◌++◌, length, Option, Some, None, Ok, Err, refl, ap, sym, ◌∙◌, append_assoc, length-append, arith, nat_le, nat_lt, codes}
+use Rattle.std.proofs.Common.{◌≡◌, ℕ, zero, suc, ◌<◌, ◌≤◌, max, Bool, true, false, not, ◌⊎◌, inl, inr, List, [], ◌∷◌, ◌++◌, length, Option, Some, None, Ok, Err, refl, ap, sym, ◌∙◌, append_assoc, length-append, arith, codes}
 use Rattle.std.proofs.lemmas.List.{append-nil}
-use Rattle.std.proofs.lemmas.Bool.Decides.{nat_tests}
-use Rattle.std.proofs.lemmas.Slice.Eq.{bytes_eq-Decides}
-use Rattle.std.specs.Str.{bytes_eq}
 use Rattle.wdl_base.specs.declared.span.Span.{Span}
-use Rattle.wdl_base.specs.Names.{is_name, reserved_words}
+use Rattle.wdl_base.specs.Names.{is_name}
 use Rattle.wdl_ast.specs.declared.token.Mark.{Mark}
 use Rattle.wdl_ast.specs.declared.token.Mark.TheVariants as mark
 use Rattle.wdl_ast.specs.declared.token.Quote.{Quote}
@@ -17,30 +14,25 @@ use Rattle.wdl_ast.specs.declared.leaf.ListItem.{ListItem}
 use Rattle.wdl_ast.specs.declared.string.Placeholder.{Placeholder}
 use Rattle.wdl_ast.specs.declared.string.StringPart.{StringPart}
 use Rattle.wdl_ast.specs.declared.string.StringPart.TheVariants as part
-use Rattle.wdl_ast.specs.declared.expr.BinaryOperator.{BinaryOperator}
-use Rattle.wdl_ast.specs.declared.expr.BinaryOperator.TheVariants as op
-use Rattle.wdl_ast.specs.declared.expr.UnaryOperator.{UnaryOperator}
-use Rattle.wdl_ast.specs.declared.expr.UnaryOperator.TheVariants as pre
 use Rattle.wdl_ast.specs.declared.expr.MapEntry.{MapEntry}
 use Rattle.wdl_ast.specs.declared.expr.MemberEntry.{MemberEntry}
 use Rattle.wdl_ast.specs.declared.expr.Expr.{Expr}
 use Rattle.wdl_ast.specs.declared.expr.Expr.TheVariants as e
-use Rattle.wdl_ast.specs.Words.{Words, at, marked, keyword, ident, entry_words, member_words, items_words, options_words, part_words, parts_words, binary_mark, unary_mark, words}
+use Rattle.wdl_ast.specs.Words.{Words, at, marked, keyword, ident, entry_words, member_words, items_words, options_words, part_words, parts_words, words}
 use Rattle.wdl_ast.proofs.WordLaws.{words_true, words_false, words_none, words_int, words_str, words_name, words_call, words_group, words_pair, words_list, words_map, words_struct}
-use Rattle.wdl_parse_expr.specs.declared.fault.Fault.{Fault}
 use Rattle.wdl_parse_expr.specs.declared.fault.Refusal.TheVariants.{Missing, Bad}
 use Rattle.wdl_parse_expr.specs.declared.tall.Tall.{Tall}
 use Rattle.wdl_parse_expr.specs.declared.tall.Closed.{Closed}
 use Rattle.wdl_parse_expr.specs.declared.tall.Rule.{Rule}
 use Rattle.wdl_parse_expr.specs.declared.tall.Rule.TheVariants as rule
-use Rattle.wdl_parse_expr.specs.Outcome.{Outcome, Parser, then_, is_mark, is_hole_close, is_str_close, eat_if, eat, ident_at, tall, grown, bad}
+use Rattle.wdl_parse_expr.specs.Outcome.{Outcome, Parser, is_mark, is_hole_close, is_str_close, eat_if, eat, ident_at, tall, grown}
 use Rattle.wdl_parse_expr.specs.Forms.{left_out}
 use Rattle.wdl_parse_expr.specs.Grammar as g
 use Rattle.wdl_parse_expr.specs.Grammar.{looseness, ends_bare, Listed, IsEntry, IsMember, Parts, IsPrimary, IsPost, IsUnary, IsRule, IsWhole, IsOf, Tree}
 use Rattle.wdl_parse_expr.specs.Reading as r
 use Rattle.wdl_parse_expr.specs.Reading.{binary_of, binary_at, unary_at, list_of, option_start, options_at, chained, linked, leaf, one_more, Step, step, expr}
-use Rattle.wdl_parse_expr.specs.Contract.{is_suffix, is_below, goes_on, continues}
-use Rattle.wdl_parse_expr.proofs.Steps.{marks, ate, sees_ident, cond_true, cond_false, then_is, then_bad, attempt_is, attempt_bad, attempt_missing, found_some, found_none, grown_is}
+use Rattle.wdl_parse_expr.specs.Contract.{goes_on, continues}
+use Rattle.wdl_parse_expr.proofs.Steps.{ate, sees_ident, cond_true, cond_false, then_is, attempt_is, attempt_bad, attempt_missing, found_some, found_none, grown_is}
 use Rattle.wdl_parse_expr.proofs.Says.{said}
 use Rattle.wdl_parse_expr.proofs.Lists.{IsList, list_sound, list_is}
 use Rattle.wdl_parse_expr.proofs.Strings.{options_full}

@@ -1,42 +1,32 @@
 -- Signs, operators and choices: what is in the grammar is read, or more than that.
-use Rattle.std.proofs.Common.{◌≡◌, ℕ, zero, suc, ◌+◌, ◌<◌, ◌≤◌, max, Bool, true, false, cond, not, ◌⊎◌, inl, inr, [], ◌∷◌, ◌++◌, length, Option, Some, None, Ok, Err, refl, ap, sym, ◌∙◌, subst, append_assoc, length-append, arith, nat_le, codes}
+use Rattle.std.proofs.Common.{◌≡◌, ℕ, zero, suc, ◌+◌, ◌<◌, ◌≤◌, max, Bool, true, false, cond, inl, inr, ◌∷◌, ◌++◌, length, Option, Some, None, Ok, Err, refl, ap, sym, ◌∙◌, subst, append_assoc, length-append, arith, codes}
 use Rattle.std.proofs.Math.Nat.{le-max_left, le-max_right}
-use Rattle.std.proofs.lemmas.Bool.Decides.{nat_tests}
-use Rattle.std.specs.Str.{bytes_eq}
 use Rattle.wdl_base.specs.declared.span.Span.{Span}
-use Rattle.wdl_base.specs.Names.{is_name}
-use Rattle.wdl_ast.specs.declared.token.Mark.TheVariants as mark
-use Rattle.wdl_ast.specs.declared.token.Kind.{Kind}
-use Rattle.wdl_ast.specs.declared.token.Kind.TheVariants as kind
-use Rattle.wdl_ast.specs.declared.token.Token.{Token}
-use Rattle.wdl_ast.specs.declared.leaf.Ident.{Ident}
 use Rattle.wdl_ast.specs.declared.expr.BinaryOperator.{BinaryOperator}
-use Rattle.wdl_ast.specs.declared.expr.UnaryOperator.{UnaryOperator}
-use Rattle.wdl_ast.specs.declared.expr.UnaryOperator.TheVariants as pre
 use Rattle.wdl_ast.specs.declared.expr.Expr.{Expr}
 use Rattle.wdl_ast.specs.declared.expr.Expr.TheVariants as e
-use Rattle.wdl_ast.specs.Words.{Words, at, marked, keyword, ident, binary_mark, unary_mark, words}
-use Rattle.wdl_ast.proofs.WordLaws.{words_if, words_binary, words_unary, words_member, words_index, words_true, words_false, words_none, words_int, words_str, words_name, words_call, words_group, words_pair, words_list, words_map, words_struct}
+use Rattle.wdl_ast.specs.Words.{Words, marked, keyword, binary_mark, unary_mark, words}
+use Rattle.wdl_ast.proofs.WordLaws.{words_if, words_binary, words_unary}
 use Rattle.wdl_parse_expr.specs.declared.fault.Refusal.TheVariants.{Missing, Bad}
 use Rattle.wdl_parse_expr.specs.declared.tall.Tall.{Tall}
 use Rattle.wdl_parse_expr.specs.declared.tall.Chain.{Chain}
 use Rattle.wdl_parse_expr.specs.declared.tall.Rule.{Rule}
 use Rattle.wdl_parse_expr.specs.declared.tall.Rule.TheVariants as rule
-use Rattle.wdl_parse_expr.specs.Outcome.{Outcome, Parser, then_, attempt, is_mark, is_word, eat, eat_word, ident_at, tall, grown, bad}
+use Rattle.wdl_parse_expr.specs.Outcome.{Outcome, Parser, then_, attempt, is_word, eat_word, tall, grown}
 use Rattle.wdl_parse_expr.specs.Grammar as g
 use Rattle.wdl_parse_expr.specs.Grammar.{looseness, ends_in_choice, IsPrimary, IsPost, IsUnary, IsRule, IsWhole, IsOf, Tree}
 use Rattle.wdl_parse_expr.specs.Reading as r
 use Rattle.wdl_parse_expr.specs.Reading.{binary_at, unary_at, chained, linked, one_more, Step, step, turns, expr}
 use Rattle.wdl_parse_expr.specs.Contract.{continues}
-use Rattle.wdl_parse_expr.proofs.Steps.{ate, ate_ident, sees_ident, cond_true, cond_false, then_is, then_bad, attempt_is, attempt_bad, attempt_missing, found_some, found_none, grown_is}
+use Rattle.wdl_parse_expr.proofs.Steps.{cond_true, cond_false, then_is, then_bad, attempt_is, attempt_bad, attempt_missing, found_some, found_none, grown_is}
 use Rattle.wdl_parse_expr.proofs.Says.{Takes, said}
 use Rattle.wdl_parse_expr.proofs.Tables.{ate_binary, sees_binary, sees_unary}
 use Rattle.wdl_parse_expr.proofs.Sound.{IsSound, tall_words, Ruled, rule_sound, expr_sound}
 use Rattle.wdl_parse_expr.proofs.Choices.{ends_if, ends_binary, ends_unary}
-use Rattle.wdl_parse_expr.proofs.Begins.{begins, calm_before, Begins, Starts, binary_not_assign, unary_begins, no_assign_begins}
+use Rattle.wdl_parse_expr.proofs.Begins.{calm_before, Begins, Starts, binary_not_assign, unary_begins, no_assign_begins}
 use Rattle.wdl_parse_expr.proofs.Goes.{limit, level, Longer, AtMost, Reaches, IsFull, longer_along, longer_then, at_most_grown, at_limit, limit_more, limit_whole, operator_stops, operator_goes}
 use Rattle.wdl_parse_expr.proofs.Primaries.{inner_exact}
-use Rattle.wdl_parse_expr.proofs.Chains.{chain, first_chain, Goes, goes_at_most, Linked, Stepped, linked_along, linked_is, turns_goes, Upto, upto_reaches, no_sign, no_if, post_full, post_start, posted_begins}
+use Rattle.wdl_parse_expr.proofs.Chains.{chain, first_chain, goes_at_most, Linked, Stepped, linked_along, linked_is, turns_goes, Upto, upto_reaches, no_sign, no_if, post_full, post_start, posted_begins}
 
 module _ (In : Rule → ℕ → Expr → Type 0) (depth : ℕ) (inner : Rule → Parser (Tall Expr)) (sound : IsSound In inner) (full : IsFull In inner) (starts : (k : Rule) (n : ℕ) → Starts (In k n)) where
   -- ---- choices
