@@ -3,9 +3,9 @@ use Rattle.std.proofs.Common.{◌≡◌, ℕ, zero, suc, Bool, true, false, not,
 use Rattle.std.proofs.lemmas.Bool.{false≢true, true≢false, and_parts, and_from, or_parts, eqb-true}
 use Rattle.std.proofs.lemmas.Bool.Decides.{nat_tests}
 use Rattle.std.proofs.Math.Seq.{drop-append_seam}
-use Rattle.std.specs.Char.{is_ascii_alphabetic, is_ascii_alphanumeric}
+use Rattle.std.specs.Char.{is_ascii_alphabetic}
 use Rattle.std.specs.Option.{is_some}
-use Rattle.wdl_base.specs.Names.{is_name, is_word, is_word_from}
+use Rattle.wdl_base.specs.Names.{is_name, is_word_from}
 use Rattle.cwl_model.specs.declared.tool.Piece.{Piece}
 use Rattle.cwl_model.specs.declared.tool.Piece.TheVariants as piece
 use Rattle.cwl_model.specs.Ids.{behind}
@@ -259,7 +259,7 @@ char_read c cs (piece.InputPath name ∷ qs) h k r =
     let shut = opens_front c [] cs k in
     (ap (λ b. b && true && are_pieces (piece.InputPath name ∷ qs)) (one_plain c [] calm shut refl) ∙ r.0, ap (λ x. c ∷ x) r.1)
 
-reference_joins : (p : Piece) (qs : List Piece) → is_chars p ≡ false → is_piece p ≡ true → are_pieces qs ≡ true → are_pieces (p ∷ qs) ≡ true
+pub reference_joins : (p : Piece) (qs : List Piece) → is_chars p ≡ false → is_piece p ≡ true → are_pieces qs ≡ true → are_pieces (p ∷ qs) ≡ true
 reference_joins p qs k n h =
     ap (λ b. b && not (is_chars p && begins_with_chars qs) && are_pieces qs) n
     ∙ ap (λ b. not (b && begins_with_chars qs) && are_pieces qs) k
