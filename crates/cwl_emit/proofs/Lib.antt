@@ -1,0 +1,5 @@
+pub mod JsonViews
+pub mod Parts
+pub mod Values
+pub mod Tools
+pub mod Flows
