@@ -1,9 +1,10 @@
 -- Workflows and processes.
-use Rattle.std.proofs.Common.{◌≡◌, ℕ, Bool, true, false, cond, ◌==◌, ◌&&◌, ◌||◌, List, [], ◌∷◌, ◌++◌, map, codes, Option, Some, None, option_map, option_and_then, bytes_eq, refl, sym, ap, ◌∙◌, subst}
+use Rattle.std.proofs.Common.{◌≡◌, ℕ, Bool, true, false, cond, ◌==◌, ◌&&◌, ◌||◌, List, [], ◌∷◌, ◌++◌, map, codes, Option, Some, None, option_map, option_and_then, Result, Ok, Err, IfOk, bytes_eq, refl, sym, ap, ◌∙◌, subst}
 use Rattle.std.proofs.lemmas.Bool.{false≢true, and_parts, eqb-true}
 use Rattle.serde_json.specs.Data.{Data, null, boolean, number, string, array, object, Items, no_items, item, Members, no_members, member}
 use Rattle.serde_json.specs.Find.{get_member}
-use Rattle.serde_json.specs.View.{items_of}
+use Rattle.serde_json.specs.View.{items_of, view}
+use Rattle.serde_json.specs.declared.value.Value as json
 use Rattle.cwl_model.specs.declared.process.CwlFlow.{CwlFlow}
 use Rattle.cwl_model.specs.declared.process.CwlStep.{CwlStep}
 use Rattle.cwl_model.specs.declared.process.FlowOut.{FlowOut}
@@ -19,7 +20,7 @@ use Rattle.cwl_model.specs.declared.tool.CwlIn.{CwlIn}
 use Rattle.cwl_model.specs.declared.tool.Tool.{Tool}
 use Rattle.cwl_emit.specs.Reading.{text_of, is_text, list_of, has_names, is_member, member_of, with2, with3, with5, type_of, input_of, is_version, cut_at, link_by, link_of, flow_out, flow_out_of, wire, wire_of, step_names, mode_in, step, step_in, is_class, are_classes, are_requirements, flow_names, flow, is_flow, flow_in, tool_in, tool_or_flow, cwl_of, member_steps, steps_of, all_steps, step_of, member_run}
 use Rattle.cwl_emit.specs.Laws.{HasJson}
-use Rattle.cwl_emit.specs.Writing.{list, type_json, input_json, with_version, tool_json, link_text, link_json, flow_out_json, wire_json, mode_members, step_json, class_json, requirements_json, flow_json, process_step, process_json, steps_step, steps_json}
+use Rattle.cwl_emit.specs.Writing.{list, type_json, input_json, with_version, tool_json, link_text, link_json, flow_out_json, wire_json, mode_members, step_json, class_json, requirements_json, flow_json, step_written, process_step, process_json, with_json, steps_json}
 use Rattle.cwl_emit.proofs.Parts.{mapped, chained, chosen, inside, of_two, of_three, of_five, Is, ItemsAre, MembersAre, no_item, item_is, array_is, no_member, member_is, object_is, string_is, text_is, word_is, list_is, names_ordered, shape_of, shape_is}
 use Rattle.cwl_emit.proofs.Values.{type_is, input_is, Found, first_named, found_at, found_is}
 use Rattle.cwl_emit.proofs.Tools.{tool_is}
@@ -267,16 +268,6 @@ flow_is outermost ms f h inner =
 
 -- ---- processes
 
-abbrev with_json : CwlStep Process → CwlStep (Bool → Data)
-with_json s = record { id = s.id; wires = s.wires; outs = s.outs; run = process_json s.run; mode = s.mode }
-
-steps_fused : (ss : List (CwlStep Process)) → steps_step (map with_json ss) ≡ steps_json ss
-steps_fused ss = ap (λ xs. array (items_of xs)) (fused ss)
-  where
-    fused : (ts : List (CwlStep Process)) → map (λ (s : CwlStep (Bool → Data)). step_json s (s.run false)) (map with_json ts) ≡ map (λ (s : CwlStep Process). step_json s (process_json s.run false)) ts
-    fused [] = refl
-    fused (t ∷ ts) = ap (λ xs. step_json t (process_json t.run false) ∷ xs) (fused ts)
-
 pub tool_process : (t : Tool) (outermost : Bool) → process_json (process.Tool t) outermost ≡ tool_json outermost t
 tool_process t outermost =
     ap (λ p. process_json p outermost) (sym (process.rolls-Tool t)) ∙ ap (λ (f : Bool → Data). f outermost) (fold-roll-Process (Bool → Data) process_step (layer.Tool t))
@@ -285,7 +276,6 @@ pub flow_process : (f : CwlFlow Process) (outermost : Bool) → process_json (pr
 flow_process f outermost =
     ap (λ p. process_json p outermost) (sym (process.rolls-Flow f))
     ∙ ap (λ (g : Bool → Data). g outermost) (fold-roll-Process (Bool → Data) process_step (layer.Flow f))
-    ∙ ap (flow_json outermost f.inputs f.outputs) (steps_fused f.steps)
 
 by_kind : (outermost : Bool) (ms : Members) (p : Process) (t : Option Tool) (f : Option (CwlFlow Process)) → tool_in outermost ms ≡ t → flow_in outermost ms (member_steps ms) ≡ f → tool_or_flow t f ≡ Some p
     → ((ss : List (CwlStep Process)) → member_steps ms ≡ Some ss → Found (codes "steps") ms (steps_json ss)) → Is (object ms) (process_json p outermost)
@@ -294,9 +284,6 @@ by_kind outermost ms p None (Some f) e g h inner =
     subst (λ x. Is (object ms) (process_json x outermost)) (inside (process.Flow f) p h) (subst (Is (object ms)) (sym (flow_process f outermost)) (flow_is outermost ms f g inner))
 by_kind outermost ms p (Some t) f e g h inner =
     subst (λ x. Is (object ms) (process_json x outermost)) (inside (process.Tool t) p h) (subst (Is (object ms)) (sym (tool_process t outermost)) (tool_is outermost ms t e))
-
-abbrev step_written : CwlStep Process → Data
-step_written s = step_json s (process_json s.run false)
 
 mutual
   -- what stands for a process is what is written for it
@@ -320,12 +307,12 @@ mutual
   steps_are (array ds) ss h = array_is ds _ (all_steps_are ds ss h)
   steps_are (object ms) ss h = cc
 
-  all_steps_are : (ds : Items) (ss : List (CwlStep Process)) → all_steps ds ≡ Some ss → ItemsAre ds (items_of (map step_written ss))
-  all_steps_are no_items ss h = subst (λ xs. ItemsAre no_items (items_of (map step_written xs))) (inside [] ss h) no_item
+  all_steps_are : (ds : Items) (ss : List (CwlStep Process)) → all_steps ds ≡ Some ss → ItemsAre ds (items_of (map step_written (map with_json ss)))
+  all_steps_are no_items ss h = subst (λ xs. ItemsAre no_items (items_of (map step_written (map with_json xs)))) (inside [] ss h) no_item
   all_steps_are (item d ds) ss h =
       let p = chained (λ s. option_map (λ ts. s ∷ ts) (all_steps ds)) (step_of d) ss h in
       let q = mapped (λ ts. p.0 ∷ ts) (all_steps ds) ss p.2 in
-      subst (λ xs. ItemsAre (item d ds) (items_of (map step_written xs))) q.2 (item_is d (step_written p.0) ds (items_of (map step_written q.0)) (step_is d p.0 p.1) (all_steps_are ds q.0 q.1))
+      subst (λ xs. ItemsAre (item d ds) (items_of (map step_written (map with_json xs)))) q.2 (item_is d (step_written (with_json p.0)) ds (items_of (map step_written (map with_json q.0))) (step_is d p.0 p.1) (all_steps_are ds q.0 q.1))
 
   step_is : (d : Data) (s : CwlStep Process) → step_of d ≡ Some s → Is d (step_json s (process_json s.run false))
   step_is null s h = cc
@@ -342,3 +329,7 @@ mutual
 -- what is written for a process stands for it, where anything does
 pub stands_again : (outermost : Bool) (j : Data) (p : Process) → j ≡ process_json p outermost → HasJson outermost p → cwl_of outermost j ≡ Some p
 stands_again outermost j p is h = ap (cwl_of outermost) (is ∙ sym (process_is outermost h.0 p h.1).same) ∙ h.1
+
+pub value_stands : {E : Type 0} (r : Result json.Value E) (outermost : Bool) (p : Process) → IfOk r (λ j. view j ≡ process_json p outermost) → IfOk r (λ j. HasJson outermost p → cwl_of outermost (view j) ≡ Some p)
+value_stands (Ok j) outermost p h = stands_again outermost (view j) p h
+value_stands (Err e) outermost p h = h

@@ -4,4 +4,3 @@ pub mod Parts
 pub mod Values
 pub mod Tools
 pub mod Flows
-pub mod Formed

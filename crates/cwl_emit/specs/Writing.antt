@@ -144,15 +144,19 @@ flow_json outermost inputs outputs steps =
 
 -- ---- processes, as the outermost one or as that of a step
 
-abbrev pub steps_step : List (CwlStep (Bool → Data)) → Data
-steps_step = list (λ (s : CwlStep (Bool → Data)). step_json s (s.run false))
+abbrev pub step_written : CwlStep (Bool → Data) → Data
+step_written s = step_json s (s.run false)
 
 abbrev pub process_step : Process-F (Bool → Data) → Bool → Data
 process_step (process.Tool t) outermost = tool_json outermost t
-process_step (process.Flow f) outermost = flow_json outermost f.inputs f.outputs (steps_step f.steps)
+process_step (process.Flow f) outermost = flow_json outermost f.inputs f.outputs (list step_written f.steps)
 
 abbrev pub process_json : Process → Bool → Data
 process_json = fold-Process (Bool → Data) process_step
 
+-- the same step, whose process is what is written for it
+abbrev pub with_json : CwlStep Process → CwlStep (Bool → Data)
+with_json s = record { id = s.id; wires = s.wires; outs = s.outs; run = process_json s.run; mode = s.mode }
+
 abbrev pub steps_json : List (CwlStep Process) → Data
-steps_json = list (λ (s : CwlStep Process). step_json s (process_json s.run false))
+steps_json ss = list step_written (map with_json ss)

@@ -8,7 +8,7 @@ ghost use Rattle.cwl_emit.specs.Writing as spec;
 
 use crate::tool::tool_json;
 use crate::workflow::{flow_json, step_json};
-use cwl_model::{CwlFlow, CwlStep, Process};
+use cwl_model::{CwlStep, Process};
 use serde_json::Value as Json;
 use std::alloc::Global;
 use wdl_base::{NoMemory, Text};
@@ -19,22 +19,12 @@ fn process_json(alloc: Global, process: &Process, outermost: bool) -> Result<Jso
 {
     match process {
         Process::Tool(tool) => tool_json(alloc, tool, outermost),
-        Process::Flow(flow) => whole_flow(alloc, flow, outermost),
+        Process::Flow(flow) => {
+            let steps = steps_json(alloc, flow.steps.as_slice())?;
+            let inputs = flow.inputs.as_slice();
+            flow_json(alloc, inputs, flow.outputs.as_slice(), steps, outermost)
+        }
     }
-}
-
-#[cycle(processes)]
-fn whole_flow(alloc: Global, flow: &CwlFlow<Process>, outermost: bool) -> Result<Json, NoMemory>
-    ensures { IfOk result (λ j. view j ≡ spec.flow_json outermost flow.now.inputs flow.now.outputs (spec.steps_json flow.now.steps)) }
-{
-    let steps = steps_json(alloc, flow.steps.as_slice())?;
-    flow_json(
-        alloc,
-        flow.inputs.as_slice(),
-        flow.outputs.as_slice(),
-        steps,
-        outermost,
-    )
 }
 
 #[cycle(processes)]
@@ -56,7 +46,6 @@ fn steps_json(alloc: Global, steps: &[CwlStep<Process>]) -> Result<Json, NoMemor
 ///
 /// None stands for a process with codes that are not ascending, pieces that are not those of their text, ids with `/`,
 /// or defaults other than undefined values, Booleans, integers, strings and arrays of these.
-#[tactic(auto, using(crate::proofs::Flows::stands_again))]
 pub fn process_value(alloc: Global, process: &Process, outermost: bool) -> Result<Json, NoMemory>
     ensures value { IfOk result (λ j. HasJson outermost process.now → cwl_of outermost (view j) ≡ Some process.now) }
 {
