@@ -1,0 +1,6 @@
+pub mod JsonViews
+pub mod PlainText
+pub mod Parts
+pub mod Values
+pub mod Tools
+pub mod Flows

@@ -1,0 +1,62 @@
+//! Processes as JSON.
+
+ghost use Rattle.std.specs.Prelude.{◌≡◌, IfOk, Some, true};
+ghost use Rattle.serde_json.specs.View.{view};
+ghost use Rattle.cwl_emit.specs.Laws.{HasJson, IsText};
+ghost use Rattle.cwl_emit.specs.Reading.{cwl_of};
+ghost use Rattle.cwl_emit.specs.Writing as spec;
+
+use crate::tool::tool_json;
+use crate::workflow::{flow_json, step_json};
+use cwl_model::{CwlStep, Process};
+use serde_json::Value as Json;
+use std::alloc::Global;
+use wdl_base::{NoMemory, Text};
+
+#[cycle(processes)]
+fn process_json(alloc: Global, process: &Process, outermost: bool) -> Result<Json, NoMemory>
+    ensures { IfOk result (λ j. view j ≡ spec.process_json process.now outermost) }
+{
+    match process {
+        Process::Tool(tool) => tool_json(alloc, tool, outermost),
+        Process::Flow(flow) => {
+            let steps = steps_json(alloc, flow.steps.as_slice())?;
+            let inputs = flow.inputs.as_slice();
+            flow_json(alloc, inputs, flow.outputs.as_slice(), steps, outermost)
+        }
+    }
+}
+
+#[cycle(processes)]
+#[tactic(auto, using(crate::proofs::JsonViews::array_view))]
+fn steps_json(alloc: Global, steps: &[CwlStep<Process>]) -> Result<Json, NoMemory>
+    ensures { IfOk result (λ j. view j ≡ spec.steps_json steps.now) }
+{
+    let mut items = Vec::new(alloc);
+    for step in steps {
+        let run = process_json(alloc, &step.run, false)?;
+        items.push(step_json(alloc, step, run)?)?;
+    }
+    Ok(Json::Array(items))
+}
+
+/// The JSON value that stands for a process (CWL v1.2, CommandLineTool and Workflow), where some value does: as the
+/// outermost process, which has the member `cwlVersion`, or as that of a step. Its members are in byte order. Its time
+/// is linear but for a logarithm.
+///
+/// None stands for a process with codes that are not ascending, pieces that are not those of their text, ids with `/`,
+/// or defaults other than undefined values, Booleans, integers, strings and arrays of these.
+pub fn process_value(alloc: Global, process: &Process, outermost: bool) -> Result<Json, NoMemory>
+    ensures value { IfOk result (λ j. HasJson outermost process.now → cwl_of outermost (view j) ≡ Some process.now) }
+{
+    process_json(alloc, process, outermost)
+}
+
+/// The text of the JSON value that stands for the outermost process, members in byte order and without blanks.
+pub fn process_text(alloc: Global, process: &Process) -> Result<Text, NoMemory>
+    requires { HasJson true process.now }
+    ensures value { IfOk result (λ t. IsText process.now t) }
+{
+    let json = process_value(alloc, process, true)?;
+    Ok(Text::from_string(json.to_string(alloc)?))
+}

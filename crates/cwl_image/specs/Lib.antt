@@ -1,0 +1,2 @@
+-- Definitions of the CWL process of a checked form.
+pub mod Image
