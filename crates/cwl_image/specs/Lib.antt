@@ -1,2 +1,6 @@
--- Definitions of the CWL process of a checked form.
+-- Definitions of the CWL process of a checked form, and of the subset of checked forms that have one.
 pub mod Image
+pub mod Expressions
+pub mod Subset
+pub mod Named
+pub mod Kept
