@@ -1,41 +1,34 @@
 -- A task call and a step that runs its tool, once the inputs and the command are known.
-use Rattle.std.proofs.Common.{◌≡◌, ℕ, zero, Bool, true, false, cond, ◌&&◌, List, [], ◌∷◌, ◌++◌, map, Option, Some, None, option_and_then, Ok, Err, Contains, codes, ◌⊎◌, inl, inr, sym, ap, ◌∙◌, subst, refl}
+use Rattle.std.proofs.Common.{◌≡◌, ◌<◌, ℕ, zero, Bool, true, false, cond, ◌&&◌, List, [], ◌∷◌, ◌++◌, map, Option, Some, None, option_and_then, Ok, Err, Contains, ◌⊎◌, inl, inr, sym, ap, ◌∙◌, subst, refl}
 use Rattle.std.specs.Str.{bytes_eq}
-use Rattle.std.proofs.lemmas.Bool.{false≢true, and_from}
+use Rattle.std.proofs.lemmas.Bool.{false≢true}
 use Rattle.std.proofs.lemmas.Slice.Eq.{bytes_eq-Decides}
 use Rattle.wdl_base.specs.declared.answer.Answer.{Answer}
-use Rattle.wdl_base.specs.declared.fault.EvalCode.TheVariants.{FileMissing}
-use Rattle.wdl_base.specs.declared.name.Key.{Key}
 use Rattle.wdl_base.specs.declared.place.Segment.{Segment}
 use Rattle.wdl_value.specs.declared.env.Bind.{Bind}
-use Rattle.wdl_value.specs.declared.value.Value.{Value, Value-F, out-Value}
+use Rattle.wdl_value.specs.declared.value.Value.{Value, out-Value}
 use Rattle.wdl_value.specs.declared.value.Value.TheVariants as v
-use Rattle.wdl_value.specs.declared.value.Value.TheOpen as value
-use Rattle.wdl_value.specs.Fits.{Structs}
 use Rattle.wdl_value.specs.Outcome.{Outcome}
 use Rattle.wdl_value.specs.Tables.{answer_at}
 use Rattle.wdl_typed.specs.declared.task.TDecl.{TDecl}
 use Rattle.wdl_typed.specs.declared.task.TaskDef.{TaskDef}
-use Rattle.wdl_typed.specs.Flow.{Flowing, Known, Names, Run, attempted, attempts, bound_output, concluded, ended_call, env_of, failing_at, is_clean, missing, with_fault, with_jobs}
-use Rattle.wdl_typed.specs.Requests.{Asked, Failing, Tried, bad_status, bind, is_success, job_dir, named as called, output_met, outputs_met, request, tells, tried}
+use Rattle.wdl_typed.specs.Flow.{Flowing, Names, Run, attempted, attempts, bound_output, concluded, env_of, failing_at, missing, with_fault, with_jobs}
+use Rattle.wdl_typed.specs.Requests.{Asked, Tried, bad_status, bind, is_success, job_dir, named as called, output_met, outputs_met, request, tried}
 use Rattle.wdl_typed.specs.Scope.{lookup, same_key}
-use Rattle.cwl_model.specs.declared.tool.Origin.{Origin}
 use Rattle.cwl_model.specs.declared.tool.Tool.{Tool}
 use Rattle.cwl_model.specs.declared.tool.ToolOut.{ToolOut}
-use Rattle.cwl_model.specs.declared.ty.CwlTy.{CwlTy, fold-CwlTy, fold-roll-CwlTy}
+use Rattle.cwl_model.specs.declared.ty.CwlTy.{fold-roll-CwlTy}
 use Rattle.cwl_model.specs.declared.ty.CwlTy.TheVariants as cwl
 use Rattle.cwl_model.specs.declared.ty.CwlTy.TheOpen as type
 use Rattle.cwl_model.specs.Means as means
 use Rattle.cwl_model.specs.Means.{Ground, Meaning, Named, Test, file_at, files_at, given_outputs, has_type, named, told, tool_run, typed_at, value_at}
 use Rattle.cwl_model.proofs.Rounds.{first_is, first_or_later, later_is, none_is}
-use Rattle.cwl_image.specs.Image.{Output, call_output, type_of}
+use Rattle.cwl_image.specs.Image.{Output, call_output}
 use Rattle.cwl_laws.specs.Laws.{Agrees, Given}
+use Rattle.cwl_laws.specs.Tools.{AreStatuses, IsFile, SameOutputs, SameValue, ground_of}
 
 some_same : {A : Type 0} {x y : A} → Some x ≡ Some y → x ≡ y
 some_same h = cc
-
-abbrev pub ground_of : Run → Ground
-ground_of r = record { site = r.site; table = r.table }
 
 -- ---- what an answer tells
 
@@ -47,7 +40,8 @@ ToldAgree outs call (Ok bs) None = ⊥
 ToldAgree outs call (Err f) (Some ns) = ⊥
 
 module _ (r : Run) (n : Names) (place : List Segment) (t : TaskDef) (call : List ℕ) (a : Asked) (tool : Tool) (outs : List Output)
-    (no_retries : a.retries ≡ zero) (success : (status : ℕ) → is_success a.codes status ≡ means.is_success tool.codes status)
+    (no_retries : a.retries ≡ zero) (small : AreStatuses r.table)
+    (success : (status : ℕ) → status < 256 → is_success a.codes status ≡ means.is_success tool.codes status)
     (tell : (answer : Answer) → ToldAgree outs call (outputs_met r.library.structs (job_dir r.site place 0) answer a.env t.outputs) (files_at (ground_of r) place answer tool.outputs)) where
   abbrev One : Flowing → Flowing
   One f = with_jobs (request r.site place 0 a ∷ []) f
@@ -61,10 +55,10 @@ module _ (r : Run) (n : Names) (place : List Segment) (t : TaskDef) (call : List
   concluded_agrees (Ok bs) None h = absurd h
   concluded_agrees (Err f) (Some ns) h = absurd h
 
-  answered_agrees : (o : Option Answer) → Agrees outs (One (attempted r n place t call a 0 true (missing n) o)) (Of (told (ground_of r) tool place o))
-  answered_agrees None = record { clean = refl; jobs = λ e. absurd (false≢true e); given = λ e. absurd (false≢true e) }
-  answered_agrees (Some answer) =
-      subst (λ b. Agrees outs (One (attempted r n place t call a 0 true (missing n) (Some answer))) (Of (cond b (files_at (ground_of r) place answer tool.outputs) None))) (success answer.status)
+  answered_agrees : (o : Option Answer) → answer_at r.table place 0 ≡ o → Agrees outs (One (attempted r n place t call a 0 true (missing n) o)) (Of (told (ground_of r) tool place o))
+  answered_agrees None e = record { clean = refl; jobs = λ e. absurd (false≢true e); given = λ e. absurd (false≢true e) }
+  answered_agrees (Some answer) e =
+      subst (λ b. Agrees outs (One (attempted r n place t call a 0 true (missing n) (Some answer))) (Of (cond b (files_at (ground_of r) place answer tool.outputs) None))) (success answer.status (small place 0 answer e))
       (by_success (is_success a.codes answer.status))
     where
       by_success : (b : Bool)
@@ -78,29 +72,9 @@ module _ (r : Run) (n : Names) (place : List Segment) (t : TaskDef) (call : List
   pub attempts_agree : Agrees outs (attempts r n place t call a a.retries 0) (tool_run (ground_of r) tool place (Some a.command))
   attempts_agree =
       subst (λ k. Agrees outs (attempts r n place t call a k 0) (tool_run (ground_of r) tool place (Some a.command))) (sym no_retries)
-      (answered_agrees (answer_at r.table place 0))
+      (answered_agrees (answer_at r.table place 0) refl)
 
 -- ---- outputs one by one
-
-abbrev pub settled_file : Option Value → Outcome Value
-settled_file None = Err FileMissing
-settled_file (Some x) = Ok x
-
-abbrev IsFile : Value → Type 0
-IsFile x = (path : List ℕ) × (x ≡ v.File path)
-
--- An output of a task and one of its tool: of one name and of the type File, with the same file at every answer.
-pub record SameOutput (r : Run) (place : List Segment) (d : TDecl) (o : ToolOut) : Type 0 where
-  pub name : o.id ≡ d.name
-  pub ty : type_of d.ty ≡ cwl.File
-  pub file : (answer : Answer) (x : Value) → file_at (ground_of r) place answer o.origin ≡ Some x → IsFile x
-  pub met : (answer : Answer) (env : List Bind) → output_met r.library.structs (job_dir r.site place 0) answer env d ≡ settled_file (file_at (ground_of r) place answer o.origin)
-
-abbrev pub SameOutputs : Run → List Segment → List TDecl → List ToolOut → Type 0
-SameOutputs r place [] [] = Unit {0}
-SameOutputs r place [] (o ∷ os) = ⊥
-SameOutputs r place (d ∷ ds) [] = ⊥
-SameOutputs r place (d ∷ ds) (o ∷ os) = SameOutput r place d o × SameOutputs r place ds os
 
 file_typed : (path : List ℕ) → has_type cwl.File (v.File path) ≡ true
 file_typed path =
@@ -159,8 +133,7 @@ module _ (call : List ℕ) where
     outputs_both [] (o ∷ os) h env = absurd h
     outputs_both (d ∷ ds) [] h env = absurd h
     outputs_both (d ∷ ds) (o ∷ os) h env =
-        subst (λ (q : Outcome Value). Both (tried (called d.name q) (more env)) (files_at (ground_of r) place answer (o ∷ os))) (sym (h.0.met answer env))
-        (by_file (λ e. outputs_both ds os h.1 e) (file_at (ground_of r) place answer o.origin) refl)
+        by_file (λ e. outputs_both ds os h.1 e) (output_met r.library.structs (job_dir r.site place 0) answer env d) (file_at (ground_of r) place answer o.origin) refl (h.0.met answer env)
       where
         more : List Bind → Value → Tried (List Bind)
         more env x =
@@ -173,12 +146,15 @@ module _ (call : List ℕ) where
         joined x file (Ok bs) None a = absurd a
         joined x file (Err f) (Some ns) a = absurd a
 
-        by_file : ((e : List Bind) → Both (outputs_met r.library.structs (job_dir r.site place 0) answer e ds) (files_at (ground_of r) place answer os)) → (w : Option Value) → file_at (ground_of r) place answer o.origin ≡ w
-            → Both (tried (called d.name (settled_file w)) (more env))
-            (option_and_then (λ x. option_and_then (λ ns. Some (named o.id x ∷ ns)) (files_at (ground_of r) place answer os)) w)
-        by_file rest None e = tt
-        by_file rest (Some x) e =
-            joined x (h.0.file answer x e) (outputs_met r.library.structs (job_dir r.site place 0) answer (env ++ bind d.name x ∷ []) ds) (files_at (ground_of r) place answer os) (rest (env ++ bind d.name x ∷ []))
+        by_file : ((e : List Bind) → Both (outputs_met r.library.structs (job_dir r.site place 0) answer e ds) (files_at (ground_of r) place answer os)) → (q : Outcome Value) (w : Option Value)
+            → file_at (ground_of r) place answer o.origin ≡ w → SameValue q w
+            → Both (tried (called d.name q) (more env)) (option_and_then (λ x. option_and_then (λ ns. Some (named o.id x ∷ ns)) (files_at (ground_of r) place answer os)) w)
+        by_file rest (Err c) None e same = tt
+        by_file rest (Ok y) (Some x) e same =
+            subst (λ z. Both (more env z) (option_and_then (λ ns. Some (named o.id x ∷ ns)) (files_at (ground_of r) place answer os))) (sym same)
+            (joined x (h.0.file answer x e) (outputs_met r.library.structs (job_dir r.site place 0) answer (env ++ bind d.name x ∷ []) ds) (files_at (ground_of r) place answer os) (rest (env ++ bind d.name x ∷ [])))
+        by_file rest (Ok y) None e same = absurd same
+        by_file rest (Err c) (Some x) e same = absurd same
 
     files_ids : (os : List ToolOut) (ns : List Named) → files_at (ground_of r) place answer os ≡ Some ns → map (λ (m : Named). m.id) ns ≡ map (λ (o : ToolOut). o.id) os
     files_ids [] ns e = ap (map (λ (m : Named). m.id)) (some_same (sym e))

@@ -1,32 +1,33 @@
 -- The flow of a block.
-use Rattle.std.proofs.Common.{◌≡◌, ℕ, ◌⊎◌, inl, inr, Bool, true, false, cond, not, ◌&&◌, ◌||◌, List, [], ◌∷◌, ◌++◌, append_assoc, append-nil, map, Option, Some, None, option_and_then, Contains, sym, ap, ◌∙◌, subst, refl}
+use Rattle.std.proofs.Common.{◌≡◌, ℕ, ◌⊎◌, inl, inr, Bool, true, false, cond, not, ◌&&◌, List, [], ◌∷◌, ◌++◌, map, Option, Some, None, option_and_then, Contains, sym, ap, ◌∙◌, subst, refl}
 use Rattle.std.specs.List.{list_all}
 use Rattle.std.specs.Str.{bytes_eq}
 use Rattle.std.proofs.lemmas.Bool.{false≢true, and_from, or_parts}
 use Rattle.std.proofs.lemmas.List.Elements.{Contains-append_cases}
 use Rattle.std.proofs.lemmas.Slice.Eq.{bytes_eq-Decides}
 use Rattle.wdl_base.specs.declared.name.Key.{Key}
-use Rattle.wdl_base.specs.declared.place.Segment.{Segment}
 use Rattle.wdl_value.specs.declared.value.Value.{Value}
-use Rattle.wdl_typed.specs.Flow.{Flowing, Known, Runner, Sight, env_of, in_turn, is_clean}
+use Rattle.wdl_value.specs.Fits.{Structs}
+use Rattle.wdl_typed.specs.declared.scope.Bound.{Bound}
+use Rattle.wdl_typed.specs.Flow.{Known, Runner, Sight, env_of, in_turn, is_clean}
 use Rattle.wdl_typed.specs.Scope.{lookup, same_key}
 use Rattle.cwl_model.specs.declared.process.CwlFlow.{CwlFlow}
 use Rattle.cwl_model.specs.declared.process.CwlStep.{CwlStep}
 use Rattle.cwl_model.specs.declared.process.FlowOut.{FlowOut}
 use Rattle.cwl_model.specs.declared.process.Link.{Link}
 use Rattle.cwl_model.specs.declared.process.Link.TheVariants as link
-use Rattle.cwl_model.specs.declared.process.Process.{Process, Process-F, fold-Process, fold-roll-Process, map-Process}
+use Rattle.cwl_model.specs.declared.process.Process.{Process, fold-roll-Process}
 use Rattle.cwl_model.specs.declared.process.Process.TheVariants as process
 use Rattle.cwl_model.specs.declared.process.Process.TheOpen as layer
-use Rattle.cwl_model.specs.declared.process.Wire.{Wire}
 use Rattle.cwl_model.specs.declared.tool.CwlIn.{CwlIn}
 use Rattle.cwl_model.specs.Laws.{Apart, IsRunnable, StepsInOnePass, in_order, is_of, owned, pass_means, sources_of}
-use Rattle.cwl_model.specs.Means.{Ground, Meaning, Named, Running, all_jobs, all_taken, are_complete, are_typed, are_within, flow_gives, flow_means, given_outputs, has_type, incomplete, input_links, is_complete, is_given, known_at_last, named, or_null, output_taken, outputs_taken, process_step, running, step_gives, step_means, value_at}
-use Rattle.cwl_model.specs.Rounds.{Linked, known_value, one_pass}
+use Rattle.cwl_model.specs.Means.{Ground, Meaning, Named, Running, all_taken, are_typed, flow_gives, flow_means, given_outputs, incomplete, input_links, is_given, known_at_last, named, or_null, output_taken, outputs_taken, process_step, running, step_means, value_at}
+use Rattle.cwl_model.specs.Rounds.{Linked, known_value}
 use Rattle.cwl_model.proofs.Passes.{flows_in_one_pass}
 use Rattle.cwl_model.proofs.Rounds.{first_is, first_or_later, later_is, none_is, or_else}
 use Rattle.cwl_image.specs.Image.{Draft, Linkage, Output, Scope, block_out, block_output, body_links, body_steps, flow_process, id_of, linkage_at, linkage_of, links_of, link_or, step_of}
-use Rattle.cwl_laws.specs.Laws.{Agrees, AllDiffer, AllNew, AllSimulate, BodyAgrees, Free, Given, Shown, Shows, all_running, as_running, jobs_of}
+use Rattle.cwl_laws.specs.Laws.{Agrees, AllNew, BodyAgrees, Fit, Given, Shown, Shows, all_running, as_running}
+use Rattle.cwl_laws.specs.Premises.{AllWires, IdsDiffer, IsInner}
 use Rattle.cwl_laws.proofs.Bodies.{bodies_agree, lookup_append}
 
 none_some : {A : Type 0} {x : A} {B : Type 0} → None ≡ Some x → B
@@ -58,14 +59,6 @@ linkage_in (m ∷ scope) key l h = by_test (λ e. linkage_in scope key l e) (sam
 pub no_owner : (ss : List (CwlStep Running)) (i : List ℕ) → owned is_of ss (link.Input i) ≡ false
 no_owner [] i = refl
 no_owner (s ∷ ss) i = no_owner ss i
-
--- Each wire goes to what a reference is linked to.
-abbrev pub WiresBy : Draft → Type 0
-WiresBy d = (scope : Scope) (l : Link) → Contains (map (λ (w : Wire). w.source) (d.wires scope)) l → (key : Key) × (l ≡ link_or (linkage_at scope key))
-
-abbrev pub AllWires : List Draft → Type 0
-AllWires [] = Unit {0}
-AllWires (d ∷ ds) = WiresBy d × AllWires ds
 
 -- Nothing in the scope is an output of these steps.
 abbrev pub AllFree : Scope → List (CwlStep Running) → Type 0
@@ -132,10 +125,6 @@ module _ (g : Ground) where
           ∙ ap (λ b. cond (b && true) (Some (named (id_of l.key) x.0)) None) x.3
           ∙ ap (λ o. Some (named (id_of l.key) (or_null o))) (sym x.1)
 
-  -- No two of these references have one id.
-  abbrev IdsDiffer : List Linkage → Type 0
-  IdsDiffer ls = (a b : Linkage) → Contains ls a → Contains ls b → bytes_eq (id_of a.key) (id_of b.key) ≡ true → a.key ≡ b.key
-
   value_listed : (names : List Known) (ls : List Linkage) (l : Linkage) → ((a : Linkage) → Contains ls a → bytes_eq (id_of a.key) (id_of l.key) ≡ true → a.key ≡ l.key) → Contains ls l
       → value_at (map (output_at names) ls) (id_of l.key) ≡ Some (value_in names l.key)
   value_listed names [] l differ c = absurd (none_is l c)
@@ -172,17 +161,7 @@ module _ (g : Ground) where
   inputs_only (n ∷ ns) (link.Input i) ss o = absurd (false≢true (sym (no_owner ss i) ∙ o))
   inputs_only (n ∷ ns) (link.Out t p) ss o = inputs_only ns (link.Out t p) ss o
 
-  -- a body within a block, and what references are linked to in its flow: the flow's inputs alone
-  pub record IsInner (fs : List Runner) (ds : List Draft) (inner : Scope) : Type 0 where
-    pub all : AllSimulate g inner fs ds
-    pub differ : AllDiffer ds
-    pub wires : AllWires ds
-    pub apart : Apart is_of (all_running g (body_steps ds inner))
-    pub inputs : (l : Linkage) → Contains inner l → (i : List ℕ) × (l.link ≡ link.Input i)
-    pub ids : IdsDiffer (body_links ds)
-    pub found : (l : Linkage) → Contains (body_links ds) l → linkage_at (inner ++ body_links ds) l.key ≡ Some l
-
-  module _ (fs : List Runner) (ds : List Draft) (inner : Scope) (ins : List CwlIn) (block : IsInner fs ds inner) where
+  module _ (structs : Structs) (seen : List Bound) (fs : List Runner) (ds : List Draft) (inner : Scope) (ins : List CwlIn) (block : IsInner g structs seen fs ds inner) where
     runnable : IsRunnable (all_running g (body_steps ds inner))
     runnable =
         record {
@@ -196,9 +175,9 @@ module _ (g : Ground) where
     abbrev flow_is : CwlFlow Running
     flow_is = record { inputs = ins; outputs = map block_out (body_links ds); steps = all_running g (body_steps ds inner) }
 
-    pub block_agrees : (s : Sight) (object : List Named) → are_typed object ins ≡ true → Shows inner s.names (input_links (all_taken object ins)) → AllNew ds s.names
+    pub block_agrees : (s : Sight) (object : List Named) → are_typed object ins ≡ true → Fit structs seen s.names → Shows inner s.names (input_links (all_taken object ins)) → AllNew ds s.names
         → ((l : Linkage) → Contains (body_links ds) l → lookup (env_of s.names) l.key ≡ None) → Agrees Outputs (in_turn fs s) (flow_means flow_is false s.place object)
-    block_agrees s object typed shows new none =
+    block_agrees s object typed fit shows new none =
         subst (Agrees Outputs (in_turn fs s)) (sym (opened ∙ passed)) (by_clean (is_clean (in_turn fs s)) refl)
       where
         last : List Linked
@@ -224,8 +203,8 @@ module _ (g : Ground) where
 
         body : BodyAgrees g ds inner s.place s.names (input_links (all_taken object ins)) (in_turn fs s)
         body =
-            bodies_agree g fs ds inner s (input_links (all_taken object ins)) block.all block.differ block.apart
-            (λ l o. inputs_only (all_taken object ins) l (all_running g (body_steps ds inner)) o) new shows
+            bodies_agree g structs seen block.after fs ds inner s (input_links (all_taken object ins)) block.all block.differ block.apart
+            (λ l o. inputs_only (all_taken object ins) l (all_running g (body_steps ds inner)) o) new fit shows
 
         shown : is_clean (in_turn fs s) ≡ true → (l : Linkage) → Contains (body_links ds) l → Shown (s.names ++ (in_turn fs s).names) last l
         shown h l c =

@@ -1,25 +1,26 @@
 -- Statements in turn, and their steps in one pass.
-use Rattle.std.proofs.Common.{◌≡◌, ℕ, ◌⊎◌, inl, inr, Bool, true, false, cond, not, ◌&&◌, ◌||◌, List, [], ◌∷◌, ◌++◌, append_assoc, append-nil, map, Option, Some, None, Contains, sym, ap, ◌∙◌, subst, refl}
-use Rattle.std.specs.List.{list_any}
+use Rattle.std.proofs.Common.{◌≡◌, ℕ, ◌⊎◌, inl, inr, Bool, true, false, cond, ◌&&◌, List, [], ◌∷◌, ◌++◌, append_assoc, append-nil, map, Option, Some, None, Contains, sym, ap, ◌∙◌, subst, refl}
 use Rattle.std.specs.Str.{bytes_eq}
-use Rattle.std.proofs.lemmas.Bool.{false≢true, and_parts, and_from, or_left, or_right, or_parts}
+use Rattle.std.proofs.lemmas.Bool.{false≢true, and_parts, and_from, or_left, or_right}
 use Rattle.std.proofs.lemmas.Slice.Eq.{bytes_eq-Decides}
 use Rattle.wdl_base.specs.declared.name.Key.{Key}
 use Rattle.wdl_base.specs.declared.place.Segment.{Segment}
 use Rattle.wdl_base.specs.declared.request.Request.{Request}
 use Rattle.wdl_value.specs.declared.env.Bind.{Bind}
 use Rattle.wdl_value.specs.declared.value.Value.{Value}
-use Rattle.wdl_typed.specs.Flow.{Flowing, Known, Runner, Sight, bound_by, env_of, in_turn, is_clean, is_empty, nothing, seeing, together}
+use Rattle.wdl_value.specs.Fits.{Structs}
+use Rattle.wdl_typed.specs.declared.scope.Bound.{Bound}
+use Rattle.wdl_typed.specs.Flow.{Flowing, Known, Runner, Sight, bound_by, env_of, in_turn, is_clean, is_empty, seeing, together}
 use Rattle.wdl_typed.specs.Scope.{lookup, same_key, same_second}
 use Rattle.cwl_model.specs.declared.process.CwlStep.{CwlStep}
 use Rattle.cwl_model.specs.declared.process.Link.{Link}
 use Rattle.cwl_model.specs.declared.process.Link.TheVariants as link
 use Rattle.cwl_model.specs.Laws.{Apart, is_of, owned, pass_means}
-use Rattle.cwl_model.specs.Means.{Ground, Job, Meaning, Named, Running, all_jobs, are_complete, given_outputs, has_type, is_complete, link_of, linked, step_gives, step_means, value_at}
+use Rattle.cwl_model.specs.Means.{Ground, Named, Running, are_complete, given_outputs, has_type, is_complete, link_of, linked, step_gives, step_means, value_at}
 use Rattle.cwl_model.specs.Rounds.{Linked, known_value, one_pass, same_link}
 use Rattle.cwl_model.proofs.Rounds.{first_is, first_or_later, known_append, later_is, none_is, or_else}
 use Rattle.cwl_image.specs.Image.{Draft, Linkage, Output, Scope, body_links, body_steps, linkage_at, linkage_of, links_of, out_id, step_of}
-use Rattle.cwl_laws.specs.Laws.{Agrees, AllDiffer, AllNew, AllSimulate, BodyAgrees, Free, Given, KeysDiffer, New, NewItems, NoItems, NoKeys, Shown, Shows, Simulates, all_running, as_running, has_key, job_of, jobs_of}
+use Rattle.cwl_laws.specs.Laws.{Agrees, AllDiffer, AllNew, AllSimulate, BodyAgrees, Fit, Free, Given, KeysDiffer, New, NewItems, NoItems, NoKeys, Shown, Shows, all_running, as_running, has_key, job_of}
 
 none_some : {A : Type 0} {x : A} {B : Type 0} → None ≡ Some x → B
 none_some h = cc
@@ -261,22 +262,22 @@ module _ (g : Ground) where
   both_true a b c d e h = ap (λ x. x && b) e ∙ ap (λ x. c && x) h
 
   pub bodies_agree :
-      (fs : List Runner) (ds : List Draft) (scope : Scope) (s : Sight) (known : List Linked) → AllSimulate g scope fs ds → AllDiffer ds
-      → Apart is_of (all_running g (body_steps ds scope)) → Free (all_running g (body_steps ds scope)) known → AllNew ds s.names → Shows scope s.names known
+      (structs : Structs) (seen after : List Bound) (fs : List Runner) (ds : List Draft) (scope : Scope) (s : Sight) (known : List Linked) → AllSimulate g structs seen scope fs ds after → AllDiffer ds
+      → Apart is_of (all_running g (body_steps ds scope)) → Free (all_running g (body_steps ds scope)) known → AllNew ds s.names → Fit structs seen s.names → Shows scope s.names known
       → BodyAgrees g ds scope s.place s.names known (in_turn fs s)
-  bodies_agree [] [] scope s known all differ apart free new shows =
+  bodies_agree structs seen after [] [] scope s known all differ apart free new fit shows =
       record {
         clean = refl;
         jobs = λ h. refl;
         shows = λ h. subst (λ (z : Scope). Shows z (s.names ++ []) known) (sym (append-nil scope)) (subst (λ (z : List Known). Shows scope z known) (sym (append-nil s.names)) shows);
       }
-  bodies_agree [] (d ∷ ds) scope s known all differ apart free new shows = absurd all
-  bodies_agree (f ∷ fs) [] scope s known all differ apart free new shows = absurd all
-  bodies_agree (f ∷ fs) (d ∷ ds) scope s known all differ apart free new shows =
+  bodies_agree structs seen after [] (d ∷ ds) scope s known all differ apart free new fit shows = absurd all
+  bodies_agree structs seen after (f ∷ fs) [] scope s known all differ apart free new fit shows = absurd all
+  bodies_agree structs seen after (f ∷ fs) (d ∷ ds) scope s known all differ apart free new fit shows =
       by_clean (is_clean (f s)) refl
-      (λ shows. bodies_agree fs ds (scope ++ links_of d) (seeing s (f s)) (known ++ step_gives s.place known (as_running g (step_of d scope))) all.1 differ.1 apart.1
+      (λ shows. bodies_agree structs (seen ++ all.0) after fs ds (scope ++ links_of d) (seeing s (f s)) (known ++ step_gives s.place known (as_running g (step_of d scope))) all.3 differ.1 apart.1
       (free_later s.place (as_running g (step_of d scope)) (all_running g (body_steps ds (scope ++ links_of d))) known apart free)
-      (all_new_more ds d.outs s.names (f s).names (all.0.own s) differ.0 new.1) shows)
+      (all_new_more ds d.outs s.names (f s).names (all.2.own s) differ.0 new.1) (all.1.fit s fit) shows)
     where
       step : CwlStep Running
       step = as_running g (step_of d scope)
@@ -285,7 +286,7 @@ module _ (g : Ground) where
       later = all_running g (body_steps ds (scope ++ links_of d))
 
       first : Agrees d.outs (f s) (step_means s.place known step)
-      first = all.0.agrees s known shows new.0.0 new.0.1
+      first = all.2.agrees s known fit shows new.0.0 new.0.1
 
       then : List Linked
       then = known ++ step_gives s.place known step
@@ -324,3 +325,13 @@ module _ (g : Ground) where
             jobs = λ h. absurd (false≢true (sym stops ∙ h));
             shows = λ h. absurd (false≢true (sym stops ∙ h));
           }
+
+-- What statements give in turn fits.
+pub turn_fit : (g : Ground) (structs : Structs) (seen after : List Bound) (fs : List Runner) (ds : List Draft) (scope : Scope) (s : Sight) → AllSimulate g structs seen scope fs ds after → Fit structs seen s.names
+    → Fit structs after (s.names ++ (in_turn fs s).names)
+turn_fit g structs seen after [] [] scope s all fit = subst (λ (bs : List Bound). Fit structs bs (s.names ++ [])) all (subst (Fit structs seen) (sym (append-nil s.names)) fit)
+turn_fit g structs seen after [] (d ∷ ds) scope s all fit = absurd all
+turn_fit g structs seen after (f ∷ fs) [] scope s all fit = absurd all
+turn_fit g structs seen after (f ∷ fs) (d ∷ ds) scope s all fit =
+    subst (Fit structs after) (append_assoc s.names (f s).names (in_turn fs (seeing s (f s))).names)
+    (turn_fit g structs (seen ++ all.0) after fs ds (scope ++ links_of d) (seeing s (f s)) all.3 (all.1.fit s fit))

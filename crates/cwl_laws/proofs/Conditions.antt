@@ -1,44 +1,44 @@
 -- Conditions and steps with `when`.
-use Rattle.std.proofs.Common.{◌≡◌, ℕ, nat_le, ◌⊎◌, inl, inr, Bool, true, false, cond, ◌&&◌, ◌||◌, List, [], ◌∷◌, ◌++◌, map, Option, Some, None, option_and_then, Ok, Err, Contains, codes, decimal, sym, ap, ◌∙◌, subst, refl}
-use Rattle.std.specs.List.{list_any}
+use Rattle.std.proofs.Common.{◌≡◌, ℕ, nat_le, ◌⊎◌, inl, inr, Bool, true, false, cond, ◌||◌, List, [], ◌∷◌, ◌++◌, map, Option, Some, None, option_and_then, Ok, Err, Contains, sym, ap, ◌∙◌, subst, refl}
 use Rattle.std.specs.Str.{bytes_eq}
 use Rattle.std.proofs.lemmas.Bool.{false≢true, and_from, or_parts}
 use Rattle.std.proofs.lemmas.Slice.Eq.{bytes_eq-Decides}
-use Rattle.wdl_base.specs.declared.fault.EvalCode.{EvalCode}
 use Rattle.wdl_base.specs.declared.fault.EvalCode.TheVariants.{TooLarge}
 use Rattle.wdl_base.specs.declared.name.Key.{Key}
 use Rattle.wdl_base.specs.declared.place.Segment.{Segment}
 use Rattle.wdl_base.specs.declared.place.Segment.TheVariants as segment
-use Rattle.wdl_value.specs.declared.env.Bind.{Bind}
-use Rattle.wdl_value.specs.declared.value.Value.{Value, Value-F, out-Value, roll-Value, roll-out-Value, fold-Value, fold-roll-Value}
+use Rattle.wdl_value.specs.declared.ty.Ty.{fold-roll-Ty}
+use Rattle.wdl_value.specs.declared.ty.Ty.TheVariants as ty
+use Rattle.wdl_value.specs.declared.ty.Ty.TheOpen as shape
+use Rattle.wdl_value.specs.declared.value.Value.{Value, Value-F, out-Value, roll-Value, roll-out-Value, fold-roll-Value}
 use Rattle.wdl_value.specs.declared.value.Value.TheVariants as v
 use Rattle.wdl_value.specs.declared.value.Value.TheOpen as value
+use Rattle.wdl_value.specs.Fits.{Structs}
 use Rattle.wdl_value.specs.Limits.{is_short, is_within, limited, short_step}
 use Rattle.wdl_value.specs.Outcome.{Outcome}
 use Rattle.wdl_value.specs.Size.{size, size_step}
 use Rattle.wdl_value.specs.Parts.{bool_at, bool_in}
 use Rattle.wdl_typed.specs.declared.expr.TExpr.{TExpr}
+use Rattle.wdl_typed.specs.declared.scope.Bound.{Bound}
 use Rattle.wdl_typed.specs.Evaluation.{value_of}
-use Rattle.wdl_typed.specs.Flow.{Flowing, Known, Names, Runner, Sight, all_known, chosen, conditional, each_key, env_of, giving, if_run, in_turn, inside, is_clean, missing, seeing, with_count}
+use Rattle.wdl_typed.specs.Flow.{Flowing, Known, Names, Runner, Sight, all_known, chosen, conditional, each_key, env_of, if_run, in_turn, inside, missing, seeing, with_count}
 use Rattle.wdl_typed.specs.Requests.{before}
 use Rattle.wdl_typed.specs.Scope.{lookup, same_key, same_second}
 use Rattle.cwl_model.specs.declared.process.CwlFlow.{CwlFlow}
-use Rattle.cwl_model.specs.declared.process.CwlStep.{CwlStep}
 use Rattle.cwl_model.specs.declared.process.Mode.TheVariants as mode
-use Rattle.cwl_model.specs.declared.process.Link.{Link}
 use Rattle.cwl_model.specs.declared.process.Link.TheVariants as link
 use Rattle.cwl_model.specs.declared.tool.CwlIn.{CwlIn}
-use Rattle.cwl_model.specs.declared.ty.CwlTy.{CwlTy, CwlTy-F, out-CwlTy, roll-CwlTy, roll-out-CwlTy, fold-CwlTy, fold-roll-CwlTy}
+use Rattle.cwl_model.specs.declared.ty.CwlTy.{CwlTy, CwlTy-F, out-CwlTy, roll-CwlTy, roll-out-CwlTy, fold-roll-CwlTy}
 use Rattle.cwl_model.specs.declared.ty.CwlTy.TheVariants as cwl
 use Rattle.cwl_model.specs.declared.ty.CwlTy.TheOpen as type
-use Rattle.cwl_model.specs.Ids.{segment_of}
-use Rattle.cwl_model.specs.Means.{Ground, Meaning, Named, Running, Test, all_taken, are_typed, each_null, flow_means, given_or, given_outputs, has_type, incomplete, input_links, is_complete, mode_means, named, or_null, running, step_means, taken, typed_at, value_at, when_means, wired, wired_means}
+use Rattle.cwl_model.specs.Means.{Ground, Named, Running, Test, all_taken, are_typed, each_null, flow_means, given_or, given_outputs, has_type, input_links, mode_means, named, or_null, step_means, taken, typed_at, value_at, when_means, wired, wired_means}
 use Rattle.cwl_model.specs.Rounds.{Linked, known_value}
 use Rattle.cwl_model.proofs.Rounds.{first_is, first_or_later, later_is, none_is, or_else}
-use Rattle.cwl_image.specs.Image.{Draft, Linkage, Output, Scope, block_out, block_output, body_items, body_links, body_steps, id_of, if_draft, inner_scope, input_of, linkage_at, linkage_of, links_of, link_or, null_at, null_type, out_id, outer_uses, outer_wire, reference, step_of, type_or, when_input, wire_to}
-use Rattle.cwl_laws.specs.Laws.{Agrees, AllNew, AllSimulate, Given, New, NewItems, Shown, Shows, Simulates, all_running, as_running, has_key, jobs_of}
-use Rattle.cwl_laws.proofs.Blocks.{IsInner, block_agrees, running_flow}
-use Rattle.cwl_laws.proofs.Bodies.{key_same, lookup_append}
+use Rattle.cwl_image.specs.Image.{Draft, Linkage, Output, Scope, block_out, block_output, body_items, body_links, body_steps, id_of, if_draft, inner_scope, input_of, linkage_of, links_of, null_at, null_type, out_id, outer_uses, outer_wire, reference, step_of, type_of, type_step, when_input, wire_to}
+use Rattle.cwl_laws.specs.Laws.{Agrees, AllNew, AllSimulate, Fit, FitsAt, Given, New, NewItems, Shows, Simulates, all_running, as_running, has_key}
+use Rattle.cwl_laws.specs.Premises.{IsCondition, when_id}
+use Rattle.cwl_laws.proofs.Blocks.{block_agrees, running_flow}
+use Rattle.cwl_laws.proofs.Bodies.{lookup_append}
 use Rattle.cwl_laws.proofs.Objects.{IsSeen, given_same, inner_shows, is_seen, keys_known, keys_typed, value_in, value_under, wired_keys}
 
 none_some : {A : Type 0} {x : A} {B : Type 0} → None ≡ Some x → B
@@ -51,7 +51,7 @@ null_is t x =
     ap (λ u. has_type u x) (sym (cwl.rolls-Null t))
     ∙ ap (λ (p : Test). p x) (fold-roll-CwlTy Test (λ t x. typed_at t x (out-Value x)) (type.Null t))
 
-bool_is : (x : Value) → has_type cwl.Bool x ≡ typed_at type.Bool x (out-Value x)
+pub bool_is : (x : Value) → has_type cwl.Bool x ≡ typed_at type.Bool x (out-Value x)
 bool_is x =
     ap (λ u. has_type u x) (sym cwl.rolls-Bool)
     ∙ ap (λ (p : Test). p x) (fold-roll-CwlTy Test (λ t x. typed_at t x (out-Value x)) type.Bool)
@@ -63,14 +63,14 @@ a_bool x h = by_layer (out-Value x) refl (sym (bool_is x) ∙ h)
     by_layer (value.Bool b) e h = (b, sym (roll-out-Value x) ∙ ap roll-Value e ∙ v.rolls-Bool b)
     by_layer y e h = absurd (false≢true h)
 
-null_takes : (t : CwlTy) (x : Value) → has_type t x ≡ true → has_type (cwl.Null t) x ≡ true
+pub null_takes : (t : CwlTy) (x : Value) → has_type t x ≡ true → has_type (cwl.Null t) x ≡ true
 null_takes t x h = null_is t x ∙ by_layer (out-Value x)
   where
     by_layer : (y : Value-F Value) → typed_at (type.Null (has_type t)) x y ≡ true
     by_layer value.Absent = refl
     by_layer y = h
 
-absent_at : (t : CwlTy) → has_type (cwl.Null t) v.Absent ≡ true
+pub absent_at : (t : CwlTy) → has_type (cwl.Null t) v.Absent ≡ true
 absent_at t = null_is t v.Absent ∙ ap (typed_at (type.Null (has_type t)) v.Absent) v.outs-Absent
 
 null_typed : (t : CwlTy) (x : Value) → has_type t x ≡ true → has_type (null_type t) x ≡ true
@@ -130,17 +130,17 @@ key_split f step (o ∷ os) ls key h =
     or_both : (a b : Bool) → a ≡ false → b ≡ false → (a || b) ≡ false
     or_both a b h k = ap (λ x. x || b) h ∙ k
 
-pub turn_own : (g : Ground) (f : CwlTy → CwlTy) (fs : List Runner) (ds : List Draft) (scope : Scope) (s : Sight) → AllSimulate g scope fs ds → (key : Key)
+pub turn_own : (g : Ground) (structs : Structs) (seen after : List Bound) (f : CwlTy → CwlTy) (fs : List Runner) (ds : List Draft) (scope : Scope) (s : Sight) → AllSimulate g structs seen scope fs ds after → (key : Key)
     → has_key (map (block_output f) (body_links ds)) key ≡ false → lookup (env_of (in_turn fs s).names) key ≡ None
-turn_own g f [] [] scope s all key h = refl
-turn_own g f [] (d ∷ ds) scope s all key h = absurd all
-turn_own g f (r ∷ fs) [] scope s all key h = absurd all
-turn_own g f (r ∷ fs) (d ∷ ds) scope s all key h =
+turn_own g structs seen after f [] [] scope s all key h = refl
+turn_own g structs seen after f [] (d ∷ ds) scope s all key h = absurd all
+turn_own g structs seen after f (r ∷ fs) [] scope s all key h = absurd all
+turn_own g structs seen after f (r ∷ fs) (d ∷ ds) scope s all key h =
     let p = key_split f d.id d.outs (body_links ds) key h in
     let next = seeing s (r s) in
     lookup_append (r s).names (in_turn fs next).names key
-    ∙ ap (λ o. or_else o (lookup (env_of (in_turn fs next).names) key)) (all.0.own s key p.0)
-    ∙ turn_own g f fs ds (scope ++ links_of d) next all.1 key p.1
+    ∙ ap (λ o. or_else o (lookup (env_of (in_turn fs next).names) key)) (all.2.own s key p.0)
+    ∙ turn_own g structs (seen ++ all.0) after f fs ds (scope ++ links_of d) next all.3 key p.1
 
 pub each_missing : (ks : List Key) (key : Key) → lookup (env_of (each_key None ks)) key ≡ None
 each_missing [] key = refl
@@ -196,11 +196,8 @@ nulls_given all (l ∷ ls) keys ids = (
 
 -- ---- conditions
 
--- an expression of the subset: it has the value of what it refers to, within the limits
-pub record Reads (e : TExpr) (key : Key) : Type 0 where
-  pub refers : reference e ≡ Some key
-  pub known : (names : List Known) (x : Value) → lookup (env_of names) key ≡ Some x → all_known names e ≡ true
-  pub value : (env : List Bind) (x : Value) → lookup env key ≡ Some x → value_of (before env) e ≡ limited x
+bool_type : type_of ty.Bool ≡ cwl.Bool
+bool_type = ap type_of (sym ty.rolls-Bool) ∙ fold-roll-Ty CwlTy type_step shape.Bool
 
 bool_limited : (b : Bool) → limited (v.Bool b) ≡ Ok (v.Bool b)
 bool_limited b = ap (λ w. cond w (Ok (v.Bool b)) (Err TooLarge)) (within b)
@@ -211,21 +208,8 @@ bool_limited b = ap (λ w. cond w (Ok (v.Bool b)) (Err TooLarge)) (within b)
         (ap (λ n. nat_le n 4194304) (ap size (sym (v.rolls-Bool b)) ∙ fold-roll-Value ℕ size_step (value.Bool b)))
         (ap is_short (sym (v.rolls-Bool b)) ∙ fold-roll-Value Bool short_step (value.Bool b))
 
-abbrev pub when_id : List ℕ
-when_id = codes "_when"
-
--- a condition whose body's statements agree with their steps
-pub record IsCondition (g : Ground) (scope : Scope) (n : Names) (fs : List Runner) (k : ℕ) (e : TExpr) (key : Key) (ds : List Draft) : Type 0 where
-  pub inner : IsInner g fs ds (inner_scope scope (outer_uses [] ds))
-  pub used : (j : Key) → Contains (outer_uses [] ds) j → (l : Linkage) × (linkage_at scope j ≡ Some l)
-  pub ids : (a b : Key) → Contains (outer_uses [] ds) a → Contains (outer_uses [] ds) b → bytes_eq (id_of a) (id_of b) ≡ true → a ≡ b
-  pub apart : (a : Key) → Contains (outer_uses [] ds) a → bytes_eq when_id (id_of a) ≡ false
-  pub reads : Reads e key
-  pub source : (l : Linkage) × (linkage_at scope key ≡ Some l) × (l.ty ≡ cwl.Bool)
-  pub place : segment_of (codes "if-" ++ decimal k) ≡ segment.If k
-  pub keys : n.keys ≡ map (λ (l : Linkage). l.key) (body_links ds)
-
-module _ (g : Ground) (scope : Scope) (n : Names) (fs : List Runner) (m k : ℕ) (e : TExpr) (key : Key) (ds : List Draft) (is : IsCondition g scope n fs k e key ds) where
+module _ (g : Ground) (structs : Structs) (bounds : List Bound) (scope : Scope) (n : Names) (fs : List Runner) (m k : ℕ) (e : TExpr) (key : Key) (ds : List Draft)
+    (is : IsCondition g structs bounds scope n fs k e key ds) where
   abbrev Body : Runner
   Body s = with_count m (in_turn fs s)
 
@@ -235,7 +219,7 @@ module _ (g : Ground) (scope : Scope) (n : Names) (fs : List Runner) (m k : ℕ)
   -- ---- names
 
   chosen_own : (s : Sight) (b : Bool) (j : Key) → has_key Outs j ≡ false → lookup (env_of (chosen n Body s k b).names) j ≡ None
-  chosen_own s true j h = turn_own g null_type fs ds (inner_scope scope (outer_uses [] ds)) (inside s (segment.If k)) is.inner.all j h
+  chosen_own s true j h = turn_own g structs bounds is.inner.after null_type fs ds (inner_scope scope (outer_uses [] ds)) (inside s (segment.If k)) is.inner.all j h
   chosen_own s false j h = ap (λ ks. lookup (env_of (each_key (Some v.Absent) ks)) j) is.keys ∙ each_other null_type (body_links ds) v.Absent j h
 
   outcome_own : (s : Sight) (o : Outcome Value) (j : Key) → has_key Outs j ≡ false → lookup (env_of (conditional n Body s k o).names) j ≡ None
@@ -251,7 +235,7 @@ module _ (g : Ground) (scope : Scope) (n : Names) (fs : List Runner) (m k : ℕ)
 
   -- ---- the step
 
-  module _ (s : Sight) (known : List Linked) (shows : Shows scope s.names known) (new : New Outs s.names) (items : NewItems (body_items ds) s.names) where
+  module _ (s : Sight) (known : List Linked) (fit : Fit structs bounds s.names) (shows : Shows scope s.names known) (new : New Outs s.names) (items : NewItems (body_items ds) s.names) where
     seen : (j : Key) → Contains (outer_uses [] ds) j → IsSeen scope s.names known j
     seen j c = let r = is.used j c in is_seen scope s.names known shows j r.0 r.1
 
@@ -307,7 +291,7 @@ module _ (g : Ground) (scope : Scope) (n : Names) (fs : List Runner) (m k : ℕ)
 
         inside_agrees : Agrees (map (block_output (λ t. t)) (body_links ds)) (in_turn fs (inside s (segment.If k))) (flow_means flow_process_is false place object)
         inside_agrees =
-            block_agrees g fs ds (inner_scope scope (outer_uses [] ds)) ins is.inner (inside s (segment.If k)) object typed
+            block_agrees g structs bounds fs ds (inner_scope scope (outer_uses [] ds)) ins is.inner (inside s (segment.If k)) object typed fit
             (inner_shows scope s.names known (outer_uses [] ds) seen is.ids (input_links (all_taken object ins)) inner_known)
             (all_new null_type ds s.names new items) (new_link null_type (body_links ds) s.names new)
 
@@ -321,10 +305,13 @@ module _ (g : Ground) (scope : Scope) (n : Names) (fs : List Runner) (m k : ℕ)
             }
 
     if_agrees : Agrees Outs (if_run n Body k e s) (step_means s.place known (as_running g (step_of (if_draft k e ds) scope)))
-    if_agrees = by_bool (a_bool (value_in s.names key) (sym (ap (λ t. has_type t (value_in s.names key)) (ap type_or is.source.1 ∙ is.source.2)) ∙ cond_seen.ty))
+    if_agrees = by_bool (a_bool (value_in s.names key) (sym (ap (λ t. has_type t (value_in s.names key)) bool_type) ∙ is.reads.typed (value_in s.names key) cond_fit))
       where
         cond_seen : IsSeen scope s.names known key
         cond_seen = is_seen scope s.names known shows key is.source.0 is.source.1
+
+        cond_fit : FitsAt structs bounds key (value_in s.names key)
+        cond_fit = fit key (value_in s.names key) cond_seen.name
 
         wires_are : wired known (wire_to scope when_id (reference e) ++ map (outer_wire scope) (outer_uses [] ds))
             ≡ Some (named when_id (value_in s.names key) ∷ map (λ j. named (id_of j) (value_in s.names j)) (outer_uses [] ds))
@@ -341,7 +328,7 @@ module _ (g : Ground) (scope : Scope) (n : Names) (fs : List Runner) (m k : ℕ)
             let b = r.0 in
             let run_is : if_run n Body k e s ≡ chosen n Body s k b =
             ap (λ w. cond w (conditional n Body s k (value_of (before (env_of s.names)) e)) (missing n)) (is.reads.known s.names (value_in s.names key) cond_seen.name)
-            ∙ ap (conditional n Body s k) (is.reads.value (env_of s.names) (value_in s.names key) cond_seen.name ∙ ap limited r.1 ∙ bool_limited b)
+            ∙ ap (conditional n Body s k) (is.reads.value (env_of s.names) (value_in s.names key) cond_fit cond_seen.name ∙ ap limited r.1 ∙ bool_limited b)
             ∙ ap (λ (y : Value-F Value). chosen n Body s k (bool_at y)) (v.outs-Bool b) in
             let means_is : step_means s.place known (as_running g (step_of (if_draft k e ds) scope))
             ≡ when_means (as_running g (step_of (if_draft k e ds) scope)) (s.place ++ segment.If k ∷ []) (named when_id (v.Bool b) ∷ map (λ j. named (id_of j) (value_in s.names j)) (outer_uses [] ds)) (value.Bool b) =
@@ -353,5 +340,5 @@ module _ (g : Ground) (scope : Scope) (n : Names) (fs : List Runner) (m k : ℕ)
             subst (λ (f : Flowing). Agrees Outs f (step_means s.place known (as_running g (step_of (if_draft k e ds) scope)))) (sym run_is)
             (subst (Agrees Outs (chosen n Body s k b)) (sym means_is) (chosen_agrees b))
 
-  pub if_simulates : Simulates g scope (if_run n Body k e) (if_draft k e ds)
+  pub if_simulates : Simulates g structs bounds scope (if_run n Body k e) (if_draft k e ds)
   if_simulates = record { own = if_own; agrees = if_agrees }

@@ -1,23 +1,20 @@
 -- What the outputs of a task of the subset are: its standard output, or a file by its name.
-use Rattle.std.proofs.Common.{◌≡◌, ◌≢◌, ℕ, zero, ◌==◌, Bool, true, false, cond, not, ◌&&◌, ◌||◌, List, [], ◌∷◌, ◌++◌, append_assoc, append-nil, map, Option, Some, None, Ok, Err, codes, sym, ap, ◌∙◌, subst, refl}
+use Rattle.std.proofs.Common.{◌≡◌, ℕ, ◌==◌, nat_le, Bool, true, false, cond, not, ◌&&◌, ◌||◌, List, [], ◌∷◌, ◌++◌, append_assoc, append-nil, Some, None, Ok, Err, codes, sym, ap, ◌∙◌, subst, refl}
 use Rattle.std.specs.List.{list_any}
 use Rattle.std.specs.Option.{unwrap_or}
 use Rattle.std.specs.Str.{bytes_eq}
 use Rattle.std.proofs.lemmas.Bool.{false≢true, and_from, and_parts, or_parts}
 use Rattle.std.proofs.lemmas.Slice.Eq.{bytes_eq-Decides}
 use Rattle.wdl_base.specs.declared.answer.Answer.{Answer}
-use Rattle.wdl_base.specs.declared.body.Body.{Body}
 use Rattle.wdl_base.specs.declared.body.Seen.{Seen}
 use Rattle.wdl_base.specs.declared.fault.EvalCode.TheVariants.{FileMissing, TooLarge}
-use Rattle.wdl_base.specs.declared.name.Key.{Key}
 use Rattle.wdl_base.specs.declared.place.Segment.{Segment}
 use Rattle.wdl_base.specs.Places.{place_text}
 use Rattle.wdl_value.specs.declared.env.Bind.{Bind}
 use Rattle.wdl_value.specs.declared.operator.Func.TheVariants as func
-use Rattle.wdl_value.specs.declared.ty.Ty.{Ty, Ty-F, out-Ty}
+use Rattle.wdl_value.specs.declared.ty.Ty.{out-Ty}
 use Rattle.wdl_value.specs.declared.ty.Ty.TheVariants as ty
-use Rattle.wdl_value.specs.declared.ty.Ty.TheOpen as type
-use Rattle.wdl_value.specs.declared.value.Value.{Value, Value-F, fold-Value, fold-roll-Value, map-Value, out-Value}
+use Rattle.wdl_value.specs.declared.value.Value.{Value, fold-roll-Value, map-Value}
 use Rattle.wdl_value.specs.declared.value.Value.TheVariants as v
 use Rattle.wdl_value.specs.declared.value.Value.TheOpen as value
 use Rattle.wdl_value.specs.Bare.{bare, is_optional}
@@ -25,9 +22,10 @@ use Rattle.wdl_value.specs.Cast.{Caster, cast, cast_at}
 use Rattle.wdl_value.specs.CastOut.{cast_out}
 use Rattle.wdl_value.specs.Files.{begins_at_root, left_body, local_name, seen_body, stripped, without_points}
 use Rattle.wdl_value.specs.Fits.{Structs}
-use Rattle.wdl_value.specs.Limits.{is_within, limited}
+use Rattle.wdl_value.specs.Limits.{is_short, is_within, limited, short_step}
 use Rattle.wdl_value.specs.Outcome.{Outcome, and_then}
-use Rattle.wdl_typed.specs.declared.expr.TExpr.{TExpr, fold-roll-TExpr}
+use Rattle.wdl_value.specs.Size.{size, size_step}
+use Rattle.wdl_typed.specs.declared.expr.TExpr.{fold-roll-TExpr}
 use Rattle.wdl_typed.specs.declared.expr.TExpr.TheVariants as e
 use Rattle.wdl_typed.specs.declared.expr.TExpr.TheOpen as layer
 use Rattle.wdl_typed.specs.Evaluation.{Met, Setting, from_cast, met, settled, then_, value_met, value_of, value_step}
@@ -35,7 +33,7 @@ use Rattle.wdl_typed.specs.KnownTypes.{is_some}
 use Rattle.wdl_typed.specs.Requests.{Lander, after, is_outside, job_dir, land_at, landed, landed_file, missing_file}
 use Rattle.cwl_model.specs.declared.tool.Origin.TheVariants as origin
 use Rattle.cwl_model.specs.Means.{Ground, file_at, has_file, job_path}
-use Rattle.cwl_laws.proofs.Attempts.{settled_file}
+use Rattle.cwl_laws.specs.Tools.{SameValue}
 
 -- ---- numbers
 
@@ -104,14 +102,32 @@ stdout_landed structs dir answer =
     local : local_name dir (dir ++ 47 ∷ codes "_stdout") ≡ codes "_stdout"
     local = ap (λ o. unwrap_or o (without_points (dir ++ 47 ∷ codes "_stdout"))) front
 
-pub stdout_met : (structs : Structs) (g : Ground) (place : List Segment) (answer : Answer) (env : List Bind) → is_within (v.File (job_path g place (codes "_stdout"))) ≡ true
-    → and_then (value_of (after env (job_dir g.site place 0) answer) (e.Apply func.Stdout [])) (λ x. landed structs (job_dir g.site place 0) answer x ty.File)
-    ≡ settled_file (file_at g place answer origin.Stdout)
-stdout_met structs g place answer env h =
-    ap (λ o. and_then o (λ x. landed structs (job_dir g.site place 0) answer x ty.File))
-    (stdout_value env (job_dir g.site place 0) answer (ap (λ p. is_within (v.File p)) (job_path_is g place (codes "_stdout")) ∙ h))
-    ∙ stdout_landed structs (job_dir g.site place 0) answer
-    ∙ ap (λ p. Ok (v.File p)) (job_path_is g place (codes "_stdout"))
+past_limit : (x : Value) → is_within x ≡ false → limited x ≡ Err TooLarge
+past_limit x h = ap (λ b. cond b (Ok x) (Err TooLarge)) h
+
+stdout_past : (env : List Bind) (dir : List ℕ) (answer : Answer) → is_within (Stdout dir) ≡ false → value_of (after env dir answer) (e.Apply func.Stdout []) ≡ Err TooLarge
+stdout_past env dir answer h =
+    ap (value_of (after env dir answer)) (sym (e.rolls-Apply func.Stdout []))
+    ∙ ap settled (fold-roll-TExpr (Met Value) (value_step (after env dir answer)) (layer.Apply func.Stdout []))
+    ∙ ap (λ (o : Outcome Value). settled (then_ (met o) (λ x. met (limited x)))) (past_limit (Stdout dir) h)
+
+-- The standard output is the file of that name in the job's directory, within the limits.
+pub stdout_met : (structs : Structs) (g : Ground) (place : List Segment) (answer : Answer) (env : List Bind)
+    → SameValue (and_then (value_of (after env (job_dir g.site place 0) answer) (e.Apply func.Stdout [])) (λ x. landed structs (job_dir g.site place 0) answer x ty.File)) (file_at g place answer origin.Stdout)
+stdout_met structs g place answer env = by_limit (is_within (v.File (job_path g place (codes "_stdout")))) refl
+  where
+    same : is_within (Stdout (job_dir g.site place 0)) ≡ is_within (v.File (job_path g place (codes "_stdout")))
+    same = ap (λ p. is_within (v.File p)) (job_path_is g place (codes "_stdout"))
+
+    by_limit : (b : Bool) → is_within (v.File (job_path g place (codes "_stdout"))) ≡ b
+        → SameValue (and_then (value_of (after env (job_dir g.site place 0) answer) (e.Apply func.Stdout [])) (λ x. landed structs (job_dir g.site place 0) answer x ty.File)) (cond b (Some (v.File (job_path g place (codes "_stdout")))) None)
+    by_limit true h =
+        subst (λ (o : Outcome Value). SameValue o (Some (v.File (job_path g place (codes "_stdout")))))
+        (sym (ap (λ o. and_then o (λ x. landed structs (job_dir g.site place 0) answer x ty.File)) (stdout_value env (job_dir g.site place 0) answer (same ∙ h)) ∙ stdout_landed structs (job_dir g.site place 0) answer))
+        (ap v.File (job_path_is g place (codes "_stdout")))
+    by_limit false h =
+        subst (λ (o : Outcome Value). SameValue o None)
+        (sym (ap (λ o. and_then o (λ x. landed structs (job_dir g.site place 0) answer x ty.File)) (stdout_past env (job_dir g.site place 0) answer (same ∙ h)))) tt
 
 -- ---- a file by its name
 
@@ -162,32 +178,37 @@ pub record IsFileName (name : List ℕ) : Type 0 where
   pub flat : has_slash name ≡ false
   pub out : bytes_eq name (codes "_stdout") ≡ false
   pub err : bytes_eq name (codes "_stderr") ≡ false
-  pub str : is_within (v.Str name) ≡ true
-  pub file : is_within (v.File name) ≡ true
 
-glob_value : (env : List Bind) (dir : List ℕ) (answer : Answer) (name : List ℕ) → IsFileName name
-    → value_of (after env dir answer) (e.Cast (e.Lit (v.Str name)) ty.File) ≡ Ok (v.File name)
-glob_value env dir answer name h =
+-- A text and the file of that name are both within the limits, or both past them.
+path_within : (name : List ℕ) → is_within (v.File name) ≡ is_within (v.Str name)
+path_within name =
+    ap (λ n. nat_le n 4194304 && is_short (v.File name)) (ap size (sym (v.rolls-File name)) ∙ fold-roll-Value ℕ size_step (value.File name) ∙ sym (ap size (sym (v.rolls-Str name)) ∙ fold-roll-Value ℕ size_step (value.Str name)))
+    ∙ ap (λ b. nat_le (size (v.Str name)) 4194304 && b) (ap is_short (sym (v.rolls-File name)) ∙ fold-roll-Value Bool short_step (value.File name) ∙ sym (ap is_short (sym (v.rolls-Str name)) ∙ fold-roll-Value Bool short_step (value.Str name)))
+
+glob_value : (env : List Bind) (dir : List ℕ) (answer : Answer) (name : List ℕ) → value_of (after env dir answer) (e.Cast (e.Lit (v.Str name)) ty.File) ≡ cond (is_within (v.Str name)) (Ok (v.File name)) (Err TooLarge)
+glob_value env dir answer name =
     ap (value_of s) (sym (e.rolls-Cast (e.Lit (v.Str name)) ty.File))
     ∙ ap settled (fold-roll-TExpr (Met Value) (value_step s) (layer.Cast (e.Lit (v.Str name)) ty.File))
     ∙ ap (λ (r : Met Value). settled (value_step s (layer.Cast r ty.File))) literal
-    ∙ ap (λ r. settled (then_ (from_cast r) (λ x. met (limited x)))) casted
-    ∙ ap (λ (o : Outcome Value). settled (met o)) (at_limit (v.File name) h.file)
+    ∙ by_limit (is_within (v.Str name)) refl
   where
     s : Setting
     s = after env dir answer
 
-    literal : value_met (after env dir answer) (e.Lit (v.Str name)) ≡ Ok (v.Str name)
-    literal =
-        ap (value_met (after env dir answer)) (sym (e.rolls-Lit (v.Str name)))
-        ∙ fold-roll-TExpr (Met Value) (value_step (after env dir answer)) (layer.Lit (v.Str name))
-        ∙ ap (λ (o : Outcome Value). met o) (at_limit (v.Str name) h.str)
+    literal : value_met (after env dir answer) (e.Lit (v.Str name)) ≡ met (limited (v.Str name))
+    literal = ap (value_met (after env dir answer)) (sym (e.rolls-Lit (v.Str name))) ∙ fold-roll-TExpr (Met Value) (value_step (after env dir answer)) (layer.Lit (v.Str name))
 
     casted : cast (v.Str name) ty.File ≡ Ok (v.File name)
     casted =
         cast_out (v.Str name) ty.File
         ∙ ap (λ y. cast_at (v.Str name) (map-Value Value Caster cast y) (out-Ty (bare ty.File))) (v.outs-Str name)
         ∙ ap (cast_at (v.Str name) (value.Str name)) ty.outs-File
+
+    by_limit : (b : Bool) → is_within (v.Str name) ≡ b → settled (value_step s (layer.Cast (met (cond b (Ok (v.Str name)) (Err TooLarge))) ty.File)) ≡ cond b (Ok (v.File name)) (Err TooLarge)
+    by_limit true h =
+        ap (λ r. settled (then_ (from_cast r) (λ x. met (limited x)))) casted
+        ∙ ap (λ (o : Outcome Value). settled (met o)) (at_limit (v.File name) (path_within name ∙ h))
+    by_limit false h = refl
 
 glob_landed : (structs : Structs) (dir : List ℕ) (answer : Answer) (name : List ℕ) → IsFileName name
     → landed structs dir answer (v.File name) ty.File ≡ cond (has_file answer.files name) (Ok (v.File (dir ++ 47 ∷ name))) (Err FileMissing)
@@ -207,15 +228,18 @@ glob_landed structs dir answer name h =
         ∙ ap (λ b. is_some (cond b (Some answer.err) (seen_body name answer.files))) h.err
         ∙ seen_has answer.files name
 
+-- A file by its name is the file of that name in the job's directory, where it is there.
 pub glob_met : (structs : Structs) (g : Ground) (place : List Segment) (answer : Answer) (env : List Bind) (name : List ℕ) → IsFileName name
-    → and_then (value_of (after env (job_dir g.site place 0) answer) (e.Cast (e.Lit (v.Str name)) ty.File)) (λ x. landed structs (job_dir g.site place 0) answer x ty.File)
-    ≡ settled_file (file_at g place answer (origin.Glob name))
+    → SameValue (and_then (value_of (after env (job_dir g.site place 0) answer) (e.Cast (e.Lit (v.Str name)) ty.File)) (λ x. landed structs (job_dir g.site place 0) answer x ty.File)) (file_at g place answer (origin.Glob name))
 glob_met structs g place answer env name h =
-    ap (λ o. and_then o (λ x. landed structs (job_dir g.site place 0) answer x ty.File)) (glob_value env (job_dir g.site place 0) answer name h)
-    ∙ glob_landed structs (job_dir g.site place 0) answer name h
-    ∙ ap (λ p. cond (has_file answer.files name) (Ok (v.File p)) (Err FileMissing)) (job_path_is g place name)
-    ∙ by_test (has_file answer.files name)
+    subst (λ (o : Outcome Value). SameValue (and_then o (λ x. landed structs (job_dir g.site place 0) answer x ty.File)) (file_at g place answer (origin.Glob name)))
+    (sym (glob_value env (job_dir g.site place 0) answer name)) (by_limit (is_within (v.Str name)))
   where
-    by_test : (b : Bool) → cond b (Ok (v.File (job_path g place name))) (Err FileMissing) ≡ settled_file (cond b (Some (v.File (job_path g place name))) None)
-    by_test true = refl
-    by_test false = refl
+    by_test : (b : Bool) → SameValue (cond b (Ok (v.File (job_dir g.site place 0 ++ 47 ∷ name))) (Err FileMissing)) (cond b (Some (v.File (job_path g place name))) None)
+    by_test true = ap v.File (job_path_is g place name)
+    by_test false = tt
+
+    by_limit : (b : Bool) → SameValue (and_then (cond b (Ok (v.File name)) (Err TooLarge)) (λ x. landed structs (job_dir g.site place 0) answer x ty.File)) (cond (b && has_file answer.files name) (Some (v.File (job_path g place name))) None)
+    by_limit true =
+        subst (λ (o : Outcome Value). SameValue o (cond (has_file answer.files name) (Some (v.File (job_path g place name))) None)) (sym (glob_landed structs (job_dir g.site place 0) answer name h)) (by_test (has_file answer.files name))
+    by_limit false = tt

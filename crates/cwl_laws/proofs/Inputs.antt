@@ -1,25 +1,27 @@
 -- The inputs of a task call, and what its tool takes.
-use Rattle.std.proofs.Common.{◌≡◌, ℕ, ◌⊎◌, inl, inr, Bool, true, false, cond, ◌&&◌, ◌||◌, List, [], ◌∷◌, ◌++◌, map, Option, Some, None, Ok, Err, Contains, sym, ap, ◌∙◌, subst, refl}
+use Rattle.std.proofs.Common.{◌≡◌, ℕ, ◌⊎◌, inl, inr, Bool, true, false, cond, not, ◌&&◌, ◌||◌, List, [], ◌∷◌, ◌++◌, map, Option, Some, None, Ok, Err, Contains, sym, ap, ◌∙◌, subst, refl}
 use Rattle.std.specs.Str.{bytes_eq}
-use Rattle.std.proofs.lemmas.Bool.{false≢true, and_from}
+use Rattle.std.proofs.lemmas.Bool.{false≢true, and_parts, or_left, or_right}
 use Rattle.std.proofs.lemmas.Slice.Eq.{bytes_eq-Decides}
 use Rattle.wdl_base.specs.declared.fault.EvalCode.TheVariants.{TooLarge}
 use Rattle.wdl_value.specs.declared.env.Bind.{Bind}
 use Rattle.wdl_value.specs.declared.value.Value.{Value}
 use Rattle.wdl_value.specs.declared.value.Value.TheVariants as v
-use Rattle.wdl_value.specs.Limits.{is_within, limited}
+use Rattle.wdl_value.specs.Limits.{is_within}
 use Rattle.wdl_value.specs.Outcome.{Outcome}
 use Rattle.wdl_typed.specs.declared.expr.TExpr.{TExpr}
 use Rattle.wdl_typed.specs.declared.task.TInput.{TInput}
-use Rattle.wdl_typed.specs.Declarations.{plain_key}
+use Rattle.wdl_value.specs.Fits.{Structs}
+use Rattle.wdl_typed.specs.Declarations.{input_names, plain_key}
 use Rattle.wdl_typed.specs.KnownTypes.{is_some}
-use Rattle.wdl_typed.specs.Requests.{Failing, Tried, before, bind, default_value, named as called, tried, with_inputs}
+use Rattle.wdl_typed.specs.Lists.{are_distinct, has_name}
+use Rattle.wdl_typed.specs.Requests.{Failing, Tried, bind, default_value, named as called, tried, with_inputs}
 use Rattle.wdl_typed.specs.Scope.{lookup, same_key}
-use Rattle.wdl_typed.specs.Evaluation.{value_of}
 use Rattle.cwl_model.specs.Means.{Named, all_taken, are_within, given_or, value_at}
 use Rattle.cwl_model.proofs.Rounds.{first_is, first_or_later, later_is, none_is, or_else}
 use Rattle.cwl_image.specs.Image.{cwl_in, literal, preset_of}
-use Rattle.cwl_laws.proofs.Workflows.{LeftOut, Meets, absent_within, input_value}
+use Rattle.cwl_laws.specs.Tools.{input_value}
+use Rattle.cwl_laws.proofs.Starts.{AllMeet, LeftOut, absent_within}
 
 none_some : {A : Type 0} {x : A} {B : Type 0} → None ≡ Some x → B
 none_some h = cc
@@ -40,16 +42,23 @@ Stays env more = (name : List ℕ) (x : Value) → lookup env (plain_key name) �
 stays_append : (env more : List Bind) → Stays env (env ++ more)
 stays_append env more name x h = binds_append env more name ∙ ap (λ o. or_else o (lookup more (plain_key name))) h
 
--- No two inputs have one name.
-abbrev pub NamesDiffer : List TInput → Type 0
-NamesDiffer [] = Unit {0}
-NamesDiffer (i ∷ is) = ((j : TInput) → Contains is j → bytes_eq i.name j.name ≡ false) × NamesDiffer is
+name_known : (is : List TInput) (j : TInput) → Contains is j → has_name j.name (input_names is) ≡ true
+name_known [] j c = absurd (none_is j c)
+name_known (i ∷ is) j c = by_case (λ d. name_known is j d) (first_or_later i is j c)
+  where
+    by_case : (Contains is j → has_name j.name (input_names is) ≡ true) → (i ≡ j) ⊎ Contains is j → (bytes_eq i.name j.name || has_name j.name (input_names is)) ≡ true
+    by_case rest (inl e) = or_left (bytes_eq i.name j.name) (has_name j.name (input_names is)) ((bytes_eq-Decides i.name j.name).1 (ap (λ (z : TInput). z.name) e))
+    by_case rest (inr d) = or_right (bytes_eq i.name j.name) (has_name j.name (input_names is)) (rest d)
 
-module _ (object : List Named) where
-  abbrev pub AllMeet : List TInput → Type 0
-  AllMeet [] = Unit {0}
-  AllMeet (i ∷ is) = Meets object i × AllMeet is
+-- No later input has the name.
+pub name_apart : (i : TInput) (is : List TInput) → not (has_name i.name (input_names is)) ≡ true → (j : TInput) → Contains is j → bytes_eq i.name j.name ≡ false
+name_apart i is h j c = by_test (bytes_eq i.name j.name) refl
+  where
+    by_test : (b : Bool) → bytes_eq i.name j.name ≡ b → b ≡ false
+    by_test false e = refl
+    by_test true e = absurd (false≢true (sym (ap not (name_known is j c)) ∙ subst (λ (n : List ℕ). not (has_name n (input_names is)) ≡ true) ((bytes_eq-Decides i.name j.name).0 e) h))
 
+module _ (structs : Structs) (object : List Named) where
   -- each input has the value that the tool takes, or one passes a limit
   abbrev pub Bound : List TInput → List Bind → Tried (List Bind) → Type 0
   Bound is env o =
@@ -57,20 +66,23 @@ module _ (object : List Named) where
       × ((last : List Bind) × (o ≡ Ok last) × Stays env last × ((i : TInput) → Contains is i → lookup last (plain_key i.name) ≡ Some (input_value object i))))
       ⊎ ((are_within (all_taken object (map cwl_in is)) ≡ false) × ((f : Failing) × (o ≡ Err f)))
 
-  pub inputs_bound : (is : List TInput) (env : List Bind) → AllMeet is → NamesDiffer is → ((i : TInput) → Contains is i → lookup env (plain_key i.name) ≡ value_at object i.name)
+  pub inputs_bound : (is : List TInput) (env : List Bind) → AllMeet structs object is → are_distinct (input_names is) ≡ true → ((i : TInput) → Contains is i → lookup env (plain_key i.name) ≡ value_at object i.name)
       → Bound is env (with_inputs is env)
   inputs_bound [] env h d same = inl (refl, (env, refl, (λ name x e. e), (λ i c. absurd (none_is i c))))
   inputs_bound (i ∷ is) env h d same =
-      by_value (value_at object i.name) refl (inputs_bound is env h.1 d.1 (λ j c. same j (later_is i is j c)))
-      (λ x e. inputs_bound is (env ++ bind i.name x ∷ []) h.1 d.1 (λ j c. later x j c))
+      by_value (value_at object i.name) refl (inputs_bound is env h.1 apart.1 (λ j c. same j (later_is i is j c)))
+      (λ x e. inputs_bound is (env ++ bind i.name x ∷ []) h.1 apart.1 (λ j c. later x j c))
     where
+      apart : (not (has_name i.name (input_names is)) ≡ true) × (are_distinct (input_names is) ≡ true)
+      apart = and_parts (not (has_name i.name (input_names is))) (are_distinct (input_names is)) d
+
       mine : lookup env (plain_key i.name) ≡ value_at object i.name
       mine = same i (first_is i is)
 
       later : (x : Value) (j : TInput) → Contains is j → lookup (env ++ bind i.name x ∷ []) (plain_key j.name) ≡ value_at object j.name
       later x j c =
           binds_append env (bind i.name x ∷ []) j.name
-          ∙ ap (λ w. or_else (lookup env (plain_key j.name)) (cond (w && true) (Some x) None)) (d.0 j c)
+          ∙ ap (λ w. or_else (lookup env (plain_key j.name)) (cond (w && true) (Some x) None)) (name_apart i is apart.0 j c)
           ∙ or_none (lookup env (plain_key j.name)) ∙ same j (later_is i is j c)
         where
           or_none : (o : Option Value) → or_else o None ≡ o
@@ -101,7 +113,7 @@ module _ (object : List Named) where
           by_case j (inr c) = r.1.3 j c
       with_one start o stays own within (inr r) = inr (ap (λ w. w && are_within (all_taken object (map cwl_in is))) within ∙ r.0, r.1)
 
-      left_out : (o : Option TExpr) → value_at object i.name ≡ None → LeftOut i o → i.value ≡ o
+      left_out : (o : Option TExpr) → value_at object i.name ≡ None → LeftOut structs i o → i.value ≡ o
           → ((x : Value) (e : Unit {0}) → Bound is (env ++ bind i.name x ∷ []) (with_inputs is (env ++ bind i.name x ∷ [])))
           → Bound (i ∷ is) env (tried (called i.name (default_value env o)) (λ x. with_inputs is (env ++ bind i.name x ∷ [])))
       left_out None e l q rest =

@@ -1,6 +1,5 @@
 -- The object of a block, and what references are linked to in its flow.
-use Rattle.std.proofs.Common.{◌≡◌, ℕ, ◌⊎◌, inl, inr, Bool, true, false, cond, ◌&&◌, List, [], ◌∷◌, ◌++◌, map, Option, Some, None, option_and_then, Contains, sym, ap, ◌∙◌, subst, refl}
-use Rattle.std.specs.List.{list_all}
+use Rattle.std.proofs.Common.{◌≡◌, ◌⊎◌, inl, inr, Bool, true, false, cond, List, [], ◌∷◌, map, Option, Some, None, option_and_then, Contains, sym, ap, ◌∙◌, subst, refl}
 use Rattle.std.specs.Str.{bytes_eq}
 use Rattle.std.proofs.lemmas.Bool.{false≢true, and_from}
 use Rattle.std.proofs.lemmas.Slice.Eq.{bytes_eq-Decides}
@@ -11,9 +10,7 @@ use Rattle.wdl_value.specs.declared.value.Value.TheOpen as value
 use Rattle.wdl_value.specs.Parts.{is_undefined, is_undefined_at}
 use Rattle.wdl_typed.specs.Flow.{Known, env_of}
 use Rattle.wdl_typed.specs.Scope.{lookup, same_key}
-use Rattle.cwl_model.specs.declared.process.Link.{Link}
 use Rattle.cwl_model.specs.declared.process.Link.TheVariants as link
-use Rattle.cwl_model.specs.declared.process.Wire.{Wire}
 use Rattle.cwl_model.specs.declared.tool.CwlIn.{CwlIn}
 use Rattle.cwl_model.specs.Means.{Named, all_taken, are_typed, given_or, has_type, input_links, named, or_null, taken, value_at, wired}
 use Rattle.cwl_model.specs.Rounds.{Linked, known_value}
@@ -30,7 +27,7 @@ some_same h = cc
 
 -- ---- a value that is given
 
-absent_is : (x : Value) → is_undefined x ≡ true → x ≡ v.Absent
+pub absent_is : (x : Value) → is_undefined x ≡ true → x ≡ v.Absent
 absent_is x h = by_layer (out-Value x) refl h
   where
     by_layer : (y : Value-F Value) → out-Value x ≡ y → is_undefined_at y ≡ true → x ≡ v.Absent

@@ -1,56 +1,32 @@
--- References of the subset, and the arguments of a call.
+-- Wires, and the arguments of a call.
 use Rattle.std.proofs.Common.{◌≡◌, ℕ, ◌⊎◌, inl, inr, Bool, true, false, cond, ◌&&◌, List, [], ◌∷◌, ◌++◌, map, Option, Some, None, option_and_then, Ok, Err, Contains, codes, sym, ap, ◌∙◌, subst, refl}
-use Rattle.std.specs.List.{list_all}
 use Rattle.std.proofs.lemmas.Bool.{and_from}
 use Rattle.std.proofs.lemmas.List.Elements.{Contains-append_cases}
 use Rattle.wdl_base.specs.declared.fault.EvalCode.TheVariants.{TooLarge}
 use Rattle.wdl_base.specs.declared.name.Key.{Key}
 use Rattle.wdl_value.specs.declared.env.Bind.{Bind}
 use Rattle.wdl_value.specs.declared.value.Value.{Value}
-use Rattle.wdl_value.specs.Limits.{is_within, limited}
+use Rattle.wdl_value.specs.Fits.{Structs}
+use Rattle.wdl_value.specs.Limits.{is_within}
 use Rattle.wdl_value.specs.Outcome.{Outcome}
-use Rattle.wdl_typed.specs.declared.expr.TExpr.{TExpr, fold-roll-TExpr}
-use Rattle.wdl_typed.specs.declared.expr.TExpr.TheVariants as e
-use Rattle.wdl_typed.specs.declared.expr.TExpr.TheOpen as layer
+use Rattle.wdl_typed.specs.declared.expr.TExpr.{TExpr}
 use Rattle.wdl_typed.specs.declared.expr.TField.{TField}
 use Rattle.wdl_typed.specs.declared.flow.TCall.{TCall}
-use Rattle.wdl_typed.specs.Evaluation.{Met, found, met, settled, then_, value_of, value_step}
-use Rattle.wdl_typed.specs.Flow.{Known, all_known, arg_bind, args_known, args_met, env_of, is_known, named_arg}
-use Rattle.wdl_typed.specs.KnownTypes.{is_some}
-use Rattle.wdl_typed.specs.Requests.{Failing, Tried, before, tried}
-use Rattle.wdl_typed.specs.Scope.{lookup, names_of, names_step}
+use Rattle.wdl_typed.specs.declared.scope.Bound.{Bound}
+use Rattle.wdl_typed.specs.declared.task.TInput.{TInput}
+use Rattle.wdl_typed.specs.Flow.{Known, all_known, arg_bind, args_known, args_met, env_of, named_arg}
+use Rattle.wdl_typed.specs.Requests.{Failing, Tried, tried}
 use Rattle.cwl_model.specs.declared.process.Link.{Link}
 use Rattle.cwl_model.specs.declared.process.Wire.{Wire}
 use Rattle.cwl_model.specs.Means.{Named, are_within, named, wired}
-use Rattle.cwl_model.specs.Rounds.{Linked, known_value}
+use Rattle.cwl_model.specs.Rounds.{Linked}
 use Rattle.cwl_model.proofs.Rounds.{first_or_later, none_is}
-use Rattle.cwl_image.specs.Image.{Draft, Linkage, Scope, Targets, args_wired, call_draft, id_of, if_draft, link_or, linkage_at, outer_uses, outer_wire, reference, reference_step, scatter_draft, wire_to}
-use Rattle.cwl_laws.specs.Laws.{Shows}
-use Rattle.cwl_laws.proofs.Blocks.{WiresBy}
-use Rattle.cwl_laws.proofs.Conditions.{Reads}
+use Rattle.cwl_image.specs.Image.{Draft, Scope, Targets, args_wired, call_draft, if_draft, link_or, linkage_at, outer_uses, outer_wire, reference, scatter_draft, wire_to}
+use Rattle.cwl_laws.specs.Laws.{Fit, FitsAt, Shows}
+use Rattle.cwl_laws.specs.Premises.{AreArgs, IsArg, WiresBy}
 use Rattle.cwl_laws.proofs.Objects.{IsSeen, is_seen, value_in}
 use Rattle.wdl_typed.specs.Bodies.{Library}
 use Rattle.wdl_typed.specs.Declarations.{plain_key}
-
--- ---- a name
-
-settled_met : (o : Outcome Value) → settled (met o) ≡ o
-settled_met (Ok x) = refl
-settled_met (Err c) = refl
-
-pub get_reads : (key : Key) → Reads (e.Get key) key
-get_reads key =
-    record {
-      refers = ap reference (sym (e.rolls-Get key)) ∙ fold-roll-TExpr (Option Key) reference_step (layer.Get key);
-      known = λ names x h.
-          ap (list_all (is_known names)) (ap names_of (sym (e.rolls-Get key)) ∙ fold-roll-TExpr (List Key) names_step (layer.Get key))
-          ∙ ap (λ o. is_some o && true) h;
-      value = λ env x h.
-          ap (value_of (before env)) (sym (e.rolls-Get key))
-          ∙ ap settled (fold-roll-TExpr (Met Value) (value_step (before env)) (layer.Get key))
-          ∙ ap (λ o. settled (then_ (found o) (λ y. met (limited y)))) h
-          ∙ settled_met (limited x);
-    }
 
 -- ---- wires
 
@@ -102,34 +78,26 @@ if_wires k cond_ ds scope l c =
 
 -- ---- arguments
 
--- an argument: a reference to what the scope has
-pub record IsArg (scope : Scope) (a : TField TExpr) : Type 0 where
-  pub key : Key
-  pub reads : Reads a.value key
-  pub linkage : Linkage
-  pub at : linkage_at scope key ≡ Some linkage
-
-abbrev pub AreArgs : Scope → List (TField TExpr) → Type 0
-AreArgs scope [] = Unit {0}
-AreArgs scope (a ∷ as_) = IsArg scope a × AreArgs scope as_
-
-module _ (scope : Scope) (names : List Known) (known : List Linked) (shows : Shows scope names known) where
-  abbrev pub args_object : (as_ : List (TField TExpr)) → AreArgs scope as_ → List Named
+module _ (structs : Structs) (bounds : List Bound) (scope : Scope) (inputs : List TInput) (names : List Known) (known : List Linked) (fit : Fit structs bounds names) (shows : Shows scope names known) where
+  abbrev pub args_object : (as_ : List (TField TExpr)) → AreArgs structs bounds scope inputs as_ → List Named
   args_object [] h = []
   args_object (a ∷ as_) h = named a.name (value_in names h.0.key) ∷ args_object as_ h.1
 
-  seen : (a : TField TExpr) (h : IsArg scope a) → IsSeen scope names known h.key
-  seen a h = is_seen scope names known shows h.key h.linkage h.at
+  pub arg_seen : (a : TField TExpr) (h : IsArg structs bounds scope inputs a) → IsSeen scope names known h.key
+  arg_seen a h = is_seen scope names known shows h.key h.source.0 h.source.1
 
-  pub args_are_known : (as_ : List (TField TExpr)) (h : AreArgs scope as_) → args_known names as_ ≡ true
+  pub arg_fit : (a : TField TExpr) (h : IsArg structs bounds scope inputs a) → FitsAt structs bounds h.key (value_in names h.key)
+  arg_fit a h = fit h.key (value_in names h.key) (arg_seen a h).name
+
+  pub args_are_known : (as_ : List (TField TExpr)) (h : AreArgs structs bounds scope inputs as_) → args_known names as_ ≡ true
   args_are_known [] h = refl
-  args_are_known (a ∷ as_) h = and_from (all_known names a.value) (args_known names as_) (h.0.reads.known names (value_in names h.0.key) (seen a h.0).name) (args_are_known as_ h.1)
+  args_are_known (a ∷ as_) h = and_from (all_known names a.value) (args_known names as_) (h.0.reads.known names (value_in names h.0.key) (arg_seen a h.0).name) (args_are_known as_ h.1)
 
-  pub args_are_wired : (as_ : List (TField TExpr)) (h : AreArgs scope as_) → wired known (args_wired as_ scope) ≡ Some (args_object as_ h)
+  pub args_are_wired : (as_ : List (TField TExpr)) (h : AreArgs structs bounds scope inputs as_) → wired known (args_wired as_ scope) ≡ Some (args_object as_ h)
   args_are_wired [] h = refl
   args_are_wired (a ∷ as_) h =
       ap (λ o. wired known (wire_to scope a.name o ++ args_wired as_ scope)) h.0.reads.refers
-      ∙ ap (λ o. option_and_then (λ x. option_and_then (λ ns. Some (named a.name x ∷ ns)) (wired known (args_wired as_ scope))) o) (seen a h.0).link
+      ∙ ap (λ o. option_and_then (λ x. option_and_then (λ ns. Some (named a.name x ∷ ns)) (wired known (args_wired as_ scope))) o) (arg_seen a h.0).link
       ∙ ap (option_and_then (λ ns. Some (named a.name (value_in names h.0.key) ∷ ns))) (args_are_wired as_ h.1)
 
   abbrev bind_of : Named → Bind
@@ -139,10 +107,10 @@ module _ (scope : Scope) (names : List Known) (known : List Linked) (shows : Sho
   abbrev pub MetBy : Tried (List Bind) → List Named → Type 0
   MetBy o ns = ((are_within ns ≡ true) × (o ≡ Ok (map bind_of ns))) ⊎ ((are_within ns ≡ false) × ((f : Failing) × (o ≡ Err f)))
 
-  pub args_are_met : (as_ : List (TField TExpr)) (h : AreArgs scope as_) → MetBy (args_met (env_of names) as_) (args_object as_ h)
+  pub args_are_met : (as_ : List (TField TExpr)) (h : AreArgs structs bounds scope inputs as_) → MetBy (args_met (env_of names) as_) (args_object as_ h)
   args_are_met [] h = inl (refl, refl)
   args_are_met (a ∷ as_) h =
-      subst (λ (o : Outcome Value). MetBy (tried (named_arg a.name o) more) (args_object (a ∷ as_) h)) (sym (h.0.reads.value (env_of names) (value_in names h.0.key) (seen a h.0).name))
+      subst (λ (o : Outcome Value). MetBy (tried (named_arg a.name o) more) (args_object (a ∷ as_) h)) (sym (h.0.reads.value (env_of names) (value_in names h.0.key) (arg_fit a h.0) (arg_seen a h.0).name))
       (by_limit (is_within (value_in names h.0.key)) refl (args_are_met as_ h.1))
     where
       more : Value → Tried (List Bind)

@@ -1,5 +1,5 @@
 -- Scatters and scattered steps.
-use Rattle.std.proofs.Common.{◌≡◌, ℕ, ◌+◌, ◌⊎◌, inl, inr, Bool, true, false, cond, ◌&&◌, ◌||◌, List, [], ◌∷◌, ◌++◌, map, Option, Some, None, option_and_then, Ok, Err, Contains, codes, decimal, sym, ap, ◌∙◌, subst, refl}
+use Rattle.std.proofs.Common.{◌≡◌, ℕ, ◌+◌, ◌⊎◌, inl, inr, Bool, true, false, cond, ◌&&◌, List, [], ◌∷◌, ◌++◌, map, Option, Some, None, option_and_then, Ok, Err, Contains, sym, ap, ◌∙◌, subst, refl}
 use Rattle.std.specs.List.{list_all}
 use Rattle.std.specs.Str.{bytes_eq}
 use Rattle.std.proofs.lemmas.Bool.{false≢true, and_from, and_parts, or_parts}
@@ -8,38 +8,43 @@ use Rattle.wdl_base.specs.declared.fault.EvalCode.TheVariants.{TooLarge}
 use Rattle.wdl_base.specs.declared.name.Key.{Key}
 use Rattle.wdl_base.specs.declared.place.Segment.{Segment}
 use Rattle.wdl_base.specs.declared.place.Segment.TheVariants as segment
+use Rattle.wdl_value.specs.declared.ty.Ty.{Ty, fold-roll-Ty}
+use Rattle.wdl_value.specs.declared.ty.Ty.TheVariants as ty
+use Rattle.wdl_value.specs.declared.ty.Ty.TheOpen as shape
 use Rattle.wdl_value.specs.declared.value.Value.{Value, Value-F, out-Value}
 use Rattle.wdl_value.specs.declared.value.Value.TheVariants as v
 use Rattle.wdl_value.specs.declared.value.Value.TheOpen as value
+use Rattle.wdl_value.specs.Fits.{Structs, fits}
 use Rattle.wdl_value.specs.Limits.{is_within, limited}
 use Rattle.wdl_value.specs.Outcome.{Outcome}
 use Rattle.wdl_value.specs.Parts.{items_at, items_in}
+use Rattle.wdl_value.proofs.FitsForms.{all_fit, a_list as fits_list}
 use Rattle.wdl_typed.specs.declared.expr.TExpr.{TExpr}
-use Rattle.wdl_typed.specs.Declarations.{plain_key}
+use Rattle.wdl_typed.specs.declared.scope.Bound.{Bound}
+use Rattle.wdl_typed.specs.Declarations.{bound, plain_key}
 use Rattle.wdl_typed.specs.Evaluation.{value_of}
 use Rattle.wdl_typed.specs.Flow as flow
 use Rattle.wdl_typed.specs.Flow.{Flowing, Known, Names, Runner, Sight, all_known, all_together, all_values, each_item, env_of, gathered_name, in_turn, is_clean, item_sight, missing, scatter_run, scattered, with_count}
 use Rattle.wdl_typed.specs.Requests.{before}
-use Rattle.wdl_typed.specs.Scope.{lookup, same_key}
+use Rattle.wdl_typed.specs.Scope.{lookup, same_key, type_in}
 use Rattle.cwl_model.specs.declared.process.CwlFlow.{CwlFlow}
 use Rattle.cwl_model.specs.declared.process.CwlStep.{CwlStep}
-use Rattle.cwl_model.specs.declared.process.Link.{Link}
 use Rattle.cwl_model.specs.declared.process.Link.TheVariants as link
 use Rattle.cwl_model.specs.declared.process.Mode.TheVariants as mode
 use Rattle.cwl_model.specs.declared.tool.CwlIn.{CwlIn}
-use Rattle.cwl_model.specs.declared.ty.CwlTy.{CwlTy, CwlTy-F, fold-CwlTy, fold-roll-CwlTy}
+use Rattle.cwl_model.specs.declared.ty.CwlTy.{CwlTy, fold-roll-CwlTy}
 use Rattle.cwl_model.specs.declared.ty.CwlTy.TheVariants as cwl
 use Rattle.cwl_model.specs.declared.ty.CwlTy.TheOpen as type
-use Rattle.cwl_model.specs.Ids.{segment_of}
 use Rattle.cwl_model.specs.Means as means
 use Rattle.cwl_model.specs.Means.{Ground, Meaning, Named, Running, Test, all_jobs, all_outputs, all_taken, are_typed, flow_means, given_or, given_outputs, has_type, incomplete, input_links, is_complete, is_given, listed, mode_means, named, or_null, running, scatter_items, step_means, taken, typed_at, value_at, wired, wired_means}
 use Rattle.cwl_model.specs.Rounds.{Linked, known_value}
 use Rattle.cwl_model.proofs.Rounds.{first_is, first_or_later, later_is, none_is, or_else}
-use Rattle.cwl_image.specs.Image.{Draft, Linkage, Output, Scope, block_out, block_output, body_items, body_links, body_steps, id_of, inner_scope, input_of, item_linkage, linkage_at, list_type, out_id, outer_uses, outer_wire, reference, scatter_draft, step_of, type_or, wire_to}
-use Rattle.cwl_laws.specs.Laws.{Agrees, AllNew, AllSimulate, Given, KeysDiffer, New, NewItems, Shown, Shows, Simulates, all_running, as_running, has_key, job_of, jobs_of}
-use Rattle.cwl_laws.proofs.Blocks.{IsInner, block_agrees, running_flow}
+use Rattle.cwl_image.specs.Image.{Draft, Linkage, Output, Scope, block_out, block_output, body_items, body_links, body_steps, id_of, inner_scope, input_of, item_linkage, linkage_at, list_type, out_id, outer_uses, outer_wire, reference, scatter_draft, step_of, type_of, type_step, wire_to}
+use Rattle.cwl_laws.specs.Laws.{Agrees, Fit, FitsAt, Given, New, NewItems, Shown, Shows, Simulates, all_running, as_running, has_key, job_of, jobs_of}
+use Rattle.cwl_laws.specs.Premises.{IsScatter}
+use Rattle.cwl_laws.proofs.Blocks.{block_agrees, running_flow}
 use Rattle.cwl_laws.proofs.Bodies.{all_new_more, bound_lookup, clean_together, jobs_append, key_same, lookup_append}
-use Rattle.cwl_laws.proofs.Conditions.{Reads, all_new, each_missing, new_link, same_itself}
+use Rattle.cwl_laws.proofs.Conditions.{all_new, each_missing, new_link, same_itself}
 use Rattle.cwl_laws.proofs.Objects.{IsSeen, given_same, inner_shows, is_seen, keys_known, keys_typed, value_in, value_under, wired_keys}
 
 none_some : {A : Type 0} {x : A} {B : Type 0} → None ≡ Some x → B
@@ -62,7 +67,7 @@ a_list t x h = by_layer (out-Value x) refl (sym (list_is t x) ∙ h)
     by_layer (value.List xs) e h = (xs, e, h)
     by_layer y e h = absurd (false≢true h)
 
-list_typed : (t : CwlTy) (xs : List Value) → list_all (has_type t) xs ≡ true → has_type (cwl.List t) (v.List xs) ≡ true
+pub list_typed : (t : CwlTy) (xs : List Value) → list_all (has_type t) xs ≡ true → has_type (cwl.List t) (v.List xs) ≡ true
 list_typed t xs h = list_is t (v.List xs) ∙ ap (typed_at (type.List (has_type t)) (v.List xs)) (v.outs-List xs) ∙ h
 
 -- ---- element by element
@@ -220,22 +225,50 @@ gathered_agrees n ls fs ms keys agree =
 
 -- ---- scatters
 
--- a scatter whose body's statements agree with their steps
-pub record IsScatter (g : Ground) (scope : Scope) (n : Names) (fs : List Runner) (k : ℕ) (item : List ℕ) (e : TExpr) (key : Key) (t : CwlTy) (ds : List Draft) : Type 0 where
-  pub inner : IsInner g fs ds (item_linkage scope item e ∷ inner_scope scope (outer_uses (plain_key item ∷ []) ds))
-  pub used : (j : Key) → Contains (outer_uses (plain_key item ∷ []) ds) j → (l : Linkage) × (linkage_at scope j ≡ Some l)
-  pub ids : (a b : Key) → Contains (outer_uses (plain_key item ∷ []) ds) a → Contains (outer_uses (plain_key item ∷ []) ds) b → bytes_eq (id_of a) (id_of b) ≡ true → a ≡ b
-  pub apart : (a : Key) → Contains (outer_uses (plain_key item ∷ []) ds) a → bytes_eq item (id_of a) ≡ false
-  pub differs : KeysDiffer (record { key = plain_key item; id = item; ty = cwl.Str } ∷ []) ds
-  pub outs : (l : Linkage) → Contains (body_links ds) l → same_key (plain_key item) l.key ≡ false
-  pub reads : Reads e key
-  pub source : (l : Linkage) × (linkage_at scope key ≡ Some l) × (l.ty ≡ cwl.List t)
-  pub ty : (item_linkage scope item e).ty ≡ t
-  pub place : segment_of (codes "scatter-" ++ decimal k) ≡ segment.Scatter k
-  pub keys : n.keys ≡ map (λ (l : Linkage). l.key) (body_links ds)
+pub array_type : (t : Ty) (some : Bool) → type_of (ty.Array t some) ≡ cwl.List (type_of t)
+array_type t some = ap type_of (sym (ty.rolls-Array t some)) ∙ fold-roll-Ty CwlTy type_step (shape.Array t some)
 
-module _ (g : Ground) (scope : Scope) (n : Names) (fs : List Runner) (m k : ℕ) (item : List ℕ) (e : TExpr) (key : Key) (t : CwlTy) (ds : List Draft)
-    (is : IsScatter g scope n fs k item e key t ds) where
+-- An item fits its type.
+item_fit : (structs : Structs) (seen : List Bound) (names : List Known) (item : List ℕ) (t : Ty) (x : Value) → Fit structs seen names → type_in seen (plain_key item) ≡ None → fits structs x t ≡ true
+    → Fit structs (seen ++ bound item t ∷ []) (names ++ record { key = plain_key item; value = Some x } ∷ [])
+item_fit structs seen names item t x fit new ok key y h = by_value (lookup (env_of names) key) refl
+  where
+    one : List Known
+    one = record { key = plain_key item; value = Some x } ∷ []
+
+    split : lookup (env_of (names ++ one)) key ≡ or_else (lookup (env_of names) key) (lookup (env_of one) key)
+    split = lookup_append names one key
+
+    types : (bs : List Bound) → type_in (bs ++ bound item t ∷ []) key ≡ or_else (type_in bs key) (cond (same_key (plain_key item) key) (Some t) None)
+    types [] = refl
+    types (b ∷ bs) = by_test (types bs) (same_key b.key key)
+      where
+        by_test : type_in (bs ++ bound item t ∷ []) key ≡ or_else (type_in bs key) (cond (same_key (plain_key item) key) (Some t) None) → (w : Bool)
+            → cond w (Some b.ty) (type_in (bs ++ bound item t ∷ []) key) ≡ or_else (cond w (Some b.ty) (type_in bs key)) (cond (same_key (plain_key item) key) (Some t) None)
+        by_test rest true = refl
+        by_test rest false = rest
+
+    Has : Value → Type 0
+    Has z = FitsAt structs (seen ++ bound item t ∷ []) key z
+
+    by_test : (b : Bool) → same_key (plain_key item) key ≡ b → cond b (Some x) None ≡ Some y → Has y
+    by_test false e q = none_some q
+    by_test true e q = (
+      t,
+      types seen ∙ ap (λ k. or_else (type_in seen k) (cond (same_key (plain_key item) key) (Some t) None)) (sym (key_same (plain_key item) key e))
+          ∙ ap (λ o. or_else o (cond (same_key (plain_key item) key) (Some t) None)) new ∙ ap (λ b. cond b (Some t) None) e,
+      ap (λ z. fits structs z t) (sym (some_same q)) ∙ ok,
+    )
+
+    by_value : (o : Option Value) → lookup (env_of names) key ≡ o → Has y
+    by_value (Some z) e =
+        let r = fit key z e in
+        let same : z ≡ y = some_same (sym (ap (λ o. or_else o (lookup (env_of one) key)) e) ∙ sym split ∙ h) in
+        subst Has same (r.0, types seen ∙ ap (λ o. or_else o (cond (same_key (plain_key item) key) (Some t) None)) r.1, r.2)
+    by_value None e = by_test (same_key (plain_key item) key) refl (sym (ap (λ o. or_else o (lookup (env_of one) key)) e) ∙ sym split ∙ h)
+
+module _ (g : Ground) (structs : Structs) (bounds : List Bound) (scope : Scope) (n : Names) (fs : List Runner) (m k : ℕ) (item : List ℕ) (e : TExpr) (key : Key) (t : Ty) (some : Bool) (ds : List Draft)
+    (is : IsScatter g structs bounds scope n fs k item e key t some ds) where
   abbrev Body : Runner
   Body s = with_count m (in_turn fs s)
 
@@ -272,7 +305,7 @@ module _ (g : Ground) (scope : Scope) (n : Names) (fs : List Runner) (m k : ℕ)
       by_test true = outcome_own s (value_of (before (env_of s.names)) e) j h
       by_test false = each_missing n.keys j
 
-  module _ (s : Sight) (known : List Linked) (shows : Shows scope s.names known) (new : New Outs s.names) (items : NewItems (plain_key item ∷ body_items ds) s.names) where
+  module _ (s : Sight) (known : List Linked) (fit : Fit structs bounds s.names) (shows : Shows scope s.names known) (new : New Outs s.names) (items : NewItems (plain_key item ∷ body_items ds) s.names) where
     seen : (j : Key) → Contains Uses j → IsSeen scope s.names known j
     seen j c = let r = is.used j c in is_seen scope s.names known shows j r.0 r.1
 
@@ -281,7 +314,7 @@ module _ (g : Ground) (scope : Scope) (n : Names) (fs : List Runner) (m k : ℕ)
 
     -- ---- one element
 
-    module _ (all x : Value) (fits : has_type t x ≡ true) (i : ℕ) where
+    module _ (all x : Value) (ok : fits structs x t ≡ true) (is_typed : has_type (type_of t) x ≡ true) (i : ℕ) where
       abbrev Object : List Named
       Object = named item x ∷ object_of all
 
@@ -303,7 +336,7 @@ module _ (g : Ground) (scope : Scope) (n : Names) (fs : List Runner) (m k : ℕ)
       item_taken = ap (λ b. given_or (cond b (Some x) (value_at (object_of all) item)) None) is_item ∙ given_same x
 
       item_typed : has_type (item_linkage scope item e).ty x ≡ true
-      item_typed = ap (λ u. has_type u x) is.ty ∙ fits
+      item_typed = ap (λ u. has_type u x) is.ty ∙ is_typed
 
       typed : are_typed Object Ins ≡ true
       typed =
@@ -351,7 +384,7 @@ module _ (g : Ground) (scope : Scope) (n : Names) (fs : List Runner) (m k : ℕ)
 
           from_block : Agrees (map (block_output (λ t. t)) (body_links ds)) (in_turn fs There) (flow_means Flow false ((s.place ++ segment.Scatter k ∷ []) ++ segment.Index i ∷ []) Object)
           from_block =
-              block_agrees g fs ds Inner Ins is.inner There Object typed shows_there
+              block_agrees g structs (bounds ++ bound item t ∷ []) fs ds Inner Ins is.inner There Object typed (item_fit structs bounds s.names item t x fit is.new ok) shows_there
               (all_new_more ds (record { key = plain_key item; id = item; ty = cwl.Str } ∷ []) s.names one one_other is.differs (all_new list_type ds s.names new items.1))
               none_there
 
@@ -361,18 +394,22 @@ module _ (g : Ground) (scope : Scope) (n : Names) (fs : List Runner) (m k : ℕ)
 
     -- ---- all elements
 
-    elements_agree : (all : Value) (i : ℕ) (xs : List Value) → list_all (has_type t) xs ≡ true
+    elements_agree : (all : Value) (i : ℕ) (xs : List Value) → all_fit structs xs t ≡ true → list_all (has_type (type_of t)) xs ≡ true
         → AllAgree (body_links ds) (each_item Body s k item i xs) (means.each_item Step item (s.place ++ segment.Scatter k ∷ []) (object_of all) i xs)
-    elements_agree all i [] h = tt
-    elements_agree all i (x ∷ xs) h =
-        let p = and_parts (has_type t x) (list_all (has_type t) xs) h in
-        (element_agrees all x p.0 i, elements_agree all (i + 1) xs p.1)
+    elements_agree all i [] h q = tt
+    elements_agree all i (x ∷ xs) h q =
+        let r = and_parts (fits structs x t) (all_fit structs xs t) h in
+        let p = and_parts (has_type (type_of t) x) (list_all (has_type (type_of t)) xs) q in
+        (element_agrees all x r.0 p.0 i, elements_agree all (i + 1) xs r.1 p.1)
 
     scatter_agrees : Agrees Outs (scatter_run n Body k item e s) (step_means s.place known Step)
-    scatter_agrees = by_list (a_list t (value_in s.names key) (sym (ap (λ u. has_type u (value_in s.names key)) (ap type_or is.source.1 ∙ is.source.2)) ∙ over_seen.ty))
+    scatter_agrees = by_list (a_list (type_of t) (value_in s.names key) (sym (ap (λ u. has_type u (value_in s.names key)) (array_type t some)) ∙ is.reads.typed (value_in s.names key) over_fit))
       where
         over_seen : IsSeen scope s.names known key
         over_seen = is_seen scope s.names known shows key is.source.0 is.source.1
+
+        over_fit : FitsAt structs bounds key (value_in s.names key)
+        over_fit = fit key (value_in s.names key) over_seen.name
 
         wires_are : wired known (wire_to scope item (reference e) ++ map (outer_wire scope) Uses) ≡ Some (object_of (value_in s.names key))
         wires_are =
@@ -395,21 +432,26 @@ module _ (g : Ground) (scope : Scope) (n : Names) (fs : List Runner) (m k : ℕ)
         run_is : scatter_run n Body k item e s ≡ scattered n Body s k item (limited (value_in s.names key))
         run_is =
             ap (λ w. cond w (scattered n Body s k item (value_of (before (env_of s.names)) e)) (missing n)) (is.reads.known s.names (value_in s.names key) over_seen.name)
-            ∙ ap (scattered n Body s k item) (is.reads.value (env_of s.names) (value_in s.names key) over_seen.name)
+            ∙ ap (scattered n Body s k item) (is.reads.value (env_of s.names) (value_in s.names key) over_fit over_seen.name)
 
-        by_list : (xs : List Value) × (out-Value (value_in s.names key) ≡ value.List xs) × (list_all (has_type t) xs ≡ true) → Agrees Outs (scatter_run n Body k item e s) (step_means s.place known Step)
+        by_list : (xs : List Value) × (out-Value (value_in s.names key) ≡ value.List xs) × (list_all (has_type (type_of t)) xs ≡ true) → Agrees Outs (scatter_run n Body k item e s) (step_means s.place known Step)
         by_list r =
             subst (λ (f : Flowing). Agrees Outs f (step_means s.place known Step)) (sym run_is)
             (subst (Agrees Outs (scattered n Body s k item (limited (value_in s.names key)))) (sym (means_is r.0 r.1)) (by_limit (is_within (value_in s.names key))))
           where
+            items_fit : all_fit structs r.0 t ≡ true
+            items_fit =
+                let l = fits_list structs (value_in s.names key) t some (is.reads.fit (value_in s.names key) over_fit) in
+                ap (λ (y : Value-F Value). all_fit structs (items_at y) t) (sym r.1 ∙ l.2) ∙ l.3
+
             by_limit : (b : Bool) → Agrees Outs (scattered n Body s k item (cond b (Ok (value_in s.names key)) (Err TooLarge)))
                 (cond b (means.gathered (map out_id Outs) (means.each_item Step item place (object_of (value_in s.names key)) 0 r.0)) incomplete)
             by_limit true =
                 subst (λ (ys : List Value). Agrees Outs (flow.gathered n (each_item Body s k item 0 ys)) (means.gathered (map out_id Outs) (means.each_item Step item place (object_of (value_in s.names key)) 0 r.0)))
                 (sym (ap items_at r.1))
                 (gathered_agrees n (body_links ds) (each_item Body s k item 0 r.0) (means.each_item Step item place (object_of (value_in s.names key)) 0 r.0) is.keys
-                (elements_agree (value_in s.names key) 0 r.0 r.2))
+                (elements_agree (value_in s.names key) 0 r.0 items_fit r.2))
             by_limit false = record { clean = refl; jobs = λ h. absurd (false≢true h); given = λ h. absurd (false≢true h) }
 
-  pub scatter_simulates : Simulates g scope (scatter_run n Body k item e) (scatter_draft k item e ds)
+  pub scatter_simulates : Simulates g structs bounds scope (scatter_run n Body k item e) (scatter_draft k item e ds)
   scatter_simulates = record { own = scatter_own; agrees = scatter_agrees }

@@ -1,45 +1,42 @@
 -- A workflow and the flow that is its image, as the document or in a plain step.
-use Rattle.std.proofs.Common.{◌≡◌, ℕ, nat_le, ◌⊎◌, inl, inr, Bool, true, false, cond, not, ◌&&◌, ◌||◌, List, [], ◌∷◌, ◌++◌, append-nil, map, Option, Some, None, option_and_then, Ok, Err, Contains, sym, ap, ◌∙◌, subst, refl}
-use Rattle.std.specs.List.{list_all}
+use Rattle.std.proofs.Common.{◌≡◌, ℕ, ◌⊎◌, inl, inr, Bool, true, false, cond, not, ◌&&◌, ◌||◌, List, [], ◌∷◌, ◌++◌, append-nil, map, Option, Some, None, option_and_then, Ok, Err, Contains, sym, ap, ◌∙◌, subst, refl}
 use Rattle.std.specs.Str.{bytes_eq}
-use Rattle.std.proofs.lemmas.Bool.{false≢true, and_from, and_parts}
+use Rattle.std.proofs.lemmas.Bool.{false≢true, and_parts, or_left, or_parts, or_right}
 use Rattle.std.proofs.lemmas.Slice.Eq.{bytes_eq-Decides}
 use Rattle.wdl_base.specs.declared.fault.EvalCode.TheVariants.{TooLarge}
 use Rattle.wdl_base.specs.declared.name.Key.{Key}
 use Rattle.wdl_base.specs.declared.place.Segment.{Segment}
 use Rattle.wdl_value.specs.declared.env.Bind.{Bind}
-use Rattle.wdl_value.specs.declared.value.Value.{Value, Value-F, fold-Value, fold-roll-Value}
-use Rattle.wdl_value.specs.declared.value.Value.TheVariants as v
-use Rattle.wdl_value.specs.declared.value.Value.TheOpen as value
-use Rattle.wdl_value.specs.Limits.{is_short, is_within, limited, short_step}
-use Rattle.wdl_value.specs.Size.{size, size_step}
-use Rattle.wdl_value.specs.Outcome.{Outcome}
-use Rattle.wdl_typed.specs.declared.expr.TExpr.{TExpr}
+use Rattle.wdl_value.specs.declared.value.Value.{Value}
+use Rattle.wdl_value.specs.Fits.{Structs}
+use Rattle.wdl_value.specs.Limits.{is_within, limited}
 use Rattle.wdl_typed.specs.declared.task.TDecl.{TDecl}
 use Rattle.wdl_typed.specs.declared.task.TInput.{TInput}
-use Rattle.wdl_typed.specs.Declarations.{plain_key}
+use Rattle.wdl_typed.specs.declared.scope.Bound.{Bound}
+use Rattle.wdl_typed.specs.Declarations.{decl_names, input_names, inputs_bound, plain_key}
 use Rattle.wdl_typed.specs.Evaluation.{value_of}
 use Rattle.wdl_typed.specs.Flow as flow
 use Rattle.wdl_typed.specs.Flow.{Flowing, Known, Runner, Sight, all_known, declaration, declared_as, default_of, env_of, in_turn, is_clean, is_known, known, nothing, seeing, together, with_count}
+use Rattle.wdl_typed.specs.Lists.{are_distinct, has_name}
 use Rattle.wdl_typed.specs.Requests.{before}
-use Rattle.wdl_typed.specs.Scope.{lookup, names_of, same_key}
+use Rattle.wdl_typed.specs.Scope.{lookup, same_key}
 use Rattle.cwl_model.specs.declared.process.CwlFlow.{CwlFlow}
 use Rattle.cwl_model.specs.declared.process.CwlStep.{CwlStep}
-use Rattle.cwl_model.specs.declared.process.FlowOut.{FlowOut}
-use Rattle.cwl_model.specs.declared.process.Link.{Link}
 use Rattle.cwl_model.specs.declared.process.Link.TheVariants as link
-use Rattle.cwl_model.specs.declared.tool.CwlIn.{CwlIn}
-use Rattle.cwl_model.specs.Laws.{Apart, IsRunnable, StepsInOnePass, is_of, owned, pass_means}
-use Rattle.cwl_model.specs.Means.{Ground, Job, Meaning, Named, Running, all_jobs, all_taken, are_complete, are_typed, are_within, flow_gives, flow_means, given_or, has_type, incomplete, input_links, is_complete, is_given, known_at_last, named, output_taken, outputs_taken, step_gives, step_means, taken, value_at}
+use Rattle.cwl_model.specs.Laws.{IsRunnable, is_of, owned, pass_means}
+use Rattle.cwl_model.specs.Means.{Ground, Meaning, Named, Running, all_taken, are_complete, are_within, flow_gives, flow_means, has_type, incomplete, input_links, is_complete, is_given, known_at_last, named, or_null, output_taken, outputs_taken, step_gives, step_means, value_at}
 use Rattle.cwl_model.specs.Rounds.{Linked, known_value, one_pass}
 use Rattle.cwl_model.proofs.Passes.{flows_in_one_pass}
 use Rattle.cwl_model.proofs.Rounds.{first_is, first_or_later, later_is, none_is, or_else}
-use Rattle.cwl_image.specs.Image.{Draft, Linkage, Scope, body_links, body_steps, cwl_in, flow_out, input_linkage, link_of, linkage_at, literal, preset_of, reference, type_of, type_or}
-use Rattle.cwl_laws.specs.Laws.{AllDiffer, AllNew, AllSimulate, BodyAgrees, Shown, Shows, all_running, job_of, jobs_of}
-use Rattle.cwl_laws.proofs.Blocks.{AllWires, inputs_only, no_owner, steps_in_order}
-use Rattle.cwl_laws.proofs.Bodies.{bodies_agree, clean_together, jobs_append, key_same, lookup_append}
-use Rattle.cwl_laws.proofs.Conditions.{Reads}
+use Rattle.cwl_image.specs.Image.{Draft, Linkage, Scope, block_output, body_links, body_steps, cwl_in, flow_out, input_linkage, link_of, linkage_at, reference, type_of}
+use Rattle.cwl_laws.specs.Laws.{AllNew, BodyAgrees, Fit, FitsAt, Shows, all_running, has_key, job_of, jobs_of}
+use Rattle.cwl_laws.specs.Premises.{AreGiven, AreMet, AreOutputs, FlowsAgree, IsWorkflow, input_names_with}
+use Rattle.cwl_laws.specs.Tools.{input_value}
+use Rattle.cwl_laws.proofs.Blocks.{inputs_only, no_owner, steps_in_order}
+use Rattle.cwl_laws.proofs.Bodies.{bodies_agree, clean_together, lookup_append, turn_fit}
+use Rattle.cwl_laws.proofs.Conditions.{turn_own}
 use Rattle.cwl_laws.proofs.Objects.{IsSeen, is_seen, value_in}
+use Rattle.cwl_laws.proofs.Starts.{InputsAgree, all_meet, and_true, inputs_agree, start_fit, start_shows}
 
 none_some : {A : Type 0} {x : A} {B : Type 0} → None ≡ Some x → B
 none_some h = cc
@@ -47,167 +44,7 @@ none_some h = cc
 some_same : {A : Type 0} {x y : A} → Some x ≡ Some y → x ≡ y
 some_same h = cc
 
-and_true : (b : Bool) → (b && true) ≡ b
-and_true true = refl
-and_true false = refl
-
-pub absent_within : is_within v.Absent ≡ true
-absent_within =
-    and_from (nat_le (size v.Absent) 4194304) (is_short v.Absent)
-    (ap (λ n. nat_le n 4194304) (ap size (sym v.rolls-Absent) ∙ fold-roll-Value ℕ size_step value.Absent))
-    (ap is_short (sym v.rolls-Absent) ∙ fold-roll-Value Bool short_step value.Absent)
-
--- ---- inputs
-
-abbrev pub LeftOut : TInput → Option TExpr → Type 0
-LeftOut i None = has_type (type_of i.ty) v.Absent ≡ true
-LeftOut i (Some e) = (names_of e ≡ []) × ((env : List Bind) → value_of (before env) e ≡ limited (literal e)) × (has_type (type_of i.ty) (literal e) ≡ true)
-
--- A value that is given is of the input's type and within the limits, and no null in the place of a default; an input that is left
--- out has a literal as its default, or may be null.
-pub record Meets (object : List Named) (i : TInput) : Type 0 where
-  pub given : (x : Value) → value_at object i.name ≡ Some x → (has_type (type_of i.ty) x ≡ true) × (is_within x ≡ true) × (given_or (Some x) (preset_of i.value) ≡ x)
-  pub left : value_at object i.name ≡ None → LeftOut i i.value
-
-abbrev pub input_value : List Named → TInput → Value
-input_value object i = (taken object (cwl_in i)).value
-
-pub record InputAgrees (object : List Named) (i : TInput) (f : Flowing) : Type 0 where
-  pub clean : is_clean f ≡ is_within (input_value object i)
-  pub is : is_clean f ≡ true → f ≡ flow.named (known i.name (Some (input_value object i)))
-  pub typed : has_type (type_of i.ty) (input_value object i) ≡ true
-
-module _ (object : List Named) (given : List Bind) (same : (name : List ℕ) → lookup given (plain_key name) ≡ value_at object name) where
-  input_agrees : (s : Sight) (i : TInput) → Meets object i → InputAgrees object i (flow.input_of s i (lookup given (plain_key i.name)))
-  input_agrees s i meets = subst (λ o. InputAgrees object i (flow.input_of s i o)) (sym (same i.name)) (by_value (value_at object i.name) refl)
-    where
-      left_out : (o : Option TExpr) → value_at object i.name ≡ None → LeftOut i o → i.value ≡ o → InputAgrees object i (default_of s i.name o)
-      left_out None e h d =
-          let value_is : input_value object i ≡ v.Absent = ap (λ w. given_or w (preset_of i.value)) e ∙ ap (λ w. given_or None (preset_of w)) d in
-          record {
-            clean = sym (ap is_within value_is ∙ absent_within);
-            is = λ c. ap (λ x. flow.named (known i.name (Some x))) (sym value_is);
-            typed = ap (has_type (type_of i.ty)) value_is ∙ h;
-          }
-      left_out (Some x) e h d =
-          let value_is : input_value object i ≡ literal x = ap (λ w. given_or w (preset_of i.value)) e ∙ ap (λ w. given_or None (preset_of w)) d in
-          let run_is : declaration s i.name x ≡ declared_as s.place i.name (limited (literal x)) =
-          ap (λ names. cond (list_all (is_known s.names) names) (declared_as s.place i.name (value_of (before (env_of s.names)) x)) (flow.named (known i.name None))) h.0
-          ∙ ap (declared_as s.place i.name) (h.1 (env_of s.names)) in
-          subst (InputAgrees object i) (sym run_is) (by_limit value_is h.2 (is_within (literal x)) refl)
-        where
-          by_limit : input_value object i ≡ literal x → has_type (type_of i.ty) (literal x) ≡ true → (b : Bool) → is_within (literal x) ≡ b
-              → InputAgrees object i (declared_as s.place i.name (cond b (Ok (literal x)) (Err TooLarge)))
-          by_limit value_is t true w =
-              record {
-                clean = sym (ap is_within value_is ∙ w);
-                is = λ c. ap (λ y. flow.named (known i.name (Some y))) (sym value_is);
-                typed = ap (has_type (type_of i.ty)) value_is ∙ t;
-              }
-          by_limit value_is t false w =
-              record {
-                clean = sym (ap is_within value_is ∙ w);
-                is = λ c. absurd (false≢true c);
-                typed = ap (has_type (type_of i.ty)) value_is ∙ t;
-              }
-
-      by_value : (o : Option Value) → value_at object i.name ≡ o → InputAgrees object i (flow.input_of s i o)
-      by_value None e = left_out i.value e (meets.left e) refl
-      by_value (Some x) e =
-          let h = meets.given x e in
-          let value_is : input_value object i ≡ x = ap (λ w. given_or w (preset_of i.value)) e ∙ h.2 in
-          record {
-            clean = sym (ap is_within value_is ∙ h.1);
-            is = λ c. ap (λ y. flow.named (known i.name (Some y))) (sym value_is);
-            typed = ap (has_type (type_of i.ty)) value_is ∙ h.0;
-          }
-
-  abbrev AllMeet : List TInput → Type 0
-  AllMeet [] = Unit {0}
-  AllMeet (i ∷ is) = Meets object i × AllMeet is
-
-  abbrev input_names : List TInput → List Known
-  input_names is = map (λ (i : TInput). known i.name (Some (input_value object i))) is
-
-  pub record InputsAgree (is : List TInput) (f : Flowing) : Type 0 where
-    pub clean : is_clean f ≡ are_within (all_taken object (map cwl_in is))
-    pub names : is_clean f ≡ true → f.names ≡ input_names is
-    pub jobs : is_clean f ≡ true → f.jobs ≡ []
-    pub typed : are_typed object (map cwl_in is) ≡ true
-
-  pub inputs_agree : (is : List TInput) (s : Sight) → AllMeet is → InputsAgree is (flow.inputs given is s)
-  inputs_agree [] s h = record { clean = refl; names = λ c. refl; jobs = λ c. refl; typed = refl }
-  inputs_agree (i ∷ is) s h =
-      both (flow.input_of s i (lookup given (plain_key i.name))) (input_agrees s i h.0)
-      (inputs_agree is (seeing s (flow.input_of s i (lookup given (plain_key i.name)))) h.1)
-    where
-      both : (f : Flowing) → InputAgrees object i f → InputsAgree is (flow.inputs given is (seeing s f)) → InputsAgree (i ∷ is) (together f (flow.inputs given is (seeing s f)))
-      both f a r =
-          let rest = flow.inputs given is (seeing s f) in
-          record {
-            clean = clean_together f rest ∙ ap (λ b. b && is_clean rest) a.clean ∙ ap (λ b. is_within (input_value object i) && b) r.clean;
-            names = λ c.
-                let p = and_parts (is_clean f) (is_clean rest) (sym (clean_together f rest) ∙ c) in
-                ap (λ (z : Flowing). z.names ++ rest.names) (a.is p.0) ∙ ap (λ ks. known i.name (Some (input_value object i)) ∷ ks) (r.names p.1);
-            jobs = λ c.
-                let p = and_parts (is_clean f) (is_clean rest) (sym (clean_together f rest) ∙ c) in
-                ap (λ (z : Flowing). z.jobs ++ rest.jobs) (a.is p.0) ∙ r.jobs p.1;
-            typed = and_from (has_type (type_of i.ty) (input_value object i)) (are_typed object (map cwl_in is)) a.typed r.typed;
-          }
-
-  -- ---- what the body sees at its beginning
-
-  abbrev FoundIn : List TInput → Key → Linkage → Type 0
-  FoundIn is key l =
-      (j : TInput) × (input_linkage j ≡ l) × (plain_key j.name ≡ key) × (lookup (env_of (input_names is)) key ≡ Some (input_value object j))
-      × (known_value (input_links (all_taken object (map cwl_in is))) (link.Input j.name) ≡ Some (input_value object j)) × (has_type (type_of j.ty) (input_value object j) ≡ true)
-
-  input_found : (is : List TInput) → are_typed object (map cwl_in is) ≡ true → (key : Key) (l : Linkage) → linkage_at (map input_linkage is) key ≡ Some l → FoundIn is key l
-  input_found [] t key l h = none_some h
-  input_found (i ∷ is) t key l h =
-      let p = and_parts (has_type (type_of i.ty) (input_value object i)) (are_typed object (map cwl_in is)) t in
-      by_test p.0 (λ e. input_found is p.1 key l e) (same_key (plain_key i.name) key) refl h
-    where
-      by_test : has_type (type_of i.ty) (input_value object i) ≡ true → (linkage_at (map input_linkage is) key ≡ Some l → FoundIn is key l) → (b : Bool) → same_key (plain_key i.name) key ≡ b
-          → cond b (Some (input_linkage i)) (linkage_at (map input_linkage is) key) ≡ Some l → FoundIn (i ∷ is) key l
-      by_test t rest true e q = (
-        i,
-        some_same q,
-        key_same (plain_key i.name) key e,
-        ap (λ b. cond b (Some (input_value object i)) (lookup (env_of (input_names is)) key)) e,
-        ap (λ b. cond b (Some (input_value object i)) (known_value (input_links (all_taken object (map cwl_in is))) (link.Input i.name))) ((bytes_eq-Decides i.name i.name).1 refl),
-        t,
-      )
-      by_test t rest false e q =
-          let r = rest q in
-          let other : bytes_eq i.name r.0.name ≡ false = sym (and_true (bytes_eq i.name r.0.name)) ∙ ap (same_key (plain_key i.name)) r.2 ∙ e in (
-            r.0,
-            r.1,
-            r.2,
-            ap (λ b. cond b (Some (input_value object i)) (lookup (env_of (input_names is)) key)) e ∙ r.3,
-            ap (λ b. cond b (Some (input_value object i)) (known_value (input_links (all_taken object (map cwl_in is))) (link.Input r.0.name))) other ∙ r.4,
-            r.5,
-          )
-
-  pub start_shows : (is : List TInput) → are_typed object (map cwl_in is) ≡ true → Shows (map input_linkage is) (input_names is) (input_links (all_taken object (map cwl_in is)))
-  start_shows is t key l h =
-      let r = input_found is t key l h in
-      subst (λ (z : Linkage). Shown (input_names is) (input_links (all_taken object (map cwl_in is))) z) r.1
-      (input_value object r.0, ap (λ k. lookup (env_of (input_names is)) k) r.2 ∙ r.3, r.4, r.5)
-
 -- ---- outputs
-
--- an output is a reference to what the scope has, of its type
-pub record IsOutput (scope : Scope) (d : TDecl) : Type 0 where
-  pub key : Key
-  pub reads : Reads d.value key
-  pub linkage : Linkage
-  pub at : linkage_at scope key ≡ Some linkage
-  pub ty : linkage.ty ≡ type_of d.ty
-
-abbrev pub AreOutputs : Scope → List TDecl → Type 0
-AreOutputs scope [] = Unit {0}
-AreOutputs scope (d ∷ ds) = IsOutput scope d × AreOutputs scope ds
 
 -- the same names with the same values, each of its type
 abbrev pub OutsGiven : List TDecl → List Known → List Named → Type 0
@@ -223,25 +60,37 @@ pub record OutsAgree (ds : List TDecl) (f : Flowing) (o : Option (List Named)) :
 shows_more : (scope : Scope) (names more : List Known) (kn : List Linked) → Shows scope names kn → Shows scope (names ++ more) kn
 shows_more scope names more kn h key l e = let x = h key l e in (x.0, lookup_append names more l.key ∙ ap (λ o. or_else o (lookup (env_of more) l.key)) x.1, x.2, x.3)
 
-outs_agree : (scope : Scope) (kn : List Linked) (ds : List TDecl) (s : Sight) → AreOutputs scope ds → Shows scope s.names kn
+-- the values of what the scope has fit
+abbrev ScopeFits : Structs → List Bound → Scope → List Known → Type 0
+ScopeFits structs seen scope names = (key : Key) (l : Linkage) → linkage_at scope key ≡ Some l → FitsAt structs seen key (value_in names key)
+
+fits_more : (structs : Structs) (seen : List Bound) (scope : Scope) (names more : List Known) (kn : List Linked) → Shows scope names kn → ScopeFits structs seen scope names → ScopeFits structs seen scope (names ++ more)
+fits_more structs seen scope names more kn shows fit key l e =
+    let x = is_seen scope names kn shows key l e in
+    subst (FitsAt structs seen key) (sym (ap or_null (lookup_append names more key ∙ ap (λ o. or_else o (lookup (env_of more) key)) x.name))) (fit key l e)
+
+outs_agree : (structs : Structs) (seen : List Bound) (scope : Scope) (kn : List Linked) (ds : List TDecl) (s : Sight) → AreOutputs structs seen scope ds → ScopeFits structs seen scope s.names → Shows scope s.names kn
     → OutsAgree ds (flow.outputs ds s) (outputs_taken true kn (map (flow_out scope) ds))
-outs_agree scope kn [] s h shows = record { clean = refl; jobs = λ c. refl; outs = λ c. ([], refl, tt) }
-outs_agree scope kn (d ∷ ds) s h shows =
-    by_limit (λ f. outs_agree scope kn ds (seeing s f) h.1 (shows_more scope s.names f.names kn shows)) (is_within (value_in s.names h.0.key)) refl
+outs_agree structs bounds scope kn [] s h fit shows = record { clean = refl; jobs = λ c. refl; outs = λ c. ([], refl, tt) }
+outs_agree structs bounds scope kn (d ∷ ds) s h fit shows =
+    by_limit (λ f. outs_agree structs bounds scope kn ds (seeing s f) h.1 (fits_more structs bounds scope s.names f.names kn shows fit) (shows_more scope s.names f.names kn shows)) (is_within (value_in s.names h.0.key)) refl
   where
     x : Value
     x = value_in s.names h.0.key
 
     seen : IsSeen scope s.names kn h.0.key
-    seen = is_seen scope s.names kn shows h.0.key h.0.linkage h.0.at
+    seen = is_seen scope s.names kn shows h.0.key h.0.source.0 h.0.source.1
+
+    ok : FitsAt structs bounds h.0.key (value_in s.names h.0.key)
+    ok = fit h.0.key h.0.source.0 h.0.source.1
 
     typed : has_type (type_of d.ty) (value_in s.names h.0.key) ≡ true
-    typed = ap (λ t. has_type t (value_in s.names h.0.key)) (sym (ap type_or h.0.at ∙ h.0.ty)) ∙ seen.ty
+    typed = h.0.reads.typed (value_in s.names h.0.key) ok
 
     run_is : declaration s d.name d.value ≡ declared_as s.place d.name (limited (value_in s.names h.0.key))
     run_is =
         ap (λ b. cond b (declared_as s.place d.name (value_of (before (env_of s.names)) d.value)) (flow.named (known d.name None))) (h.0.reads.known s.names (value_in s.names h.0.key) seen.name)
-        ∙ ap (declared_as s.place d.name) (h.0.reads.value (env_of s.names) (value_in s.names h.0.key) seen.name)
+        ∙ ap (declared_as s.place d.name) (h.0.reads.value (env_of s.names) (value_in s.names h.0.key) ok seen.name)
 
     taken_is : output_taken true (flow_out scope d) (known_value kn (link_of scope (reference d.value)))
         ≡ cond (is_within (value_in s.names h.0.key)) (Some (named d.name (value_in s.names h.0.key))) None
@@ -289,17 +138,15 @@ outs_agree scope kn (d ∷ ds) s h shows =
 
 -- ---- the whole
 
--- a workflow whose statements agree with their steps
-pub record IsWorkflow (g : Ground) (object : List Named) (is : List TInput) (fs : List Runner) (ds : List Draft) (outs : List TDecl) : Type 0 where
-  pub meet : (given : List Bind) (same : (name : List ℕ) → lookup given (plain_key name) ≡ value_at object name) → AllMeet object given same is
-  pub all : AllSimulate g (map input_linkage is) fs ds
-  pub differ : AllDiffer ds
-  pub wires : AllWires ds
-  pub apart : Apart is_of (all_running g (body_steps ds (map input_linkage is)))
-  pub new : AllNew ds (map (λ (i : TInput). known i.name (Some (input_value object i))) is)
-  pub outputs : AreOutputs (map input_linkage is ++ body_links ds) outs
+pub named_among : (ds : List TDecl) (c : TDecl) → Contains ds c → has_name c.name (decl_names ds) ≡ true
+named_among [] c i = absurd (none_is c i)
+named_among (d ∷ ds) c i = by_case (λ j. named_among ds c j) (first_or_later d ds c i)
+  where
+    by_case : (Contains ds c → has_name c.name (decl_names ds) ≡ true) → (d ≡ c) ⊎ Contains ds c → (bytes_eq d.name c.name || has_name c.name (decl_names ds)) ≡ true
+    by_case rest (inl e) = or_left (bytes_eq d.name c.name) (has_name c.name (decl_names ds)) ((bytes_eq-Decides d.name c.name).1 (ap (λ (z : TDecl). z.name) e))
+    by_case rest (inr j) = or_right (bytes_eq d.name c.name) (has_name c.name (decl_names ds)) (rest j)
 
--- the flow is clean exactly where its image is complete; then jobs and outputs agree
+-- The flow is clean exactly where its image is complete; then jobs and outputs agree.
 pub record FlowAgrees (outs : List TDecl) (names : List Known) (f : Flowing) (m : Meaning) : Type 0 where
   pub clean : is_clean f ≡ is_complete m
   pub jobs : is_clean f ≡ true → jobs_of f ≡ m.jobs
@@ -313,19 +160,13 @@ inputs_linked (j ∷ is) l c = by_case (λ d. inputs_linked is l d) (first_or_la
     by_case rest (inl e) = (j.name, ap (λ (z : Linkage). z.link) (sym e))
     by_case rest (inr d) = rest d
 
-module _ (g : Ground) (object : List Named) (given : List Bind) (same : (name : List ℕ) → lookup given (plain_key name) ≡ value_at object name)
-    (is : List TInput) (fs : List Runner) (ds : List Draft) (outs : List TDecl) (m : ℕ) (place : List Segment) (w : IsWorkflow g object is fs ds outs) where
-  abbrev Start : Scope
-  Start = map input_linkage is
-
+module _ (g : Ground) (structs : Structs) (object : List Named) (given : List Bind) (same : (name : List ℕ) → lookup given (plain_key name) ≡ value_at object name)
+    (is : List TInput) (fs : List Runner) (ds : List Draft) (outs : List TDecl) (m : ℕ) (place : List Segment) (w : IsWorkflow g structs is fs ds outs) (met : AreMet structs object is) where
   abbrev Steps : List (CwlStep Running)
   Steps = all_running g (body_steps ds (map input_linkage is))
 
   abbrev Image : CwlFlow Running
   Image = record { inputs = map cwl_in is; outputs = map (flow_out (map input_linkage is ++ body_links ds)) outs; steps = all_running g (body_steps ds (map input_linkage is)) }
-
-  abbrev Zero : Sight
-  Zero = flow.beginning place
 
   abbrev Ins : Flowing
   Ins = flow.inputs given is (flow.beginning place)
@@ -366,8 +207,8 @@ module _ (g : Ground) (object : List Named) (given : List Bind) (same : (name : 
         apart = w.apart;
       }
 
-  inputs_are : InputsAgree object given same is Ins
-  inputs_are = inputs_agree object given same is (flow.beginning place) (w.meet given same)
+  inputs_are : InputsAgree structs object given same is Ins
+  inputs_are = inputs_agree structs object given same is (flow.beginning place) (all_meet structs object is w.inputs met)
 
   whole_clean : is_clean Whole ≡ (is_clean Ins && (is_clean Body && is_clean Outs))
   whole_clean =
@@ -382,16 +223,23 @@ module _ (g : Ground) (object : List Named) (given : List Bind) (same : (name : 
       ∙ ap (λ ms. cond b (flow_gives true (map (flow_out (map input_linkage is ++ body_links ds)) outs) Last ms) incomplete) one.means
 
   module _ (clean : is_clean Ins ≡ true) where
+    one_fits : Fit structs (inputs_bound is) (One).names
+    one_fits = subst (Fit structs (inputs_bound is)) (sym (inputs_are.names clean)) (start_fit structs object given same is inputs_are.fit)
+
     body_agrees : BodyAgrees g ds (map input_linkage is) place (One).names Links (in_turn fs One)
     body_agrees =
-        bodies_agree g fs ds (map input_linkage is) One Links w.all w.differ w.apart (λ l o. inputs_only g (all_taken object (map cwl_in is)) l Steps o)
-        (subst (AllNew ds) (sym (inputs_are.names clean)) w.new)
-        (subst (λ ks. Shows (map input_linkage is) ks Links) (sym (inputs_are.names clean)) (start_shows object given same is inputs_are.typed))
+        bodies_agree g structs (inputs_bound is) w.after fs ds (map input_linkage is) One Links w.all w.differ w.apart (λ l o. inputs_only g (all_taken object (map cwl_in is)) l Steps o)
+        (subst (AllNew ds) (sym (inputs_are.names clean)) (w.new (input_value object))) one_fits
+        (subst (λ ks. Shows (map input_linkage is) ks Links) (sym (inputs_are.names clean)) (start_shows structs object given same is inputs_are.typed))
+
+    two_fits : Fit structs w.after (Two).names
+    two_fits = turn_fit g structs (inputs_bound is) w.after fs ds (map input_linkage is) One w.all one_fits
 
     outputs_are : is_clean Body ≡ true → OutsAgree outs Outs (outputs_taken true Last (map (flow_out (map input_linkage is ++ body_links ds)) outs))
     outputs_are c =
         let one = flows_in_one_pass place Steps (all_taken object (map cwl_in is)) runnable in
-        outs_agree (map input_linkage is ++ body_links ds) Last outs Two w.outputs
+        outs_agree structs w.after (map input_linkage is ++ body_links ds) Last outs Two w.outputs
+        (λ key l e. two_fits key (value_in (Two).names key) (is_seen (map input_linkage is ++ body_links ds) (Two).names (one_pass (step_gives place) Steps Links) (body_agrees.shows c) key l e).name)
         (λ key l e. let x = body_agrees.shows c key l e in (x.0, x.1, one.known l.link ∙ x.2, x.3))
 
     whole_agrees : FlowAgrees outs (Outs).names Whole Given
@@ -422,7 +270,6 @@ module _ (g : Ground) (object : List Named) (given : List Bind) (same : (name : 
               outputs = λ h. absurd (false≢true (sym stops ∙ h));
             }
 
-  -- The flow of a workflow is clean exactly where its image is complete; then jobs and outputs agree.
   pub workflow_agrees : FlowAgrees outs (Outs).names Whole (flow_means Image true place object)
   workflow_agrees = by_inputs (is_clean Ins) refl
     where
@@ -432,3 +279,82 @@ module _ (g : Ground) (object : List Named) (given : List Bind) (same : (name : 
           let stops : is_clean Whole ≡ false = whole_clean ∙ ap (λ b. b && (is_clean Body && is_clean Outs)) c in
           subst (FlowAgrees outs (Outs).names Whole) (sym (opened false (sym inputs_are.clean ∙ c)))
           (record { clean = stops; jobs = λ h. absurd (false≢true (sym stops ∙ h)); outputs = λ h. absurd (false≢true (sym stops ∙ h)) })
+
+  -- ---- outputs among all names
+
+  no_input : (name : List ℕ) → (js : List TInput) → has_name name (input_names js) ≡ false → lookup (env_of (input_names_with (input_value object) js)) (plain_key name) ≡ None
+  no_input name [] h = refl
+  no_input name (j ∷ js) h =
+      let p = or_parts (bytes_eq j.name name) (has_name name (input_names js)) h in
+      ap (λ b. cond (b && true) (Some (input_value object j)) (lookup (env_of (input_names_with (input_value object) js)) (plain_key name))) p.0 ∙ no_input name js p.1
+
+  no_link : (ls : Scope) (key : Key) → linkage_at ls key ≡ None → has_key (map (block_output (λ t. t)) ls) key ≡ false
+  no_link [] key h = refl
+  no_link (l ∷ ls) key h = by_test (no_link ls key) (same_key l.key key) h
+    where
+      by_test : (linkage_at ls key ≡ None → has_key (map (block_output (λ t. t)) ls) key ≡ false) → (b : Bool) → cond b (Some l) (linkage_at ls key) ≡ None
+          → (b || has_key (map (block_output (λ t. t)) ls) key) ≡ false
+      by_test rest true e = none_some (sym e)
+      by_test rest false e = rest e
+
+  no_body : (name : List ℕ) → lookup (env_of (in_turn fs One).names) (plain_key name) ≡ None
+  no_body name =
+      turn_own g structs (inputs_bound is) w.after (λ t. t) fs ds (map input_linkage is) One w.all (plain_key name) (no_link (body_links ds) (plain_key name) (w.body_plain name))
+
+  abbrev Names : List Known
+  Names = (Ins).names ++ ((in_turn fs One).names ++ ((Outs).names ++ []))
+
+  among_all : is_clean Ins ≡ true → (name : List ℕ) → has_name name (input_names is) ≡ false → (o : Option Value) → lookup (env_of (Outs).names) (plain_key name) ≡ o
+      → lookup (env_of Names) (plain_key name) ≡ o
+  among_all clean name new o h =
+      lookup_append (Ins).names ((in_turn fs One).names ++ ((Outs).names ++ [])) (plain_key name)
+      ∙ ap (λ p. or_else p (lookup (env_of ((in_turn fs One).names ++ ((Outs).names ++ []))) (plain_key name))) (ap (λ ks. lookup (env_of ks) (plain_key name)) (inputs_are.names clean) ∙ no_input name is new)
+      ∙ lookup_append (in_turn fs One).names ((Outs).names ++ []) (plain_key name)
+      ∙ ap (λ p. or_else p (lookup (env_of ((Outs).names ++ [])) (plain_key name))) (no_body name)
+      ∙ ap (λ ks. lookup (env_of ks) (plain_key name)) (append-nil (Outs).names)
+      ∙ h
+
+  outs_given : (names : List Known) (os : List TDecl) (ks : List Known) (ns : List Named) → are_distinct (decl_names os) ≡ true
+      → ((d : TDecl) → Contains os d → (o : Option Value) → lookup (env_of ks) (plain_key d.name) ≡ o → lookup (env_of names) (plain_key d.name) ≡ o)
+      → OutsGiven os ks ns → AreGiven os names ns
+  outs_given names [] [] [] differ all h = tt
+  outs_given names [] (k ∷ ks) ns differ all h = absurd h
+  outs_given names [] [] (n ∷ ns) differ all h = absurd h
+  outs_given names (d ∷ os) [] ns differ all h = absurd h
+  outs_given names (d ∷ os) (k ∷ ks) [] differ all h = absurd h
+  outs_given names (d ∷ os) (k ∷ ks) (n ∷ ns) differ all h =
+      let p = and_parts (not (has_name d.name (decl_names os))) (are_distinct (decl_names os)) differ in (
+        h.1,
+        all d (first_is d os) (Some n.value) (here k h.0),
+        h.2,
+        outs_given names os ks ns p.1 (λ c i o e. all c (later_is d os c i) o (later c k h.0 (other c i p.0) ∙ e)) h.3,
+      )
+    where
+      here : (k : Known) → k ≡ known d.name (Some n.value) → lookup (env_of (k ∷ ks)) (plain_key d.name) ≡ Some n.value
+      here k e =
+          ap (λ (z : Known). lookup (env_of (z ∷ ks)) (plain_key d.name)) e
+          ∙ ap (λ b. cond (b && true) (Some n.value) (lookup (env_of ks) (plain_key d.name))) ((bytes_eq-Decides d.name d.name).1 refl)
+
+      later : (c : TDecl) (k : Known) → k ≡ known d.name (Some n.value) → bytes_eq d.name c.name ≡ false → lookup (env_of (k ∷ ks)) (plain_key c.name) ≡ lookup (env_of ks) (plain_key c.name)
+      later c k e n_ =
+          ap (λ (z : Known). lookup (env_of (z ∷ ks)) (plain_key c.name)) e ∙ ap (λ b. cond (b && true) (Some n.value) (lookup (env_of ks) (plain_key c.name))) n_
+
+      other : (c : TDecl) → Contains os c → not (has_name d.name (decl_names os)) ≡ true → bytes_eq d.name c.name ≡ false
+      other c i h = by_test (bytes_eq d.name c.name) refl
+        where
+          by_test : (b : Bool) → bytes_eq d.name c.name ≡ b → b ≡ false
+          by_test false e = refl
+          by_test true e =
+              absurd (false≢true (sym (ap not (named_among os c i ∙ refl)) ∙ subst (λ (m : List ℕ). not (has_name m (decl_names os)) ≡ true) ((bytes_eq-Decides d.name c.name).0 e) h))
+
+  -- The flow of a workflow is clean exactly where its image is complete; then jobs and outputs agree.
+  pub workflow_simulates : FlowsAgree outs Whole (flow_means Image true place object)
+  workflow_simulates =
+      record {
+        clean = workflow_agrees.clean;
+        jobs = workflow_agrees.jobs;
+        outputs = λ c.
+            let q = workflow_agrees.outputs c in
+            let ins : is_clean Ins ≡ true = (and_parts (is_clean Ins) (is_clean Body && is_clean Outs) (sym whole_clean ∙ c)).0 in
+            (q.0, q.1, outs_given Names outs (Outs).names q.0 w.outputs_differ (λ d i o e. among_all ins d.name (w.outputs_new d i) o e) q.2);
+      }

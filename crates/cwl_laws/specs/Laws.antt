@@ -1,13 +1,16 @@
 -- The law of simulation.
 use Rattle.std.specs.List.{list_any}
 use Rattle.cwl_model.specs.declared.process.Link.{Link}
-use Rattle.std.specs.Prelude.{◌≡◌, ℕ, Bool, true, false, List, [], ◌∷◌, ◌++◌, Option, Some, None, map, Contains}
+use Rattle.std.specs.Prelude.{◌≡◌, Bool, true, false, List, [], ◌∷◌, ◌++◌, Some, None, map}
 use Rattle.wdl_base.specs.declared.name.Key.{Key}
 use Rattle.wdl_base.specs.declared.place.Segment.{Segment}
 use Rattle.wdl_base.specs.declared.request.Request.{Request}
+use Rattle.wdl_value.specs.declared.ty.Ty.{Ty}
 use Rattle.wdl_value.specs.declared.value.Value.{Value}
+use Rattle.wdl_value.specs.Fits.{Structs, fits}
+use Rattle.wdl_typed.specs.declared.scope.Bound.{Bound}
 use Rattle.wdl_typed.specs.Flow.{Flowing, Known, Runner, Sight, env_of, in_turn, is_clean}
-use Rattle.wdl_typed.specs.Scope.{lookup, same_key}
+use Rattle.wdl_typed.specs.Scope.{lookup, same_key, type_in}
 use Rattle.cwl_model.specs.declared.process.CwlStep.{CwlStep}
 use Rattle.cwl_model.specs.declared.process.Process.{Process}
 use Rattle.cwl_model.specs.Laws.{Apart, is_of, owned, pass_means}
@@ -59,19 +62,33 @@ NewItems (k ∷ ks) names = (lookup (env_of names) k ≡ None) × NewItems ks na
 abbrev pub has_key : List Output → Key → Bool
 has_key os key = list_any (λ (o : Output). same_key o.key key) os
 
--- A statement and its step, where the references have values: it gives values to its own references alone, and agrees with its
--- step.
-pub record Simulates (g : Ground) (scope : Scope) (run : Runner) (d : Draft) : Type 0 where
+-- the value fits the type with which the name is seen
+abbrev pub FitsAt : Structs → List Bound → Key → Value → Type 0
+FitsAt structs seen key x = (t : Ty) × (type_in seen key ≡ Some t) × (fits structs x t ≡ true)
+
+-- Each name with a value is seen with a type, which the value fits.
+abbrev pub Fit : Structs → List Bound → List Known → Type 0
+Fit structs seen names = (key : Key) (x : Value) → lookup (env_of names) key ≡ Some x → FitsAt structs seen key x
+
+-- Where the names fit, those of the statement fit too, by these types.
+pub record Keeps (structs : Structs) (seen gives : List Bound) (run : Runner) : Type 0 where
+  pub fit : (s : Sight) → Fit structs seen s.names → Fit structs (seen ++ gives) (s.names ++ (run s).names)
+
+-- A statement and its step, where names are seen with types that their values fit, and the references have values: it gives
+-- values to its own references alone, and agrees with its step.
+pub record Simulates (g : Ground) (structs : Structs) (seen : List Bound) (scope : Scope) (run : Runner) (d : Draft) : Type 0 where
   pub own : (s : Sight) (key : Key) → has_key d.outs key ≡ false → lookup (env_of (run s).names) key ≡ None
-  pub agrees : (s : Sight) (known : List Linked) → Shows scope s.names known → New d.outs s.names → NewItems d.items s.names
+  pub agrees : (s : Sight) (known : List Linked) → Fit structs seen s.names → Shows scope s.names known → New d.outs s.names → NewItems d.items s.names
       → Agrees d.outs (run s) (step_means s.place known (as_running g (step_of d scope)))
 
--- one statement after the other
-abbrev pub AllSimulate : Ground → Scope → List Runner → List Draft → Type 0
-AllSimulate g scope [] [] = Unit {0}
-AllSimulate g scope [] (d ∷ ds) = ⊥
-AllSimulate g scope (f ∷ fs) [] = ⊥
-AllSimulate g scope (f ∷ fs) (d ∷ ds) = Simulates g scope f d × AllSimulate g (scope ++ links_of d) fs ds
+-- One statement after the other; the last names are what is seen after them.
+abbrev pub AllSimulate : Ground → Structs → List Bound → Scope → List Runner → List Draft → List Bound → Type 0
+AllSimulate g structs seen scope [] [] after = seen ≡ after
+AllSimulate g structs seen scope [] (d ∷ ds) after = ⊥
+AllSimulate g structs seen scope (f ∷ fs) [] after = ⊥
+AllSimulate g structs seen scope (f ∷ fs) (d ∷ ds) after =
+    (gives : List Bound) × Keeps structs seen gives f × Simulates g structs seen scope f d
+    × AllSimulate g structs (seen ++ gives) (scope ++ links_of d) fs ds after
 
 -- the references that statements give have no value before them
 abbrev pub AllNew : List Draft → List Known → Type 0
@@ -100,7 +117,7 @@ AllDiffer (d ∷ ds) = KeysDiffer d.outs ds × AllDiffer ds
 abbrev pub Free : List (CwlStep Running) → List Linked → Type 0
 Free ss known = (l : Link) → owned is_of ss l ≡ true → known_value known l ≡ None
 
--- what statements give in turn, and what their steps mean in one pass
+-- What statements give in turn, and what their steps mean in one pass.
 pub record BodyAgrees (g : Ground) (ds : List Draft) (scope : Scope) (place : List Segment) (names : List Known) (known : List Linked) (f : Flowing) : Type 0 where
   pub clean : is_clean f ≡ are_complete (pass_means place (all_running g (body_steps ds scope)) known)
   pub jobs : is_clean f ≡ true → jobs_of f ≡ all_jobs (pass_means place (all_running g (body_steps ds scope)) known)
@@ -109,6 +126,7 @@ pub record BodyAgrees (g : Ground) (ds : List Draft) (scope : Scope) (place : Li
 -- Where each statement agrees with its step, what all of them give in turn agrees with what the steps mean in one pass.
 abbrev pub BodiesAgree : Type 0
 BodiesAgree =
-    (g : Ground) (fs : List Runner) (ds : List Draft) (scope : Scope) (s : Sight) (known : List Linked) → AllSimulate g scope fs ds → AllDiffer ds
-    → Apart is_of (all_running g (body_steps ds scope)) → Free (all_running g (body_steps ds scope)) known → AllNew ds s.names → Shows scope s.names known
+    (g : Ground) (structs : Structs) (seen after : List Bound) (fs : List Runner) (ds : List Draft) (scope : Scope) (s : Sight) (known : List Linked)
+    → AllSimulate g structs seen scope fs ds after → AllDiffer ds → Apart is_of (all_running g (body_steps ds scope)) → Free (all_running g (body_steps ds scope)) known → AllNew ds s.names
+    → Fit structs seen s.names → Shows scope s.names known
     → BodyAgrees g ds scope s.place s.names known (in_turn fs s)

@@ -1,8 +1,36 @@
 //! Laws of the definitions, which say nothing of code.
 
 ghost use Rattle.cwl_laws.specs.Laws.{BodiesAgree};
+ghost use Rattle.cwl_laws.specs.Parts.{CalleesAgree, ConditionsSimulate, FlowCallsKept, FlowCallsSimulate, IdsRead, InputsKept, ReferencesDiffer, ReferencesRead, ScattersSimulate, StatementsGive, TaskCallsKept, TaskCallsSimulate, TaskInputsKept, TasksAreTools, UsesAreSeen, WiresRefer};
 
-/// What statements give in turn is what the steps of their image mean in one pass.
+/// What the statements of a workflow give is what the steps of their image mean: statements in turn and steps in one pass,
+/// conditions, scatters, calls of tasks and of workflows, and workflows to any depth.
 pub fn simulation()
     ensures bodies { BodiesAgree }
+    ensures conditions { ConditionsSimulate }
+    ensures scatters { ScattersSimulate }
+    ensures task_calls { TaskCallsSimulate }
+    ensures flow_calls { FlowCallsSimulate }
+    ensures callees { CalleesAgree }
+{}
+
+/// What the rules of the subset say of a checked form: tasks are as their tools, defaults are their values, references read
+/// what they refer to, and calls agree with their steps.
+pub fn subset()
+    ensures tasks { TasksAreTools }
+    ensures task_inputs { TaskInputsKept }
+    ensures inputs { InputsKept }
+    ensures references { ReferencesRead }
+    ensures task_calls { TaskCallsKept }
+    ensures flow_calls { FlowCallsKept }
+{}
+
+/// What steps are called and give: ids of references differ and read as places, wires go to what is linked, and the outputs of
+/// a step are the names that its statement gives out.
+pub fn drafts()
+    ensures read { IdsRead }
+    ensures differ { ReferencesDiffer }
+    ensures wires { WiresRefer }
+    ensures given { StatementsGive }
+    ensures uses { UsesAreSeen }
 {}
