@@ -1,6 +1,6 @@
 -- What the outputs of a task of the subset are: its standard output, or a file by its name.
-use Rattle.std.proofs.Common.{◌≡◌, ℕ, ◌==◌, nat_le, Bool, true, false, cond, not, ◌&&◌, ◌||◌, List, [], ◌∷◌, ◌++◌, append_assoc, append-nil, Some, None, Ok, Err, codes, sym, ap, ◌∙◌, subst, refl}
-use Rattle.std.specs.List.{list_any}
+use Rattle.std.proofs.Common.{◌≡◌, ℕ, ◌==◌, nat_le, Bool, true, false, cond, not, ◌&&◌, ◌||◌, List, [], ◌∷◌, ◌++◌, append_assoc, append-nil, Some, None, option_and_then, Ok, Err, codes, sym, ap, ◌∙◌, subst, refl}
+use Rattle.std.specs.List.{list_any, onto_first}
 use Rattle.std.specs.Option.{unwrap_or}
 use Rattle.std.specs.Str.{bytes_eq}
 use Rattle.std.proofs.lemmas.Bool.{false≢true, and_from, and_parts, or_parts}
@@ -20,7 +20,8 @@ use Rattle.wdl_value.specs.declared.value.Value.TheOpen as value
 use Rattle.wdl_value.specs.Bare.{bare, is_optional}
 use Rattle.wdl_value.specs.Cast.{Caster, cast, cast_at}
 use Rattle.wdl_value.specs.CastOut.{cast_out}
-use Rattle.wdl_value.specs.Files.{begins_at_root, left_body, local_name, seen_body, stripped, without_points}
+use Rattle.wdl_value.specs.Files.{begins_at_root, but_last, is_here, is_up, left_body, local_name, name_of, relative_name, seen_body, stripped, with_parts}
+use Rattle.wdl_value.specs.Paths.{parts_of}
 use Rattle.wdl_value.specs.Fits.{Structs}
 use Rattle.wdl_value.specs.Limits.{is_short, is_within, limited, short_step}
 use Rattle.wdl_value.specs.Outcome.{Outcome, and_then}
@@ -30,7 +31,7 @@ use Rattle.wdl_typed.specs.declared.expr.TExpr.TheVariants as e
 use Rattle.wdl_typed.specs.declared.expr.TExpr.TheOpen as layer
 use Rattle.wdl_typed.specs.Evaluation.{Met, Setting, from_cast, met, settled, then_, value_met, value_of, value_step}
 use Rattle.wdl_typed.specs.KnownTypes.{is_some}
-use Rattle.wdl_typed.specs.Requests.{Lander, after, is_outside, job_dir, land_at, landed, landed_file, missing_file}
+use Rattle.wdl_typed.specs.Requests.{Lander, after, is_outside, job_dir, land_at, landed, landed_file, named_file}
 use Rattle.cwl_model.specs.declared.tool.Origin.TheVariants as origin
 use Rattle.cwl_model.specs.Means.{Ground, file_at, has_file, job_path}
 use Rattle.cwl_laws.specs.Tools.{SameValue}
@@ -86,8 +87,8 @@ stdout_value env dir answer h =
 stdout_landed : (structs : Structs) (dir : List ℕ) (answer : Answer) → landed structs dir answer (Stdout dir) ty.File ≡ Ok (Stdout dir)
 stdout_landed structs dir answer =
     landed_is structs dir answer (dir ++ 47 ∷ codes "_stdout")
-    ∙ ap (λ b. cond b (Ok (Stdout dir)) (cond (is_some (left_body answer (local_name dir (dir ++ 47 ∷ codes "_stdout")))) (Ok (v.File (dir ++ 47 ∷ local_name dir (dir ++ 47 ∷ codes "_stdout")))) (missing_file false))) inside
-    ∙ ap (λ n. cond (is_some (left_body answer n)) (Ok (v.File (dir ++ 47 ∷ n))) (missing_file false)) local
+    ∙ ap (λ b. cond b (Ok (Stdout dir)) (named_file dir answer false (local_name dir (dir ++ 47 ∷ codes "_stdout")))) inside
+    ∙ ap (named_file dir answer false) local
   where
     front : stripped (dir ++ 47 ∷ []) (dir ++ 47 ∷ codes "_stdout") ≡ Some (codes "_stdout")
     front = ap (stripped (dir ++ 47 ∷ [])) (sym (append_assoc dir (47 ∷ []) (codes "_stdout"))) ∙ stripped_front (dir ++ 47 ∷ []) (codes "_stdout")
@@ -99,8 +100,8 @@ stdout_landed structs dir answer =
     inside : is_outside dir (dir ++ 47 ∷ codes "_stdout") ≡ false
     inside = ap (λ o. begins_at_root (dir ++ 47 ∷ codes "_stdout") && not (is_some o)) front ∙ and_false (begins_at_root (dir ++ 47 ∷ codes "_stdout"))
 
-    local : local_name dir (dir ++ 47 ∷ codes "_stdout") ≡ codes "_stdout"
-    local = ap (λ o. unwrap_or o (without_points (dir ++ 47 ∷ codes "_stdout"))) front
+    local : local_name dir (dir ++ 47 ∷ codes "_stdout") ≡ Some (codes "_stdout")
+    local = ap (λ o. relative_name (unwrap_or o (dir ++ 47 ∷ codes "_stdout"))) front
 
 past_limit : (x : Value) → is_within x ≡ false → limited x ≡ Err TooLarge
 past_limit x h = ap (λ b. cond b (Ok x) (Err TooLarge)) h
@@ -151,19 +152,22 @@ not_front (p ∷ ps) (c ∷ cs) h = by_test (not_front ps cs (or_parts (c == 47)
     by_test rest true = rest
     by_test rest false = refl
 
-no_points : (name : List ℕ) → has_slash name ≡ false → without_points name ≡ name
-no_points [] h = refl
-no_points (a ∷ []) h = refl
-no_points (a ∷ b ∷ rest) h =
-    ap (λ w. cond (a == 46 && w) (without_points rest) (a ∷ b ∷ rest)) (or_parts (b == 47) (has_slash rest) (or_parts (a == 47) (has_slash (b ∷ rest)) h).1).0 ∙ by_test (a == 46)
-  where
-    by_test : (w : Bool) → cond (w && false) (without_points rest) (a ∷ b ∷ rest) ≡ a ∷ b ∷ rest
-    by_test true = refl
-    by_test false = refl
-
 no_root : (name : List ℕ) → has_slash name ≡ false → begins_at_root name ≡ false
 no_root [] h = refl
 no_root (c ∷ cs) h = (or_parts (c == 47) (has_slash cs) h).0
+
+one_part : (name : List ℕ) → has_slash name ≡ false → parts_of name ≡ name ∷ []
+one_part [] h = refl
+one_part (c ∷ cs) h =
+    let p = or_parts (c == 47) (has_slash cs) h in
+    ap (λ b. cond b ([] ∷ parts_of cs) (onto_first c (parts_of cs))) p.0 ∙ ap (onto_first c) (one_part cs p.1)
+
+flat_name : (name : List ℕ) → has_slash name ≡ false → is_here name ≡ false → is_up name ≡ false → relative_name name ≡ Some name
+flat_name name flat here up =
+    ap (λ b. cond b None (option_and_then name_of (with_parts [] (parts_of name)))) (no_root name flat)
+    ∙ ap (λ ps. option_and_then name_of (with_parts [] ps)) (one_part name flat)
+    ∙ ap (λ b. option_and_then name_of (option_and_then (λ more. with_parts more []) (cond b (Some []) (cond (is_up name) (but_last []) (Some (name ∷ [])))))) here
+    ∙ ap (λ b. option_and_then name_of (option_and_then (λ more. with_parts more []) (cond b None (Some (name ∷ []))))) up
 
 seen_has : (files : List Seen) (name : List ℕ) → is_some (seen_body name files) ≡ has_file files name
 seen_has [] name = refl
@@ -173,9 +177,11 @@ seen_has (f ∷ files) name = by_test (seen_has files name) (bytes_eq f.name nam
     by_test rest true = refl
     by_test rest false = rest
 
--- a name of a file: no slash, and none of the two streams
+-- a name of a file: no slash, neither empty nor `.` nor `..`, and none of the two streams
 pub record IsFileName (name : List ℕ) : Type 0 where
   pub flat : has_slash name ≡ false
+  pub here : is_here name ≡ false
+  pub up : is_up name ≡ false
   pub out : bytes_eq name (codes "_stdout") ≡ false
   pub err : bytes_eq name (codes "_stderr") ≡ false
 
@@ -214,17 +220,16 @@ glob_landed : (structs : Structs) (dir : List ℕ) (answer : Answer) (name : Lis
     → landed structs dir answer (v.File name) ty.File ≡ cond (has_file answer.files name) (Ok (v.File (dir ++ 47 ∷ name))) (Err FileMissing)
 glob_landed structs dir answer name h =
     landed_is structs dir answer name
-    ∙ ap (λ b. cond (b && not (is_some (stripped (dir ++ 47 ∷ []) name))) (Ok (v.File name)) (cond (is_some (left_body answer (local_name dir name))) (Ok (v.File (dir ++ 47 ∷ local_name dir name))) (missing_file false))) (no_root name h.flat)
-    ∙ ap (λ n. cond (is_some (left_body answer n)) (Ok (v.File (dir ++ 47 ∷ n))) (missing_file false)) local
+    ∙ ap (λ b. cond (b && not (is_some (stripped (dir ++ 47 ∷ []) name))) (Ok (v.File name)) (named_file dir answer false (local_name dir name))) (no_root name h.flat)
+    ∙ ap (named_file dir answer false) local
     ∙ ap (λ b. cond b (Ok (v.File (dir ++ 47 ∷ name))) (Err FileMissing)) left
   where
-    local : local_name dir name ≡ name
-    local = ap (λ o. unwrap_or o (without_points name)) (not_front dir name h.flat) ∙ no_points name h.flat
+    local : local_name dir name ≡ Some name
+    local = ap (λ o. relative_name (unwrap_or o name)) (not_front dir name h.flat) ∙ flat_name name h.flat h.here h.up
 
     left : is_some (left_body answer name) ≡ has_file answer.files name
     left =
-        ap (λ b. is_some (cond b None (cond (bytes_eq name (codes "_stdout")) (Some answer.out) (cond (bytes_eq name (codes "_stderr")) (Some answer.err) (seen_body name answer.files))))) (no_root name h.flat)
-        ∙ ap (λ b. is_some (cond b (Some answer.out) (cond (bytes_eq name (codes "_stderr")) (Some answer.err) (seen_body name answer.files)))) h.out
+        ap (λ b. is_some (cond b (Some answer.out) (cond (bytes_eq name (codes "_stderr")) (Some answer.err) (seen_body name answer.files)))) h.out
         ∙ ap (λ b. is_some (cond b (Some answer.err) (seen_body name answer.files))) h.err
         ∙ seen_has answer.files name
 

@@ -4,6 +4,7 @@ use Rattle.std.specs.Char.{is_ascii_alphanumeric}
 use Rattle.std.specs.List.{list_all, list_any}
 use Rattle.std.specs.Str.{bytes_eq}
 use Rattle.std.proofs.lemmas.Bool.{false≢true, and_parts, or_parts}
+use Rattle.std.proofs.lemmas.Slice.Eq.{bytes_eq-Decides}
 use Rattle.wdl_base.specs.declared.fault.EvalCode.TheVariants.{TooLarge}
 use Rattle.wdl_base.specs.declared.place.Segment.{Segment}
 use Rattle.wdl_value.specs.declared.operator.Func.{Func}
@@ -250,6 +251,14 @@ no_slash (c ∷ s) h =
     not_slash false e k = refl
     not_slash true e k = absurd (false≢true (ap is_file_char (sym (number_same c 47 e)) ∙ k))
 
+-- A text with a letter or a digit is no text without one.
+other_text : (s w : List ℕ) → list_any is_ascii_alphanumeric s ≡ true → list_any is_ascii_alphanumeric w ≡ false → bytes_eq s w ≡ false
+other_text s w some none = by_test (bytes_eq s w) refl
+  where
+    by_test : (b : Bool) → bytes_eq s w ≡ b → b ≡ false
+    by_test false e = refl
+    by_test true e = absurd (false≢true (sym none ∙ sym (ap (list_any is_ascii_alphanumeric) ((bytes_eq-Decides s w).0 e)) ∙ some))
+
 file_name : (s : List ℕ) → is_file_name s ≡ true → IsFileName s
 file_name s h =
     let p = and_parts (list_all is_file_char s && list_any is_ascii_alphanumeric s) (not (is_taken s)) h in
@@ -257,6 +266,8 @@ file_name s h =
     let r = or_parts (bytes_eq s (codes "cwl.output.json") || bytes_eq s (codes "_stdout")) (bytes_eq s (codes "_stderr")) (not_true (is_taken s) p.1) in
     record {
       flat = no_slash s q.0;
+      here = ap (λ b. b || bytes_eq s (codes ".")) (other_text s [] q.1 refl) ∙ other_text s (codes ".") q.1 refl;
+      up = other_text s (codes "..") q.1 refl;
       out = (or_parts (bytes_eq s (codes "cwl.output.json")) (bytes_eq s (codes "_stdout")) r.0).1;
       err = r.1;
     }
