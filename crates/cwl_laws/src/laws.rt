@@ -4,7 +4,8 @@ ghost use Rattle.cwl_laws.specs.Laws.{BodiesAgree};
 ghost use Rattle.cwl_laws.specs.Parts.{CalleesAgree, ConditionsSimulate, FlowCallsKept, FlowCallsSimulate, IdsRead, InputsKept, ReferencesDiffer, ReferencesRead, ScattersSimulate, StatementsGive, TaskCallsKept, TaskCallsSimulate, TaskInputsKept, TasksAreTools, UsesAreSeen, WiresRefer};
 
 /// What the statements of a workflow give is what the steps of their image mean: statements in turn and steps in one pass,
-/// conditions, scatters, calls of tasks and of workflows, and workflows to any depth.
+/// conditions, scatters, calls of tasks and of workflows, and a workflow one level deeper than those that it calls. The
+/// premises on names and scopes are conditions of these laws.
 pub fn simulation()
     ensures bodies { BodiesAgree }
     ensures conditions { ConditionsSimulate }
