@@ -1,3 +1,6 @@
+ghost use Rattle.std.specs.Prelude.{◌≡◌, true, false};
+ghost use Rattle.job_launcher.specs.declared.directory.Removal.TheVariants as removal;
+
 use crate::owner::{hold, make_private};
 use crate::trouble::{Trouble, if_there};
 use std::alloc::{AllocError, Global};
@@ -19,21 +22,44 @@ pub(crate) fn path_in(alloc: Global, dir: &str, name: &str) -> Result<String, Al
     Ok(path)
 }
 
-/// Removes what stands in the place of a job's directory: a directory that a job left, with what it holds, or an empty one.
-/// Nothing else is touched. The path of the directory's standard output is `out`.
+/// How what stands in the place of a job's directory is removed.
+#[derive(Clone, Copy, Debug, PartialEq, Eq)]
+enum Removal {
+    /// It is left alone, and the job is not launched.
+    Refused,
+    /// It is removed if it is empty.
+    IfEmpty,
+    /// It is removed with what it holds.
+    Whole,
+}
+
+/// Returns how it is removed. Only a directory is, and with what it holds only one that a job left: such a one has the
+/// standard output of that job.
+fn removal_of(is_directory: bool, has_output: bool) -> Removal
+    ensures whole { result ≡ removal.Whole → (is_directory ≡ true) × (has_output ≡ true) }
+    ensures other { is_directory ≡ false → result ≡ removal.Refused }
+{
+    if !is_directory {
+        return Removal::Refused;
+    }
+    if has_output {
+        Removal::Whole
+    } else {
+        Removal::IfEmpty
+    }
+}
+
+/// Removes what stands in the place of a job's directory, or refuses. The path of the directory's standard output is `out`.
 fn clear<R: Files>(rt: &R, alloc: Global, dir: &str, out: &str) -> Result<(), Trouble> {
     let Some(old) = if_there(fs::symlink_metadata(rt, dir))? else {
         return Ok(());
     };
-    if !old.is_dir() {
-        return Err(Trouble::Refused);
+    let has_output = if_there(fs::symlink_metadata(rt, out))?.is_some();
+    match removal_of(old.is_dir(), has_output) {
+        Removal::Refused => Err(Trouble::Refused),
+        Removal::IfEmpty => Ok(fs::remove_dir(rt, dir)?),
+        Removal::Whole => Ok(rt.remove_dir_all(alloc, dir)?),
     }
-    if if_there(fs::symlink_metadata(rt, out))?.is_some() {
-        rt.remove_dir_all(alloc, dir)?;
-    } else {
-        fs::remove_dir(rt, dir)?;
-    }
-    Ok(())
 }
 
 /// Makes the directory of a job anew, and those above it where they are missing. The job's place has `levels` parts, which
