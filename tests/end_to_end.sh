@@ -131,6 +131,11 @@ checks "an object" 3 '' 'w.wdl:33..39: 121 ObjectUsed\n' 'workflow w { Int x = o
 checks "a call of sub" 3 '' 'w.wdl:36..39: 122 SubUsed\n' 'workflow w { String x = sub("a", "b", "c") }'
 checks "a call of size" 3 '' 'w.wdl:33..37: 120 FloatUsed\n' 'workflow w { Int x = size("f") }'
 checks "an unknown name" 3 '' 'w.wdl:33..34: 301 UnknownName\n' 'workflow w { Int x = y }'
+checks "a word that begins no expression" 3 '' 'w.wdl:33..37: 110 Unexpected\n' 'workflow w { Int x = then }'
+checks "a word that begins no type" 3 '' 'w.wdl:31..35: 110 Unexpected\n' 'workflow w { Array[then] x = [] }'
+runs "a choice as the last operand" 0 '{"w.s":"--x a"}\n' '' 'workflow w { input { Boolean b = true } output { String s = "--x " + if b then "a" else "b" + "c" } }'
+printf 'version 1.1\r\ntask t {\r\n  command <<<\r\n    printf %%s a\r\n    printf %%s b\r\n  >>>\r\n  output { String s = read_string(stdout()) }\r\n}\r\nworkflow w { call t output { String s = t.s } }\r\n' >crlf.wdl
+expect "the line ends of Windows" 0 '{"w.s":"ab"}\n' '' run --root "$root" crlf.wdl
 runs "numbers in meta" 0 '{}\n' '' 'workflow w { meta { v: 1.5 } }'
 checks "a document without a workflow" 0 'ok\n' '' 'task t { command <<<>>> }'
 runs "a run without a workflow" 3 '' 'w.wdl:0..0: 327 NoWorkflow\n' 'task t { command <<<>>> }'

@@ -71,6 +71,9 @@ for script in apptainer docker; do
   shell "the shell $script without an image" 1 '' 'failed t: status 2\n' "$top/examples/shells/$script" 'echo a'
   [ "$(cat "$t/_stderr")" = "$script: WDL_IMAGE names no image" ] && pass || fail "the error of $script"
 done
+if command -v srun >/dev/null 2>&1 && srun true >/dev/null 2>&1; then
+  shell "the srun of this machine" 0 '{"w.r":"a  b"}\n' '' "$top/examples/shells/slurm" 'echo "a  b"'
+fi
 if command -v bash >/dev/null 2>&1; then
   shell "Bash" 0 '{"w.r":"b"}\n' '' bash 'set -euo pipefail
 xs=(a b)
