@@ -22,7 +22,7 @@ use Rattle.wdl_check_rules.specs.Spans.{joined}
 use Rattle.wdl_check_types.specs.Outcome.{Outcome, done, or_refused, then_}
 use Rattle.wdl_check_types.specs.Places.{call_ident, call_span, statement_span}
 use Rattle.wdl_check_types.specs.Written.{written}
-use Rattle.wdl_check_order.specs.Least.{least_order}
+use Rattle.wdl_order.specs.Least.{least_order}
 use Rattle.wdl_check_order.specs.Needs.{call_arguments, statement_needing}
 use Rattle.wdl_check_order.specs.Ordered.{ordered}
 use Rattle.wdl_check_decls.specs.declared.standing.Standing.TheVariants.{Body}

@@ -7,8 +7,8 @@ use Rattle.wdl_order.proofs.Numbers.{below_each, has_first, has_later, has_range
 use Rattle.wdl_typed.specs.Kept.{sum_of}
 use Rattle.wdl_typed.specs.Lists.{are_below, are_counted, has_number, numbers_differ}
 use Rattle.wdl_typed.specs.Order.{Needing, all_met, picked}
-use Rattle.wdl_check_order.specs.Least.{least_order}
-use Rattle.wdl_check_order.proofs.LeastLaws.{least}
+use Rattle.wdl_order.specs.Least.{least_order}
+use Rattle.wdl_order.proofs.LeastLaws.{least}
 use Rattle.wdl_check_decls.proofs.ListLaws.{picked_none, picked_some}
 
 -- ---- numbers in another order

@@ -1,3 +1,2 @@
 pub mod NameLaws
-pub mod LeastLaws
-pub mod OutlineLaws
+pub mod OrderLaws

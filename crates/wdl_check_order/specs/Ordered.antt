@@ -1,13 +1,11 @@
 -- The order of a list, or where its members stand if they have none.
-use Rattle.std.specs.Prelude.{ℕ, ◌+◌, List, [], ◌∷◌}
+use Rattle.std.specs.Prelude.{ℕ, List, [], ◌∷◌}
 use Rattle.wdl_base.specs.declared.span.Span.{Span}
 use Rattle.wdl_check_rules.specs.declared.fault.CheckFault.TheVariants.{Bad}
 use Rattle.wdl_check_rules.specs.Conditions.{Conditions, unless}
 use Rattle.wdl_check_types.specs.Outcome.{Outcome}
 use Rattle.wdl_typed.specs.Order.{Needing}
-use Rattle.wdl_typed.specs.declared.flow.Statement.{Statement}
-use Rattle.wdl_check_order.specs.Least.{least_order}
-use Rattle.wdl_check_order.specs.Outlines.{outline}
+use Rattle.wdl_order.specs.Least.{least_order}
 
 -- 320: the place of a member
 abbrev pub circular : List Span → Conditions
@@ -16,9 +14,3 @@ circular (s ∷ spans) = Bad 320 s ∷ circular spans
 
 abbrev pub ordered : List Needing → List Span → Outcome (List ℕ)
 ordered all spans = record { typed = least_order all; conditions = unless (least_order all) (circular spans) }
-
--- the outlines of members, with numbers from this one on
-abbrev pub outlines : ℕ → List Needing → List Span → List Statement
-outlines number [] spans = []
-outlines number (n ∷ ns) [] = []
-outlines number (n ∷ ns) (s ∷ spans) = outline number s n ∷ outlines (number + 1) ns spans

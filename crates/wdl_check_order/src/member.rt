@@ -1,15 +1,15 @@
 ghost use Rattle.std.specs.Prelude.{◌≡◌, IfOk};
 ghost use Rattle.wdl_base.specs.declared.span.Span.{Span};
 ghost use Rattle.wdl_typed.specs.Order.{Needing};
+ghost use Rattle.wdl_order.specs.Names.{as_needing};
 ghost use Rattle.wdl_check_types.specs.Places as place;
 ghost use Rattle.wdl_check_order.specs.Needs as spec;
-ghost use Rattle.wdl_check_order.specs.Uses.{needing_of};
 
 use crate::needing::{declaration_uses, input_uses, statement_uses};
-use crate::uses::Uses;
 use std::alloc::Global;
 use wdl_ast::{Declaration, InputDeclaration, Statement};
 use wdl_check_types::{declaration_span, input_span, statement_span};
+use wdl_order::Uses;
 use wdl_value::{NoMemory, Span};
 
 /// What stands in a list that is put into its dependency order.
@@ -20,7 +20,7 @@ pub trait Member {
 
     /// The names that it gives, and those that it refers to.
     fn uses(&self, alloc: Global) -> Result<Uses, NoMemory>
-        ensures { IfOk result (λ u. needing_of u ≡ needing self.now) };
+        ensures { IfOk result (λ u. as_needing u ≡ needing self.now) };
 
     /// Where it stands.
     fn span(&self) -> Span

@@ -5,11 +5,11 @@ ghost use Rattle.wdl_check_order.specs.Names as spec;
 
 use std::alloc::Global;
 use wdl_ast::{Expr, ListItem, MapEntry, MemberEntry, StringPart};
-use wdl_value::{Name, NoMemory};
+use wdl_value::{Items, Name, NoMemory};
 
 /// Puts a copy of the name behind the others.
-pub fn push_copy(alloc: Global, name: &Name, names: &mut Vec<Name>) -> Result<(), NoMemory>
-    ensures { OnOk result (names.new.items ≡ names.old.items ++ name.now ∷ []) }
+pub fn push_copy(alloc: Global, name: &Name, names: &mut Items<Name>) -> Result<(), NoMemory>
+    ensures { OnOk result (names.new ≡ names.old ++ name.now ∷ []) }
 {
     names.push(name.copy(alloc)?)?;
     Ok(())
@@ -20,9 +20,9 @@ pub fn push_copy(alloc: Global, name: &Name, names: &mut Vec<Name>) -> Result<()
 fn push_items(
     alloc: Global,
     items: &[ListItem<Expr>],
-    names: &mut Vec<Name>,
+    names: &mut Items<Name>,
 ) -> Result<(), NoMemory>
-    ensures { OnOk result (names.new.items ≡ names.old.items ++ spec.item_names spec.names_of items.now) }
+    ensures { OnOk result (names.new ≡ names.old ++ spec.item_names spec.names_of items.now) }
 {
     for item in items {
         push_names(alloc, &item.item, names)?;
@@ -35,9 +35,9 @@ fn push_items(
 fn push_entries(
     alloc: Global,
     entries: &[ListItem<MapEntry<Expr>>],
-    names: &mut Vec<Name>,
+    names: &mut Items<Name>,
 ) -> Result<(), NoMemory>
-    ensures { OnOk result (names.new.items ≡ names.old.items ++ spec.entry_names spec.names_of entries.now) }
+    ensures { OnOk result (names.new ≡ names.old ++ spec.entry_names spec.names_of entries.now) }
 {
     for entry in entries {
         push_names(alloc, &entry.item.key, names)?;
@@ -51,9 +51,9 @@ fn push_entries(
 fn push_members(
     alloc: Global,
     members: &[ListItem<MemberEntry<Expr>>],
-    names: &mut Vec<Name>,
+    names: &mut Items<Name>,
 ) -> Result<(), NoMemory>
-    ensures { OnOk result (names.new.items ≡ names.old.items ++ spec.member_names spec.names_of members.now) }
+    ensures { OnOk result (names.new ≡ names.old ++ spec.member_names spec.names_of members.now) }
 {
     for member in members {
         push_names(alloc, &member.item.value, names)?;
@@ -66,9 +66,9 @@ fn push_members(
 fn push_parts(
     alloc: Global,
     parts: &[StringPart<Expr>],
-    names: &mut Vec<Name>,
+    names: &mut Items<Name>,
 ) -> Result<(), NoMemory>
-    ensures { OnOk result (names.new.items ≡ names.old.items ++ spec.part_names spec.names_of parts.now) }
+    ensures { OnOk result (names.new ≡ names.old ++ spec.part_names spec.names_of parts.now) }
 {
     for part in parts {
         if let StringPart::Placeholder(hole) = part {
@@ -81,8 +81,8 @@ fn push_parts(
 /// Puts the names that an expression refers to behind the others: `call.output` refers to the call.
 #[cycle(names)]
 #[tactic(auto, using(crate::proofs::NameLaws::equations))]
-pub fn push_names(alloc: Global, e: &Expr, names: &mut Vec<Name>) -> Result<(), NoMemory>
-    ensures { OnOk result (names.new.items ≡ names.old.items ++ spec.names_of e.now) }
+pub fn push_names(alloc: Global, e: &Expr, names: &mut Items<Name>) -> Result<(), NoMemory>
+    ensures { OnOk result (names.new ≡ names.old ++ spec.names_of e.now) }
 {
     match e {
         Expr::If {

@@ -4,47 +4,47 @@ ghost use Rattle.std.specs.Prelude.{◌≡◌, ◌++◌, ◌∷◌, [], map, IfO
 ghost use Rattle.wdl_typed.specs.Order.{Needing, all_given, all_referred, without};
 ghost use Rattle.wdl_check_order.specs.Names as names;
 ghost use Rattle.wdl_check_order.specs.Needs as spec;
-ghost use Rattle.wdl_check_order.specs.Uses.{needing_of};
+ghost use Rattle.wdl_order.specs.Names.{as_needing};
 
 use crate::call::call_arguments;
 use crate::names::{push_copy, push_names};
-use crate::uses::Uses;
 use std::alloc::Global;
 use wdl_ast::{
     After, Argument, Assigned, Call, Declaration, Expr, InputDeclaration, ListItem, Statement,
 };
 use wdl_check_types::call_ident;
 use wdl_names::Words;
-use wdl_value::{Name, NoMemory};
+use wdl_order::Uses;
+use wdl_value::{Items, Name, NoMemory};
 
-fn one_name(alloc: Global, name: &Name) -> Result<Vec<Name>, NoMemory>
-    ensures { IfOk result (λ ns. ns.items ≡ name.now ∷ []) }
+fn one_name(alloc: Global, name: &Name) -> Result<Items<Name>, NoMemory>
+    ensures { IfOk result (λ ns. ns ≡ name.now ∷ []) }
 {
-    let mut names = Vec::new(alloc);
+    let mut names = Items::new(alloc);
     push_copy(alloc, name, &mut names)?;
     Ok(names)
 }
 
-fn expression_names(alloc: Global, e: &Expr) -> Result<Vec<Name>, NoMemory>
-    ensures { IfOk result (λ ns. ns.items ≡ names.names_of e.now) }
+fn expression_names(alloc: Global, e: &Expr) -> Result<Items<Name>, NoMemory>
+    ensures { IfOk result (λ ns. ns ≡ names.names_of e.now) }
 {
-    let mut names = Vec::new(alloc);
+    let mut names = Items::new(alloc);
     push_names(alloc, e, &mut names)?;
     Ok(names)
 }
 
-fn preset_names(alloc: Global, preset: &Option<Assigned>) -> Result<Vec<Name>, NoMemory>
-    ensures { IfOk result (λ ns. ns.items ≡ spec.preset_names preset.now) }
+fn preset_names(alloc: Global, preset: &Option<Assigned>) -> Result<Items<Name>, NoMemory>
+    ensures { IfOk result (λ ns. ns ≡ spec.preset_names preset.now) }
 {
     match preset {
         Some(assigned) => expression_names(alloc, &assigned.value),
-        None => Ok(Vec::new(alloc)),
+        None => Ok(Items::new(alloc)),
     }
 }
 
 /// What an input gives and refers to: nothing where it has no default.
 pub fn input_uses(alloc: Global, input: &InputDeclaration) -> Result<Uses, NoMemory>
-    ensures { IfOk result (λ u. needing_of u ≡ spec.input_needing input.now) }
+    ensures { IfOk result (λ u. as_needing u ≡ spec.input_needing input.now) }
 {
     let gives = one_name(alloc, &input.name.name)?;
     let refers = preset_names(alloc, &input.preset)?;
@@ -53,15 +53,19 @@ pub fn input_uses(alloc: Global, input: &InputDeclaration) -> Result<Uses, NoMem
 
 /// What a declaration or an output gives and refers to.
 pub fn declaration_uses(alloc: Global, declaration: &Declaration) -> Result<Uses, NoMemory>
-    ensures { IfOk result (λ u. needing_of u ≡ spec.declaration_needing declaration.now) }
+    ensures { IfOk result (λ u. as_needing u ≡ spec.declaration_needing declaration.now) }
 {
     let gives = one_name(alloc, &declaration.name.name)?;
     let refers = expression_names(alloc, &declaration.value)?;
     Ok(Uses { gives, refers })
 }
 
-fn push_argument(alloc: Global, argument: &Argument, names: &mut Vec<Name>) -> Result<(), NoMemory>
-    ensures { OnOk result (names.new.items ≡ names.old.items ++ spec.argument_names argument.now) }
+fn push_argument(
+    alloc: Global,
+    argument: &Argument,
+    names: &mut Items<Name>,
+) -> Result<(), NoMemory>
+    ensures { OnOk result (names.new ≡ names.old ++ spec.argument_names argument.now) }
 {
     match &argument.value {
         Some(assigned) => push_names(alloc, &assigned.value, names),
@@ -69,18 +73,18 @@ fn push_argument(alloc: Global, argument: &Argument, names: &mut Vec<Name>) -> R
     }
 }
 
-fn argument_names(alloc: Global, arguments: &[ListItem<Argument>]) -> Result<Vec<Name>, NoMemory>
-    ensures { IfOk result (λ ns. ns.items ≡ spec.arguments_names arguments.now) }
+fn argument_names(alloc: Global, arguments: &[ListItem<Argument>]) -> Result<Items<Name>, NoMemory>
+    ensures { IfOk result (λ ns. ns ≡ spec.arguments_names arguments.now) }
 {
-    let mut names = Vec::new(alloc);
+    let mut names = Items::new(alloc);
     for argument in arguments {
         push_argument(alloc, &argument.item, &mut names)?;
     }
     Ok(names)
 }
 
-fn push_after(alloc: Global, after: &[After], names: &mut Vec<Name>) -> Result<(), NoMemory>
-    ensures { OnOk result (names.new.items ≡ names.old.items ++ spec.after_names after.now) }
+fn push_after(alloc: Global, after: &[After], names: &mut Items<Name>) -> Result<(), NoMemory>
+    ensures { OnOk result (names.new ≡ names.old ++ spec.after_names after.now) }
 {
     for word in after {
         push_copy(alloc, &word.name.name, names)?;
@@ -89,7 +93,7 @@ fn push_after(alloc: Global, after: &[After], names: &mut Vec<Name>) -> Result<(
 }
 
 fn call_uses(alloc: Global, call: &Call) -> Result<Uses, NoMemory>
-    ensures { IfOk result (λ u. needing_of u ≡ spec.call_needing call.now) }
+    ensures { IfOk result (λ u. as_needing u ≡ spec.call_needing call.now) }
 {
     let gives = one_name(alloc, &call_ident(call).name)?;
     let mut refers = argument_names(alloc, call_arguments(call))?;
@@ -112,8 +116,8 @@ fn outer_names(
     e: &Expr,
     inside: &Words,
     body: &[Name],
-) -> Result<Vec<Name>, NoMemory>
-    ensures { IfOk result (λ ns. ns.items ≡ names.names_of e.now ++ without inside.now body.now) }
+) -> Result<Items<Name>, NoMemory>
+    ensures { IfOk result (λ ns. ns ≡ names.names_of e.now ++ without inside.now body.now) }
 {
     let mut names = expression_names(alloc, e)?;
     for name in body {
@@ -126,7 +130,7 @@ fn outer_names(
 }
 
 fn scatter_uses(alloc: Global, body: Uses, item: &Name, over: &Expr) -> Result<Uses, NoMemory>
-    ensures { IfOk result (λ u. needing_of u ≡ record { gives = body.gives.items; refers = names.names_of over.now ++ without (item.now ∷ body.gives.items) body.refers.items }) }
+    ensures { IfOk result (λ u. as_needing u ≡ record { gives = body.gives; refers = names.names_of over.now ++ without (item.now ∷ body.gives) body.refers }) }
 {
     let Uses { gives, refers } = body;
     let mut inside = Words::empty(alloc);
@@ -137,7 +141,7 @@ fn scatter_uses(alloc: Global, body: Uses, item: &Name, over: &Expr) -> Result<U
 }
 
 fn conditional_uses(alloc: Global, body: Uses, condition: &Expr) -> Result<Uses, NoMemory>
-    ensures { IfOk result (λ u. needing_of u ≡ record { gives = body.gives.items; refers = names.names_of condition.now ++ without body.gives.items body.refers.items }) }
+    ensures { IfOk result (λ u. as_needing u ≡ record { gives = body.gives; refers = names.names_of condition.now ++ without body.gives body.refers }) }
 {
     let Uses { gives, refers } = body;
     let mut inside = Words::empty(alloc);
@@ -148,14 +152,14 @@ fn conditional_uses(alloc: Global, body: Uses, condition: &Expr) -> Result<Uses,
 
 #[cycle(needing)]
 fn body_uses(alloc: Global, body: &[Statement]) -> Result<Uses, NoMemory>
-    ensures { IfOk result (λ u. needing_of u ≡ record { gives = all_given (map spec.statement_needing body.now); refers = all_referred (map spec.statement_needing body.now) }) }
+    ensures { IfOk result (λ u. as_needing u ≡ record { gives = all_given (map spec.statement_needing body.now); refers = all_referred (map spec.statement_needing body.now) }) }
 {
-    let mut gives = Vec::new(alloc);
-    let mut refers = Vec::new(alloc);
+    let mut gives = Items::new(alloc);
+    let mut refers = Items::new(alloc);
     for statement in body {
-        let mut uses = statement_uses(alloc, statement)?;
-        gives.append(&mut uses.gives)?;
-        refers.append(&mut uses.refers)?;
+        let uses = statement_uses(alloc, statement)?;
+        gives.append(uses.gives)?;
+        refers.append(uses.refers)?;
     }
     Ok(Uses { gives, refers })
 }
@@ -164,7 +168,7 @@ fn body_uses(alloc: Global, body: &[Statement]) -> Result<Uses, NoMemory>
 /// does not give.
 #[cycle(needing)]
 pub fn statement_uses(alloc: Global, statement: &Statement) -> Result<Uses, NoMemory>
-    ensures { IfOk result (λ u. needing_of u ≡ spec.statement_needing statement.now) }
+    ensures { IfOk result (λ u. as_needing u ≡ spec.statement_needing statement.now) }
 {
     match statement {
         Statement::Declaration(declaration) => declaration_uses(alloc, declaration),

@@ -44,7 +44,7 @@ use Rattle.wdl_check_rules.specs.Spans.{joined, span_of}
 use Rattle.wdl_check_types.specs.Outcome.{done, or_refused, then_}
 use Rattle.wdl_check_types.specs.Places.{declaration_span, input_span}
 use Rattle.wdl_check_types.specs.Written.{written}
-use Rattle.wdl_check_order.specs.Least.{least_order}
+use Rattle.wdl_order.specs.Least.{least_order}
 use Rattle.wdl_check_order.specs.Needs.{declaration_needing, input_needing}
 use Rattle.wdl_check_order.specs.Ordered.{ordered}
 use Rattle.wdl_check_decls.specs.declared.standing.Standing.{Standing}
@@ -61,7 +61,7 @@ use Rattle.wdl_check_task.specs.Runtime.{cast_to, codes_of, each_typed, first_na
 use Rattle.wdl_check_task.specs.Sections.{attributes_of, declaration_idents, idents_of, input_idents, inputs_of, outputs_of, parts_of, privates_of}
 use Rattle.wdl_check_task.specs.Tasks.{head, task_of, work}
 use Rattle.wdl_check_laws.proofs.TreeLaws.{coerced_has}
-use Rattle.wdl_check_order.proofs.LeastLaws.{least}
+use Rattle.wdl_order.proofs.LeastLaws.{least}
 use Rattle.wdl_check_decls.proofs.WellTyped.{decls_types, expr_types, inputs_types, placed_types}
 use Rattle.wdl_check_task.proofs.Made.{Made, made, some_is, then_some}
 use Rattle.wdl_check_task.proofs.Distinct.{Among, among_both, distinct_both, distinct_left, distinct_right, picked_among, picked_distinct, picked_map}

@@ -4,3 +4,4 @@ pub mod Keeping
 pub mod Names
 pub mod Slots
 pub mod Numbered
+pub mod LeastLaws

@@ -1,9 +1,13 @@
 -- Orders of a list of members are orders of their numbers.
-use Rattle.std.proofs.Common.{◌≡◌, ℕ, false, not, ◌==◌, ◌||◌, ◌&&◌, List, [], ◌∷◌, length, slice_get, Option, Some, None, refl, sym, ap, ◌∙◌}
+use Rattle.std.proofs.Common.{◌≡◌, ◌<◌, ℕ, false, not, ◌==◌, ◌||◌, ◌&&◌, List, [], ◌∷◌, length, slice_get, Option, Some, None, refl, sym, ap, ◌∙◌, subst}
 use Rattle.std.specs.List.{list_all, range_with_len}
 use Rattle.wdl_order.proofs.Numbers.{range_from}
 use Rattle.wdl_order.specs.Names.{needs_at, needs_between}
+use Rattle.wdl_order.specs.declared.least.Found.{Found}
+use Rattle.wdl_order.specs.declared.least.Found.TheVariants.{Order, Stuck}
+use Rattle.wdl_order.specs.Outcome.{Orders}
 use Rattle.wdl_order.specs.Positions.{Need, all_follow, follows, is_order_of, HasNone, IsLeastOf}
+use Rattle.wdl_order.specs.Working.{Answers}
 use Rattle.wdl_typed.specs.Lists.{are_counted, has_number}
 use Rattle.wdl_typed.specs.Order.{Needing, all_met, is_met, is_order, IsLeastOrder}
 
@@ -36,3 +40,7 @@ module _ (all : List Needing) where
 
     pub none_from : HasNone count need → (qs : List ℕ) → is_order all qs ≡ false
     none_from h qs = numbered qs ∙ h qs
+
+    pub orders_from : (found : Found) → Answers count need found → Orders all found
+    orders_from (Order ps) h = least_from ps.items h
+    orders_from (Stuck at) h = (subst (λ n. at < n) long h.0, none_from h.1)

@@ -1,3 +1,5 @@
+pub mod Laws
+pub mod Least
 pub mod Members
 pub mod Names
 pub mod Outcome

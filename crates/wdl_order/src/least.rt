@@ -7,10 +7,12 @@ use sqlite_items::Items;
 use std::alloc::Global;
 use wdl_base::NoMemory;
 
-/// The members in order, by their numbers, or one that no order reaches.
+/// What is found for the members of a list, by their positions.
 #[derive(Drop)]
 pub enum Found {
+    /// All of them, in order.
     Order(Vec<usize>),
+    /// One of them, where no order exists.
     Stuck(usize),
 }
 

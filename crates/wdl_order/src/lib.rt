@@ -4,15 +4,21 @@
 
 mod fault;
 mod givers;
+mod laws;
 mod least;
 mod member;
 mod needing;
 mod ordering;
 mod picking;
+mod positions;
 mod referring;
 mod rows;
 mod uses;
 mod working;
 
 pub use fault::OrderFault;
+pub use laws::orders_are_least;
+pub use least::Found;
 pub use ordering::{order, order_declarations, order_inputs};
+pub use positions::positions_of;
+pub use uses::Uses;

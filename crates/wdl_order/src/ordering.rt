@@ -5,10 +5,10 @@ ghost use Rattle.wdl_order.specs.Names.{as_needing};
 ghost use Rattle.wdl_order.specs.Outcome.{IsFault};
 
 use crate::fault::OrderFault;
-use crate::givers::needs_of;
-use crate::least::{Found, least_order};
+use crate::least::Found;
 use crate::member::Member;
 use crate::picking::picked;
+use crate::positions::positions_of;
 use crate::uses::Uses;
 use std::alloc::Global;
 use wdl_typed::{Statement, TDecl, TInput};
@@ -29,8 +29,7 @@ fn ordered<M: Member>(alloc: Global, list: Items<M>) -> Result<Items<M>, OrderFa
     ensures fault { IfErr result (IsFault M.needing M.span_of list) }
 {
     let all = uses_of(alloc, list.as_slice())?;
-    let needs = needs_of(alloc, all.as_slice())?;
-    match least_order(alloc, needs)? {
+    match positions_of(alloc, all.as_slice())? {
         Found::Order(positions) => Ok(picked(alloc, list, positions.as_slice())?),
         Found::Stuck(at) => Err(OrderFault::Circular {
             span: list.as_slice()[at].span(),

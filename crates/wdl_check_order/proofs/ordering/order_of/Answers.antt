@@ -1,31 +1,37 @@
-use Rattle.std.proofs.Common.{◌≡◌, ◌∙◌, Some, length, map, List, sym, subst, ap}
+use Rattle.std.proofs.Common.{◌≡◌, ◌∙◌, ◌<◌, ℕ, List, false, Some, Err, length, map, refl, sym, subst, ap}
 use Rattle.std.proofs.lemmas.List.{length-map}
+use Rattle.std.proofs.lemmas.Option.{slice_get_read}
 use Rattle.wdl_base.specs.declared.span.Span.{Span}
-use Rattle.wdl_typed.specs.declared.flow.Statement.{Statement}
-use Rattle.wdl_typed.specs.Order.{IsOrdered, Needing, statement_needing}
-use Rattle.wdl_order.specs.declared.fault.OrderFault.{OrderFault}
-use Rattle.wdl_order.specs.declared.fault.OrderFault.TheVariants.{Circular}
-use Rattle.wdl_order.specs.Members.{statement_span}
-use Rattle.wdl_order.specs.Outcome.{IsFault}
-use Rattle.wdl_check_order.specs.Outlines.{number_of}
-use Rattle.wdl_check_order.proofs.OutlineLaws.{answers_circle, answers_order}
+use Rattle.wdl_typed.specs.Order.{IsLeastOrder, Needing}
+use Rattle.wdl_order.proofs.LeastLaws.{one}
+use Rattle.wdl_order.specs.Names.{as_needing}
+use Rattle.wdl_order.specs.Outcome.{IsCircular, Orders}
+use Rattle.wdl_check_rules.specs.declared.fault.CheckFault.TheVariants.{Bad}
+use Rattle.wdl_check_types.specs.Outcome.{Answers}
+use Rattle.wdl_check_order.specs.Ordered.{ordered}
+use Rattle.wdl_check_order.proofs.OrderLaws.{answers_circle}
 use Rattle.wdl_check_order.proofs.ordering.order_of.Goals as goal
 
-pub returns-in_ok-numbers-in-Ok : goal.returns-in_ok-numbers-in-Ok
-returns-in_ok-numbers-in-Ok g c =
+pub returns-in-Order : goal.returns-in-Order
+returns-in-Order g c =
     let ns : List Needing = map (λ m. g.M.Member.needing m.now) c.args.list.now in
-    let ss : List Span = map (λ m. g.M.Member.span_of m.now) c.args.list.now in
-    let long : length ns ≡ length ss =
-    length-map c.args.list.now (λ m. g.M.Member.needing m.now) ∙ sym (length-map c.args.list.now (λ m. g.M.Member.span_of m.now)) in
-    let found = subst (λ (xs : List Statement). IsOrdered statement_needing xs c.in-Ok.ordered) c.in_ok-outlines.ensures c.in-Ok.ensures.ordered in
-    answers_order ns ss c.in-Ok.ordered long found ∙ ap Some (sym (c.in_ok-numbers-in-Ok.ensures ∙ ap (map number_of) c.as_slice.ensures))
+    let listed : map as_needing c.as_slice.result.now ≡ map (λ m. g.M.Member.needing m.now) c.args.list.now =
+    ap (map as_needing) c.as_slice.ensures.value ∙ c.in_ok-all.ensures in
+    let least : IsLeastOrder ns c.in-Order.positions.items =
+    subst (λ (ms : List Needing). IsLeastOrder ms c.in-Order.positions.items) listed
+    (subst (λ f. Orders (map as_needing c.as_slice.result.now) f) c.in-Order.is c.in_ok-positions.ensures) in
+    one ns c.in-Order.positions.items least ∙ ap Some (sym c.from_vec.ensures)
 
-pub returns-in-Err-Circular : goal.returns-in-Err-Circular
-returns-in-Err-Circular g c =
+pub returns-in-Stuck : goal.returns-in-Stuck
+returns-in-Stuck g c =
     let ns : List Needing = map (λ m. g.M.Member.needing m.now) c.args.list.now in
-    let ss : List Span = map (λ m. g.M.Member.span_of m.now) c.args.list.now in
-    let long : length ns ≡ length ss =
-    length-map c.args.list.now (λ m. g.M.Member.needing m.now) ∙ sym (length-map c.args.list.now (λ m. g.M.Member.span_of m.now)) in
-    let fault = subst (λ (e : OrderFault). IsFault statement_needing statement_span c.in_ok-outlines.outlines e) c.in-Err-Circular.field-0-is c.in-Err-Circular.ensures.fault in
-    let found = subst (λ (xs : List Statement). IsFault statement_needing statement_span xs (Circular c.in-Err-Circular.span)) c.in_ok-outlines.ensures fault in
-    rw c.in-Err-Circular.field-0-is (answers_circle ns ss c.in-Err-Circular.span long found)
+    let listed : map as_needing c.as_slice.result.now ≡ map (λ m. g.M.Member.needing m.now) c.args.list.now =
+    ap (map as_needing) c.as_slice.ensures.value ∙ c.in_ok-all.ensures in
+    let stuck : (c.in-Stuck.at < length ns) × IsCircular ns =
+    subst (λ (ms : List Needing). (c.in-Stuck.at < length ms) × IsCircular ms) listed
+    (subst (λ f. Orders (map as_needing c.as_slice.result.now) f) c.in-Stuck.is c.in_ok-positions.ensures) in
+    let inside : c.in-Stuck.at < length c.args.list.now =
+    subst (λ n. c.in-Stuck.at < n) (length-map c.args.list.now (λ m. g.M.Member.needing m.now)) stuck.0 in
+    subst (λ (s : Span). Answers (ordered ns (map (λ m. g.M.Member.span_of m.now) c.args.list.now)) (Err (Bad 320 s))) (sym c.span.ensures)
+    (answers_circle ns (λ m. g.M.Member.span_of m.now) c.args.list.now c.in-Stuck.at c.index-list-at.result stuck.1
+    (slice_get_read c.args.list.now (length c.args.list.now) c.in-Stuck.at c.index-list-at.result refl inside c.index-list-at.is))

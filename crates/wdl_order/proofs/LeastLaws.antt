@@ -12,8 +12,8 @@ use Rattle.wdl_order.specs.Names.{needs_at}
 use Rattle.wdl_order.specs.Positions.{Need, follows}
 use Rattle.wdl_typed.specs.Lists.{has_number}
 use Rattle.wdl_typed.specs.Order.{Needing, IsLeastOrder, is_order}
-use Rattle.wdl_check_order.specs.Laws.{LeastOrders, NoOrder, OneOrder}
-use Rattle.wdl_check_order.specs.Least.{is_ready, least_order, next, order_behind}
+use Rattle.wdl_order.specs.Laws.{CircularIsNothing, LeastOrders, NothingIsCircular, OneOrder}
+use Rattle.wdl_order.specs.Least.{is_ready, least_order, next, order_behind}
 
 -- ---- the first number of a range that passes a test
 
@@ -186,7 +186,10 @@ one all ps l = at (least_order all) refl
         let k = least_is all qs e in
         ap Some (same_lists qs ps (l.least qs k.order) (k.least ps l.order))
 
-pub none : NoOrder
+pub nothing : NothingIsCircular
+nothing all h = none_is all h
+
+pub none : CircularIsNothing
 none all h = at (least_order all) refl
   where
     at : (o : Option (List ℕ)) → least_order all ≡ o → o ≡ None
