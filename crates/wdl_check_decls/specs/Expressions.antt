@@ -1,5 +1,5 @@
 -- Expressions where they stand in a document.
-use Rattle.std.specs.Prelude.{Bool, false, List}
+use Rattle.std.specs.Prelude.{ℕ, Bool, false, List}
 use Rattle.wdl_value.specs.declared.ty.Ty.{Ty}
 use Rattle.wdl_value.specs.Fits.{Structs}
 use Rattle.wdl_ast.specs.declared.expr.Expr.{Expr}
@@ -14,16 +14,21 @@ use Rattle.wdl_check_types.specs.Outcome.{Outcome, then_}
 use Rattle.wdl_localize.specs.Localized.{localized}
 use Rattle.wdl_check_decls.specs.declared.seeing.Seeing.{Seeing}
 
--- the structs of the library, and the names under which the document knows them
+-- the structs of the library, the names under which the document knows them, and the calls that are seen
 pub record World : Type 0 where
   pub structs : Structs
   pub locals : Naming
+  pub calls : List (List ℕ)
 
 abbrev pub world : Seeing → World
-world s = record { structs = s.structs.now; locals = stands_for s.locals.now }
+world s = record { structs = s.structs.now; locals = stands_for s.locals.now; calls = s.calls.now }
+
+-- the same where these calls are seen
+abbrev pub with_calls : World → List (List ℕ) → World
+with_calls w calls = record { structs = w.structs; locals = w.locals; calls = calls }
 
 abbrev pub scope : World → List Bound → Bool → Bool → Scope
-scope w names outputs placeholder = record { structs = w.structs; names = names; outputs = outputs; placeholder = placeholder }
+scope w names outputs placeholder = record { structs = w.structs; names = names; calls = w.calls; outputs = outputs; placeholder = placeholder }
 
 abbrev pub typed_in : Scope → Expr → Outcome Typed
 typed_in s e = record { typed = typed s e; conditions = conditions s e }

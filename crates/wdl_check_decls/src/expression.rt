@@ -27,6 +27,7 @@ pub fn check_in(
     let e = localized(alloc, e, seeing.locals)?;
     let scope = Scope {
         names,
+        calls: seeing.calls,
         structs: seeing.structs,
         outputs,
         placeholder,
@@ -48,6 +49,7 @@ pub fn check_as_in(
     let e = localized(alloc, e, seeing.locals)?;
     let scope = Scope {
         names,
+        calls: seeing.calls,
         structs: seeing.structs,
         outputs,
         placeholder: false,

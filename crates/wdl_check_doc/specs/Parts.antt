@@ -39,4 +39,4 @@ part_of p = record {
 
 -- what the checks of the document see of structs
 abbrev pub world : Structs → Part → World
-world structs p = record { structs = structs; locals = p.locals }
+world structs p = record { structs = structs; locals = p.locals; calls = [] }

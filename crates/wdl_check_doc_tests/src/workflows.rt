@@ -22,6 +22,14 @@ call say as a after b { input: s = 'x' } call say as b after a { input: s = 'x' 
 Int x = say => 301 say;call say { input: s = 'a' } String x = say => 307 say;call say { input: s = 'a' } String x = say.r => ok;\
 call say { input: s = 'a' } Int x = say.q => 301 say.q";
 
+/// A call of a task without outputs, used as a value and not.
+const CALLS_WITHOUT_OUTPUTS: &str =
+    "call any Int x = any => 307 any;call any Int x = 1 => ok;Int x = any => 301 any;call any as b Int x = any => 301 any;\
+call any as b Int x = b => 307 b;call any Int x = any.q => 301 any.q;call any call say { input: s = any } => 307 any;\
+call any as s call say { input: s } => 307 s;call any call any as b after any => ok;call any if (any) { } => 307 any;\
+call any scatter (i in any) { } => 307 any;if (true) { call any } Int x = any => 307 any;call any output { Int x = any } => 307 any;\
+scatter (i in [1]) { call any } output { Int x = any } => 307 any;output { Int x = any } => 301 any";
+
 /// Statements, by what blocks take and give.
 const BLOCKS: &str =
     "if (x) { Boolean y = true } Boolean x = select_first([y, false]) => 320 if (x) { Boolean y = true };\
@@ -48,6 +56,13 @@ input { Int a } Int b = a output { Int c = b } => ok";
 #[test]
 fn calls_are_of_tasks_and_take_their_inputs(rt: HostRuntime) -> Result<(), Fail> {
     let mistake = first_mistake(rt.alloc(), BEFORE, CALLS, " }")?;
+    assert_eq!(rt; mistake.as_str(), "");
+    Ok(())
+}
+
+#[test]
+fn calls_without_outputs_are_no_values(rt: HostRuntime) -> Result<(), Fail> {
+    let mistake = first_mistake(rt.alloc(), BEFORE, CALLS_WITHOUT_OUTPUTS, " }")?;
     assert_eq!(rt; mistake.as_str(), "");
     Ok(())
 }

@@ -75,7 +75,7 @@ pub fn check(alloc: Global, e: &Expr, scope: &Scope, placeholder: bool) -> Resul
         Expr::None(_) => Ok(literal(Value::Absent, Ty::Absent)),
         Expr::Int { value, span } => int_literal(*value, *span),
         Expr::Str(string) => check_string(alloc, string.parts.as_slice(), scope),
-        Expr::Name(ident) => check_name(alloc, scope.names, ident),
+        Expr::Name(ident) => check_name(alloc, scope.names, scope.calls, ident),
         Expr::Call {
             name,
             arguments,
@@ -246,9 +246,9 @@ fn check_part(
     scope: &Scope,
     placeholder: bool,
 ) -> Result<Typed, CheckFault>
-    ensures { spec.Gives (spec.base_checked (scope_of scope.now) (condition.is_call_alone scope.now.names.now (place.name_of base.now)) name.now whole (spec.checked (scope_of scope.now) base.now placeholder)) result }
+    ensures { spec.Gives (spec.base_checked (scope_of scope.now) (condition.is_call_alone scope.now.names.now scope.now.calls.now (place.name_of base.now)) name.now whole (spec.checked (scope_of scope.now) base.now placeholder)) result }
 {
-    if is_call_alone(alloc, scope.names, name_of(base))? {
+    if is_call_alone(alloc, scope.names, scope.calls, name_of(base))? {
         return Err(CheckFault::Bad {
             code: 301,
             span: whole,

@@ -5,12 +5,12 @@ use std::test::Fail;
 use wdl_ast::Expr;
 use wdl_check_expr::{CheckFault, Scope, check_as, check_expr};
 use wdl_lex::lex;
-use wdl_names::Indexed;
+use wdl_names::{Indexed, Words};
 use wdl_parse_expr::parse_expr;
 use wdl_typed::TExpr;
-use wdl_value::{Span, Ty};
+use wdl_value::{Name, Span, Ty};
 
-/// What the expressions see: `c` is a call with two outputs.
+/// What the expressions see: `c` is a call with two outputs, and `d` one without.
 const NAMES: &str =
     "s String;f File;b Boolean;i Int;os String?;oi Int?;ob Boolean?;xs Array[Int];ys Array[Int]+;ts Array[String];\
 rows Array[Pair[String,Int]];m Map[String,Int];pair Pair[Int,String];p P;q Q;c.r File;c.n Int";
@@ -19,8 +19,8 @@ const STRUCTS: &str = "P a Int,b Int?;Q p P,names Array[String]";
 
 /// Expressions, each with its type, or with its code and the text where that holds.
 const NAMED: &str =
-    "true => Boolean;None => Absent;1 => Int;'a' => String;(1) => Int;s => String;oi => Int?;nope => 301 nope;c => 307 c;\
-c.r => File;c.n => Int;c.nope => 301 c.nope;(c).r => 307 c;nope.r => 301 nope;p.a => Int;p.b => Int?;q.p.a => Int;\
+    "true => Boolean;None => Absent;1 => Int;'a' => String;(1) => Int;s => String;oi => Int?;nope => 301 nope;c => 307 c;d => 307 d;\
+c.r => File;c.n => Int;c.nope => 301 c.nope;d.nope => 301 d.nope;(d).r => 307 d;(c).r => 307 c;nope.r => 301 nope;p.a => Int;p.b => Int?;q.p.a => Int;\
 (p).a => Int;p.left => 306 left;p.nope => 306 nope;q.p.nope => 306 nope;pair.left => Int;pair.right => String;\
 pair.first => 306 first;s.a => 306 a;None.a => 306 a;[p][0].a => Int";
 
@@ -173,6 +173,14 @@ fn mistyped(alloc: Global, scope: &Scope, rows: &'static str) -> Result<&'static
     Ok("")
 }
 
+/// The calls that the expressions see.
+fn calls(alloc: Global) -> Result<Words, Fail> {
+    let mut calls = Words::empty(alloc);
+    calls.enter(Name::new(alloc, "c")?)?;
+    calls.enter(Name::new(alloc, "d")?)?;
+    Ok(calls)
+}
+
 /// The same, of expressions in a task's outputs or not, inside a placeholder or not.
 fn wrong(
     alloc: Global,
@@ -181,10 +189,12 @@ fn wrong(
     placeholder: bool,
 ) -> Result<&'static str, Fail> {
     let names = names(alloc, NAMES)?;
+    let calls = calls(alloc)?;
     let structs = structs(alloc, STRUCTS)?;
     let structs = Indexed::new(alloc, structs.as_slice())?;
     let scope = Scope {
         names: &names,
+        calls: &calls,
         structs: &structs,
         outputs,
         placeholder,

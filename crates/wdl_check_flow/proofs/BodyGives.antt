@@ -34,7 +34,7 @@ use Rattle.wdl_check_flow.specs.Calls.{Stated}
 use Rattle.wdl_check_flow.specs.Given.{nothing}
 use Rattle.wdl_check_flow.specs.Laws.{IsOf}
 use Rattle.wdl_check_flow.specs.Numbers.{numbers_of}
-use Rattle.wdl_check_flow.specs.Targets.{Place}
+use Rattle.wdl_check_flow.specs.Targets.{Place, world_at}
 use Rattle.wdl_check_flow.proofs.CallGives.{call_well}
 use Rattle.wdl_check_flow.proofs.Forms.{typed_roll}
 use Rattle.wdl_check_flow.proofs.Gives.{gives_decl, gives_if, gives_pushed, gives_scatter}
@@ -98,11 +98,11 @@ module _ (exprs : ExprTypes) (casts : CastTypes) (decls : DeclTypes) (lib : Libr
 
   decl_gives_well : (d : Declaration) (seen : Seen) (x : Stated) → (decl_statement p seen d).typed ≡ Some x → gives lib x.statement seen ≡ Some x.given
   decl_gives_well d seen x h =
-      let q = then_some (decl_typed Body p.world seen.names d) (λ t. done (decl_stated t)) x h in
+      let q = then_some (decl_typed Body (world_at p seen) seen.names d) (λ t. done (decl_stated t)) x h in
       subst (λ (z : Stated). gives lib z.statement seen ≡ Some z.given) (some_is (decl_stated q.0) x q.2)
       (gives_decl lib q.0 seen
       ∙ ap (λ (b : Bool). if b then Some (decl_stated q.0).given else None)
-      (ap (λ structs. is_written structs q.0.ty && is_type (in_body structs seen.names q.0.value) q.0.ty) (sym of.structs) ∙ decls Body p.world seen.names d q.0 of.known q.1))
+      (ap (λ structs. is_written structs q.0.ty && is_type (in_body structs seen.names q.0.value) q.0.ty) (sym of.structs) ∙ decls Body (world_at p seen) seen.names d q.0 of.known q.1))
 
   -- an array that is gone over
   array_at : (e : TExpr) (y : Ty-F Ty) (c : Collection) → items_at e y ≡ Some c → (e ≡ c.expr) × (y ≡ type.Array c.item c.some)
@@ -112,19 +112,19 @@ module _ (exprs : ExprTypes) (casts : CastTypes) (decls : DeclTypes) (lib : Libr
   collection_is : (seen : Seen) (e : Expr) (c : Collection) → (collection_typed p seen e).typed ≡ Some c
       → (t : Ty) × (in_body lib.structs seen.names c.expr ≡ Some t) × (out-Ty t ≡ type.Array c.item c.some)
   collection_is seen e c h =
-      let q = then_some (expr_typed p.world seen.names false false e) (λ x. or_refused 326 (span_of e) (collection_of x)) c h in
+      let q = then_some (expr_typed (world_at p seen) seen.names false false e) (λ x. or_refused 326 (span_of e) (collection_of x)) c h in
       let k = array_at q.0.expr (out-Ty q.0.ty) c (refused_some 326 (span_of e) (collection_of q.0) c q.2) in (
         q.0.ty,
-        ap (λ structs. in_body structs seen.names c.expr) (sym of.structs) ∙ ap (in_body p.world.structs seen.names) (sym k.0) ∙ exprs p.world seen.names false false e q.0 q.1,
+        ap (λ structs. in_body structs seen.names c.expr) (sym of.structs) ∙ ap (in_body p.world.structs seen.names) (sym k.0) ∙ exprs (world_at p seen) seen.names false false e q.0 q.1,
         k.1,
       )
 
   condition_is : (seen : Seen) (e : Expr) (c : TExpr) → (condition_typed p seen e).typed ≡ Some c
       → (t : Ty) × (in_body lib.structs seen.names c ≡ Some t) × (is_bool t ≡ true)
   condition_is seen e c h =
-      let q = then_some (expr_typed p.world seen.names false false e) (λ x. or_refused 325 (span_of e) (condition_of x)) c h in
+      let q = then_some (expr_typed (world_at p seen) seen.names false false e) (λ x. or_refused 325 (span_of e) (condition_of x)) c h in
       by_test (is_bool q.0.ty) q.0 refl (refused_some 325 (span_of e) (condition_of q.0) c q.2)
-      (ap (λ structs. in_body structs seen.names q.0.expr) (sym of.structs) ∙ exprs p.world seen.names false false e q.0 q.1)
+      (ap (λ structs. in_body structs seen.names q.0.expr) (sym of.structs) ∙ exprs (world_at p seen) seen.names false false e q.0 q.1)
     where
       by_test : (b : Bool) (x : Typed) → is_bool x.ty ≡ b → (if b then Some x.expr else None) ≡ Some c → in_body lib.structs seen.names x.expr ≡ Some x.ty
           → (t : Ty) × (in_body lib.structs seen.names c ≡ Some t) × (is_bool t ≡ true)

@@ -32,7 +32,7 @@ use Rattle.wdl_check_decls.specs.Laws.{CastTypes}
 use Rattle.wdl_check_flow.specs.Calls.{Stated, after_typed, after_unless, argument_typed, arguments_behind, call_to, call_typed, call_with, field, first_unseen, input_named, next_argument, required_given, stated_call, target_span, value_of}
 use Rattle.wdl_check_flow.specs.Given.{call_gives, output_bound}
 use Rattle.wdl_check_flow.specs.Laws.{IsOf, member_of}
-use Rattle.wdl_check_flow.specs.Targets.{Offer, Place, target_of}
+use Rattle.wdl_check_flow.specs.Targets.{Offer, Place, target_of, world_at}
 use Rattle.wdl_check_flow.proofs.CallLaws.{names_pushed}
 use Rattle.wdl_check_flow.proofs.Gives.{gives_call}
 use Rattle.wdl_check_flow.proofs.OutcomeParts.{refused_some, some_is, then_some}
@@ -78,12 +78,12 @@ module _ (casts : CastTypes) (p : Place) (seen : Seen) (o : Offer) where
   argument_fits : (a : Argument) (f : TField TExpr) → (argument_typed p seen o a).typed ≡ Some f
       → (f.name ≡ a.name.name) × (arg_typed (input_type o.inputs f.name) (in_body p.world.structs seen.names f.value) ≡ true)
   argument_fits a f h =
-      let q = then_some (or_refused 324 a.name.span (input_named o.inputs a.name.name)) (λ (i : TInput). then_ (expr_as p.world seen.names false (value_of a.name a.value) i.ty) (λ e. done (field a.name.name e))) f h in
-      let r = then_some (expr_as p.world seen.names false (value_of a.name a.value) q.0.ty) (λ e. done (field a.name.name e)) f q.2 in
+      let q = then_some (or_refused 324 a.name.span (input_named o.inputs a.name.name)) (λ (i : TInput). then_ (expr_as (world_at p seen) seen.names false (value_of a.name a.value) i.ty) (λ e. done (field a.name.name e))) f h in
+      let r = then_some (expr_as (world_at p seen) seen.names false (value_of a.name a.value) q.0.ty) (λ e. done (field a.name.name e)) f q.2 in
       subst (λ (z : TField TExpr). (z.name ≡ a.name.name) × (arg_typed (input_type o.inputs z.name) (in_body p.world.structs seen.names z.value) ≡ true)) (some_is (field a.name.name r.0) f r.2) (
         refl,
         ap (λ (t : Option Ty). arg_typed t (in_body p.world.structs seen.names r.0)) (input_found o.inputs a.name.name ∙ ap (option_map (λ (i : TInput). i.ty)) (refused_some 324 a.name.span (input_named o.inputs a.name.name) q.0 q.1))
-            ∙ ap (λ (t : Option Ty). is_type t q.0.ty) (casts p.world seen.names false (value_of a.name a.value) q.0.ty r.0 r.1)
+            ∙ ap (λ (t : Option Ty). is_type t q.0.ty) (casts (world_at p seen) seen.names false (value_of a.name a.value) q.0.ty r.0 r.1)
             ∙ same_type-refl q.0.ty,
       )
 

@@ -39,7 +39,7 @@ use Rattle.wdl_check_flow.specs.Flows.{head_typed, inputs_seen, rest_typed, unle
 use Rattle.wdl_check_flow.specs.Laws.{flow_of}
 use Rattle.wdl_check_flow.specs.Nesting.{first_deep, or_next, too_deep}
 use Rattle.wdl_check_flow.specs.Sections.{all_declared, declared, declared_step, first_taken, idents_in, inputs_of, outputs_of, repeated, statements_of, taken, words_of}
-use Rattle.wdl_check_flow.specs.Targets.{Place}
+use Rattle.wdl_check_flow.specs.Targets.{Place, world_at}
 use Rattle.wdl_check_flow.proofs.FlowGives.{headed, rested}
 use Rattle.wdl_check_flow.proofs.FlowShape.{Forms, decl_name, statements_fit}
 use Rattle.wdl_check_flow.proofs.ListLaws.{map-map}
@@ -202,7 +202,7 @@ flow_fewer p f h r name span e g word =
       words-append word is (all_declared ws ++ ds),
       words-append word (all_declared ws) ds,
       inputs_same word p.world (inputs_of f.elements) h.inputs q.inputs,
-      outputs_same word p.world (inputs_bound h.inputs ++ s.given.names) (outputs_of f.elements) r.outputs s.outputs,
+      outputs_same word (world_at p s.given) (inputs_bound h.inputs ++ s.given.names) (outputs_of f.elements) r.outputs s.outputs,
       names_sum word r.body,
       words_sum word ws,
       body_weighs (saying word) (stating word) ws r.body

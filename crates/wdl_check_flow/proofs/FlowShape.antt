@@ -36,7 +36,7 @@ use Rattle.wdl_check_flow.specs.Bodies.{Numbered, Part, Typed_body, behind, body
 use Rattle.wdl_check_flow.specs.Calls.{Stated, after_typed, arguments_behind, call_to, call_with, required_given, stated_call, target_span}
 use Rattle.wdl_check_flow.specs.Given.{nothing}
 use Rattle.wdl_check_flow.specs.Numbers.{counted, numbers_after, numbers_of}
-use Rattle.wdl_check_flow.specs.Targets.{Offer, Place, target_of}
+use Rattle.wdl_check_flow.specs.Targets.{Offer, Place, target_of, world_at}
 use Rattle.wdl_check_flow.proofs.Forms.{typed_roll}
 use Rattle.wdl_check_flow.proofs.Orders.{order_sum}
 use Rattle.wdl_check_flow.proofs.OutcomeParts.{some_is, then_some}
@@ -185,9 +185,9 @@ module _ (p : Place) (R : Relation) (forms : Forms R) where
       → (statement_step p (map-Statement Written Part (with_typing p) (map-Statement Known Written bare y)) number seen).typed ≡ Some x
       → R (roll-Statement (map-Statement Known Written bare y)) number x.statement
   layer_fits (layer.Declaration d) number seen x h =
-      let q = then_some (decl_typed Body p.world seen.names d) (λ t. done (decl_stated t)) x h in
+      let q = then_some (decl_typed Body (world_at p seen) seen.names d) (λ t. done (decl_stated t)) x h in
       subst (λ (z : Stated). R (roll-Statement (layer.Declaration d)) number z.statement) (some_is (decl_stated q.0) x q.2)
-      (forms.declaration d number q.0 (decl_name p.world seen.names d q.0 q.1))
+      (forms.declaration d number q.0 (decl_name (world_at p seen) seen.names d q.0 q.1))
   layer_fits (layer.Call c) number seen x h =
       let q = then_some (or_refused 322 (target_span c.target) (target_of p.reach c.target)) (λ (o : Offer). then_ (call_to p seen o c) (λ (t : TCall). done (stated_call o t))) x h in
       let r = then_some (call_to p seen q.0 c) (λ (t : TCall). done (stated_call q.0 t)) x q.2 in

@@ -24,7 +24,7 @@ use Rattle.wdl_check_flow.specs.Bodies.{Typed_body, condition, condition_stated,
 use Rattle.wdl_check_flow.specs.Calls.{Stated}
 use Rattle.wdl_check_flow.specs.Given.{decl_gives, gathered_behind}
 use Rattle.wdl_check_flow.specs.Stating.{States, StatesBody}
-use Rattle.wdl_check_flow.specs.Targets.{Place}
+use Rattle.wdl_check_flow.specs.Targets.{Place, world_at}
 use Rattle.wdl_check_flow.proofs.SeenLaws.{behind_condition, behind_scatter}
 
 abbrev stated_with : Statement → Seen → Option Stated
@@ -135,10 +135,10 @@ pub refused_by : {A B : Type 0} (first : Outcome A) (made : A → Option B) (cod
 refused_by {A} {B} first made code span a e none =
     then_ok first (λ x. or_refused code span (made x)) a (Err (Bad code span)) e (subst (λ (o : Option B). Answers (or_refused code span o) (Err (Bad code span))) (sym none) (refl, inl refl))
 
-pub decl_states : (p : Place) (seen : Seen) (d : Declaration) (t u v : TDecl) (after : Seen) → (decl_typed Body p.world seen.names d).typed ≡ Some t → u ≡ t → after ≡ joined seen (decl_gives u)
+pub decl_states : (p : Place) (seen : Seen) (d : Declaration) (t u v : TDecl) (after : Seen) → (decl_typed Body (world_at p seen) seen.names d).typed ≡ Some t → u ≡ t → after ≡ joined seen (decl_gives u)
     → v ≡ t → States (decl_statement p seen d) seen after (Ok (form.Decl v))
 decl_states p seen d t u v after e same gives made = (
   decl_gives t,
-  then_ok (decl_typed Body p.world seen.names d) (λ x. done (decl_stated x)) t (Ok (decl_stated t)) e refl ∙ ap (λ (z : TDecl). stated_with (form.Decl z) (decl_gives t)) (sym made),
+  then_ok (decl_typed Body (world_at p seen) seen.names d) (λ x. done (decl_stated x)) t (Ok (decl_stated t)) e refl ∙ ap (λ (z : TDecl). stated_with (form.Decl z) (decl_gives t)) (sym made),
   gives ∙ ap (λ (z : TDecl). joined seen (decl_gives z)) same,
 )

@@ -11,7 +11,7 @@ use Rattle.wdl_check_rules.specs.Spans.{span_of}
 use Rattle.wdl_check_types.specs.Outcome.{Outcome, then_, or_refused}
 use Rattle.wdl_check_decls.specs.Expressions.{expr_typed}
 use Rattle.wdl_check_flow.specs.declared.collection.Collection.{Collection}
-use Rattle.wdl_check_flow.specs.Targets.{Place}
+use Rattle.wdl_check_flow.specs.Targets.{Place, world_at}
 
 abbrev pub items_at : TExpr → Ty-F Ty → Option Collection
 items_at e (type.Array t some) = Some (record { expr = e; item = t; some = some })
@@ -22,8 +22,8 @@ collection_of x = items_at x.expr (out-Ty x.ty)
 
 -- 326: no array
 abbrev pub collection_typed : Place → Seen → Expr → Outcome Collection
-collection_typed p seen e = then_ (expr_typed p.world seen.names false false e) (λ x. or_refused 326 (span_of e) (collection_of x))
+collection_typed p seen e = then_ (expr_typed (world_at p seen) seen.names false false e) (λ x. or_refused 326 (span_of e) (collection_of x))
 
 -- 325: no Boolean
 abbrev pub condition_typed : Place → Seen → Expr → Outcome TExpr
-condition_typed p seen e = then_ (expr_typed p.world seen.names false false e) (λ x. or_refused 325 (span_of e) (condition_of x))
+condition_typed p seen e = then_ (expr_typed (world_at p seen) seen.names false false e) (λ x. or_refused 325 (span_of e) (condition_of x))

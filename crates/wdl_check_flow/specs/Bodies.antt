@@ -26,7 +26,7 @@ use Rattle.wdl_check_flow.specs.Blocks.{collection_typed, condition_typed}
 use Rattle.wdl_check_flow.specs.Calls.{Stated, call_typed}
 use Rattle.wdl_check_flow.specs.Given.{decl_gives, nothing}
 use Rattle.wdl_check_flow.specs.Numbers.{numbers_of}
-use Rattle.wdl_check_flow.specs.Targets.{Place}
+use Rattle.wdl_check_flow.specs.Targets.{Place, world_at}
 
 -- the typed statements, and what they give out together
 pub record Typed_body : Type 0 where
@@ -71,7 +71,7 @@ abbrev pub decl_stated : TDecl → Stated
 decl_stated d = record { statement = form.Decl d; given = decl_gives d }
 
 abbrev pub decl_statement : Place → Seen → Declaration → Outcome Stated
-decl_statement p seen d = then_ (decl_typed Body p.world seen.names d) (λ t. done (decl_stated t))
+decl_statement p seen d = then_ (decl_typed Body (world_at p seen) seen.names d) (λ t. done (decl_stated t))
 
 abbrev pub scatter : ℕ → List ℕ → Span → TExpr → List Statement → Statement
 scatter number item span over body = form.Scatter (record { number = number; item = item; over = over; body = body; span = span })

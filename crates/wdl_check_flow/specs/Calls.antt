@@ -27,7 +27,7 @@ use Rattle.wdl_check_types.specs.Places.{call_ident, call_span}
 use Rattle.wdl_check_order.specs.Needs.{after_names, call_arguments}
 use Rattle.wdl_check_decls.specs.Expressions.{expr_as}
 use Rattle.wdl_check_flow.specs.Given.{call_gives}
-use Rattle.wdl_check_flow.specs.Targets.{Offer, Place, target_of}
+use Rattle.wdl_check_flow.specs.Targets.{Offer, Place, target_of, world_at}
 
 -- a typed statement, and what it gives out
 pub record Stated : Type 0 where
@@ -51,7 +51,7 @@ field name e = record { name = name; value = e }
 abbrev pub argument_typed : Place → Seen → Offer → Argument → Outcome (TField TExpr)
 argument_typed p seen o a =
     then_ (or_refused 324 a.name.span (input_named o.inputs a.name.name)) (λ (i : TInput).
-    then_ (expr_as p.world seen.names false (value_of a.name a.value) i.ty) (λ e. done (field a.name.name e)))
+    then_ (expr_as (world_at p seen) seen.names false (value_of a.name a.value) i.ty) (λ e. done (field a.name.name e)))
 
 -- 321: an argument that stands before
 abbrev pub next_argument : Place → Seen → Offer → List (List ℕ) → Argument → Outcome (TField TExpr)

@@ -23,7 +23,7 @@ use Rattle.wdl_check_flow.specs.declared.flow.FlowRest.{FlowRest}
 use Rattle.wdl_check_flow.specs.Bodies.{Typed_body, statements_typed}
 use Rattle.wdl_check_flow.specs.Nesting.{first_deep, too_deep}
 use Rattle.wdl_check_flow.specs.Sections.{inputs_of, outputs_of, repeated, statements_of}
-use Rattle.wdl_check_flow.specs.Targets.{Place}
+use Rattle.wdl_check_flow.specs.Targets.{Place, world_at}
 
 -- ---- what calls of a workflow see
 
@@ -65,5 +65,5 @@ inputs_seen inputs = record { names = inputs_bound inputs; calls = [] }
 abbrev pub rest_typed : Place → List TInput → Workflow → Outcome FlowRest
 rest_typed p inputs f =
     then_ (statements_typed p (statements_of f.elements) (inputs_seen inputs)) (λ (b : Typed_body).
-    then_ (decls_typed Body p.world (inputs_bound inputs ++ b.given.names) (outputs_of f.elements)) (λ os.
+    then_ (decls_typed Body (world_at p b.given) (inputs_bound inputs ++ b.given.names) (outputs_of f.elements)) (λ os.
     done (record { body = b.statements; outputs = os })))

@@ -8,7 +8,8 @@ use Rattle.wdl_ast.specs.declared.workflow.CallTarget.{CallTarget}
 use Rattle.wdl_ast.specs.declared.workflow.TargetMember.{TargetMember}
 use Rattle.wdl_typed.specs.declared.flow.Target.{Target}
 use Rattle.wdl_typed.specs.declared.task.TInput.{TInput}
-use Rattle.wdl_check_decls.specs.Expressions.{World, world}
+use Rattle.wdl_typed.specs.Bodies.{Seen}
+use Rattle.wdl_check_decls.specs.Expressions.{World, with_calls, world}
 use Rattle.wdl_check_flow.specs.declared.context.Callable.{Callable}
 use Rattle.wdl_check_flow.specs.declared.context.Context.{Context}
 use Rattle.wdl_check_flow.specs.declared.context.Namespace.{Namespace}
@@ -61,3 +62,7 @@ pub record Place : Type 0 where
 
 abbrev pub place_of : Context → Place
 place_of c = record { world = world c.seeing; reach = reach_of c.targets }
+
+-- what expressions see besides names
+abbrev pub world_at : Place → Seen → World
+world_at p seen = with_calls p.world seen.calls

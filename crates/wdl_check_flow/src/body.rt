@@ -40,8 +40,9 @@ fn check_decl(
 ) -> Result<wdl_typed::Statement, CheckFault>
     ensures { States (spec.decl_statement (place_of context.now) (seen_of visible.old) declaration.now) (seen_of visible.old) (seen_of visible.new) result }
 {
+    let seeing = context.seeing.with_calls(&visible.calls);
     let names = &visible.names;
-    let decl = check_declaration(alloc, Standing::Body, &context.seeing, names, declaration)?;
+    let decl = check_declaration(alloc, Standing::Body, &seeing, names, declaration)?;
     let decl = Boxed::new(alloc, decl)?;
     visible.enter_decl(alloc, decl.get())?;
     Ok(wdl_typed::Statement::Decl(decl.into_inner()))

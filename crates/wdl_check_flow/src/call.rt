@@ -10,7 +10,7 @@ ghost use Rattle.wdl_check_decls.specs.Expressions.{expr_as};
 ghost use Rattle.wdl_check_flow.specs.Calls as spec;
 ghost use Rattle.wdl_check_flow.specs.Given.{seen_of};
 ghost use Rattle.wdl_check_flow.specs.Stating.{States};
-ghost use Rattle.wdl_check_flow.specs.Targets.{offer_of, place_of};
+ghost use Rattle.wdl_check_flow.specs.Targets.{offer_of, place_of, world_at};
 
 use crate::context::{Callable, Context};
 use crate::visible::Visible;
@@ -41,13 +41,14 @@ fn check_short(
     ident: &Ident,
     t: &Ty,
 ) -> Result<TExpr, CheckFault>
-    ensures { outcome.Answers (expr_as (place_of context.now).world visible.now.names false (expr.Name ident.now) t.now) result }
+    ensures { outcome.Answers (expr_as (world_at (place_of context.now) (seen_of visible.now)) visible.now.names false (expr.Name ident.now) t.now) result }
 {
     let e = Expr::Name(Ident {
         name: ident.name.copy(alloc)?,
         span: ident.span,
     });
-    let value = check_as_in(alloc, &context.seeing, &visible.names, false, &e, t);
+    let seeing = context.seeing.with_calls(&visible.calls);
+    let value = check_as_in(alloc, &seeing, &visible.names, false, &e, t);
     let_go(e);
     value
 }
@@ -59,17 +60,13 @@ fn check_value(
     argument: &Argument,
     t: &Ty,
 ) -> Result<TExpr, CheckFault>
-    ensures { outcome.Answers (expr_as (place_of context.now).world visible.now.names false (spec.value_of argument.now.name argument.now.value) t.now) result }
+    ensures { outcome.Answers (expr_as (world_at (place_of context.now) (seen_of visible.now)) visible.now.names false (spec.value_of argument.now.name argument.now.value) t.now) result }
 {
     match &argument.value {
-        Some(assigned) => check_as_in(
-            alloc,
-            &context.seeing,
-            &visible.names,
-            false,
-            &assigned.value,
-            t,
-        ),
+        Some(assigned) => {
+            let seeing = context.seeing.with_calls(&visible.calls);
+            check_as_in(alloc, &seeing, &visible.names, false, &assigned.value, t)
+        }
         None => check_short(alloc, context, visible, &argument.name, t),
     }
 }

@@ -44,7 +44,8 @@ pub fn check_collection(
 ) -> Result<Collection, CheckFault>
     ensures { outcome.Answers (spec.collection_typed (place_of context.now) (seen_of visible.now) over.now) result }
 {
-    let typed = check_in(alloc, &context.seeing, &visible.names, false, false, over)?;
+    let seeing = context.seeing.with_calls(&visible.calls);
+    let typed = check_in(alloc, &seeing, &visible.names, false, false, over)?;
     match collection_of(alloc, typed)? {
         Some(collection) => Ok(collection),
         None => Err(CheckFault::Bad {
@@ -73,14 +74,8 @@ pub fn check_condition(
 ) -> Result<Boxed<TExpr>, CheckFault>
     ensures { outcome.Answers (spec.condition_typed (place_of context.now) (seen_of visible.now) condition.now) result }
 {
-    let typed = check_in(
-        alloc,
-        &context.seeing,
-        &visible.names,
-        false,
-        false,
-        condition,
-    )?;
+    let seeing = context.seeing.with_calls(&visible.calls);
+    let typed = check_in(alloc, &seeing, &visible.names, false, false, condition)?;
     match bool_of(alloc, typed)? {
         Some(expr) => Ok(expr),
         None => Err(CheckFault::Bad {

@@ -132,10 +132,11 @@ pub fn check_rest(
     let sections = Sections::of(alloc, workflow.elements.as_slice())?;
     let mut visible = inputs_seen(alloc, inputs)?;
     let body = check_body(alloc, context, &mut visible, sections.statements.as_slice())?;
+    let seeing = context.seeing.with_calls(&visible.calls);
     let outputs = check_declarations(
         alloc,
         Standing::Body,
-        &context.seeing,
+        &seeing,
         &mut visible.names,
         sections.outputs.as_slice(),
     )?;

@@ -131,7 +131,7 @@ checked_str s string p =
     by_text (Option.Some t) = refl
     by_text None = ap (λ (z : Checked (List (TPart TExpr))). then_ z (λ qs. Ok (strung qs))) (string_parts s string.quote string.opening string.closing string.parts)
 
-pub checked_name : (s : Scope) (n : Ident) (p : Bool) → checked s (form.Name n) p ≡ name_checked s.names n
+pub checked_name : (s : Scope) (n : Ident) (p : Bool) → checked s (form.Name n) p ≡ name_checked s.names s.calls n
 checked_name s n p = checked_at s _ _ p (form.rolls-Name n)
 
 pub checked_call : (s : Scope) (n : Ident) (o : Span) (is : List (ListItem Expr)) (c : Span) (p : Bool) → checked s (form.Call n o is c) p ≡ call_checked s n (span_of (form.Call n o is c)) (items_checked (checked s) is p)

@@ -68,12 +68,12 @@ module _ (s : Scope) where
           named_some None = None
       by_layer y h = cc
 
-  alone_has_none : (e : Expr) (p : Bool) → is_call_alone s.names (name_of e) ≡ true → typed_at s e p ≡ None
+  alone_has_none : (e : Expr) (p : Bool) → is_call_alone s.names s.calls (name_of e) ≡ true → typed_at s e p ≡ None
   alone_has_none e p h = by_name (name_of e) refl h
     where
-      by_name : (o : Option (List ℕ)) → name_of e ≡ o → is_call_alone s.names o ≡ true → typed_at s e p ≡ None
+      by_name : (o : Option (List ℕ)) → name_of e ≡ o → is_call_alone s.names s.calls o ≡ true → typed_at s e p ≡ None
       by_name None is h = cc
-      by_name (Some x) is h = name_typed e x p is ∙ alone_is_none s.names x h
+      by_name (Some x) is h = name_typed e x p is ∙ alone_is_none s.names s.calls x h
 
   -- ---- lists of parts; each part with its outcome, its typing or its conditions
 
@@ -220,7 +220,7 @@ module _ (s : Scope) where
   layer_agrees (layer.None span) p = refl
   layer_agrees (layer.Int n span) p = or_bad_agrees 106 span (int_literal n)
   layer_agrees (layer.Str t) p = string_agrees t
-  layer_agrees (layer.Name n) p = name_agrees s.names n
+  layer_agrees (layer.Name n) p = name_agrees s.names s.calls n
   layer_agrees (layer.Call n o is c) p =
       subst (λ (z : Option (List Typed)). Agrees (call_checked s n (joined n.span c) (items_checked outcome (items (Part Checking) with_outcome is) p)) (call_typed s (func_of n.name) (items_typed typing (items (Part Typing) with_typing is) p)) (function_conditions s.outputs (func_of n.name) n.span ++ (items_conditions conditioned (items (Part Conditioning) with_conditions is) p ++ argument_conditions (func_of n.name) z (joined n.span c))))
       (items_same is p)

@@ -15,7 +15,7 @@ use Rattle.wdl_typed.specs.declared.expr.TField.{TField}
 use Rattle.wdl_typed.specs.declared.expr.TPair.{TPair}
 use Rattle.wdl_typed.specs.declared.scope.Bound.{Bound}
 use Rattle.wdl_typed.specs.Scope.{type_in}
-use Rattle.wdl_names.specs.Names.{is_call}
+use Rattle.wdl_typed.specs.Lists.{has_name}
 use Rattle.wdl_check_rules.specs.declared.fault.CheckFault.TheVariants.{Bad}
 use Rattle.wdl_check_rules.specs.declared.member.Given.{Given}
 use Rattle.wdl_check_rules.specs.Scopes.{Scope}
@@ -30,22 +30,22 @@ use Rattle.wdl_check_laws.proofs.Agreeing.{Agrees, among_left, among_right, more
 
 -- ---- names and members
 
-pub name_agrees : (names : List Bound) (n : Ident) → Agrees (name_checked names n) (named names (key_of n.name None)) (name_conditions names n)
-name_agrees names n = map_or_bad (name_code names n.name) n.span (λ (t : Ty). typing (te.Get (key_of n.name None)) t) (type_in names (key_of n.name None))
+pub name_agrees : (names : List Bound) (calls : List (List ℕ)) (n : Ident) → Agrees (name_checked names calls n) (named names (key_of n.name None)) (name_conditions names calls n)
+name_agrees names calls n = map_or_bad (name_code calls n.name) n.span (λ (t : Ty). typing (te.Get (key_of n.name None)) t) (type_in names (key_of n.name None))
 
-pub member_agrees : (s : Scope) (o : Option Typed) (name : Option (List ℕ)) (n : Ident) (span : Span) (x : Checked Typed) (t : Option Typed) (fs : Conditions) → (is_call_alone s.names name ≡ true → t ≡ None) → Agrees x t fs → Agrees (member_checked s o name n span x) (or_else o (option_and_then (member_of s.structs n.name) t)) (unless o (if is_call_alone s.names name then at 301 span else fs ++ given_that t (λ u. unless (member_of s.structs n.name u) (at 306 n.span))))
+pub member_agrees : (s : Scope) (o : Option Typed) (name : Option (List ℕ)) (n : Ident) (span : Span) (x : Checked Typed) (t : Option Typed) (fs : Conditions) → (is_call_alone s.names s.calls name ≡ true → t ≡ None) → Agrees x t fs → Agrees (member_checked s o name n span x) (or_else o (option_and_then (member_of s.structs n.name) t)) (unless o (if is_call_alone s.names s.calls name then at 301 span else fs ++ given_that t (λ u. unless (member_of s.structs n.name u) (at 306 n.span))))
 member_agrees s (Some u) name n span x t fs a e = refl
-member_agrees s None name n span x t fs a e = by_alone (is_call_alone s.names name) a
+member_agrees s None name n span x t fs a e = by_alone (is_call_alone s.names s.calls name) a
   where
     by_alone : (b : Bool) → (b ≡ true → t ≡ None) → Agrees (base_checked s b n span x) (option_and_then (member_of s.structs n.name) t) (if b then at 301 span else fs ++ given_that t (λ u. unless (member_of s.structs n.name u) (at 306 n.span)))
     by_alone true a = (ap (option_and_then (member_of s.structs n.name)) (a refl), inl refl)
     by_alone false a = bind_agrees x t fs (λ u. or_bad 306 n.span (member_of s.structs n.name u)) (member_of s.structs n.name) (λ u. unless (member_of s.structs n.name u) (at 306 n.span)) e (λ u. or_bad_agrees 306 n.span (member_of s.structs n.name u))
 
 -- the name of a call alone stands for no value
-pub alone_is_none : (names : List Bound) (x : List ℕ) → is_call_alone names (Some x) ≡ true → named names (key_of x None) ≡ None
-alone_is_none names x h = by_type (type_in names (key_of x None)) h
+pub alone_is_none : (names : List Bound) (calls : List (List ℕ)) (x : List ℕ) → is_call_alone names calls (Some x) ≡ true → named names (key_of x None) ≡ None
+alone_is_none names calls x h = by_type (type_in names (key_of x None)) h
   where
-    by_type : (t : Option Ty) → (is_none t && is_call names x) ≡ true → option_map (λ (u : Ty). typing (te.Get (key_of x None)) u) t ≡ None
+    by_type : (t : Option Ty) → (is_none t && has_name x calls) ≡ true → option_map (λ (u : Ty). typing (te.Get (key_of x None)) u) t ≡ None
     by_type None h = refl
     by_type (Some t) h = absurd (false≢true h)
 

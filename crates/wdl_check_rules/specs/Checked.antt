@@ -60,8 +60,8 @@ Gives outcome (Err e) = e ≢ NoMemory → outcome ≡ Err e
 abbrev pub Checking : Type 0
 Checking = Bool → Checked Typed
 
-abbrev pub name_checked : List Bound → Ident → Checked Typed
-name_checked names n = or_bad (name_code names n.name) n.span (named names (key_of n.name None))
+abbrev pub name_checked : List Bound → List (List ℕ) → Ident → Checked Typed
+name_checked names calls n = or_bad (name_code calls n.name) n.span (named names (key_of n.name None))
 
 -- ---- lists of parts; `f` gives the outcome of a part
 
@@ -110,7 +110,7 @@ base_checked s alone n span x = if alone then bad 301 span else then_ x (λ t. o
 
 abbrev pub member_checked : Scope → Option Typed → Option (List ℕ) → Ident → Span → Checked Typed → Checked Typed
 member_checked s (Some t) name n span x = Ok t
-member_checked s None name n span x = base_checked s (is_call_alone s.names name) n span x
+member_checked s None name n span x = base_checked s (is_call_alone s.names s.calls name) n span x
 
 abbrev pub string_checked : {E : Type 0} → Option (List ℕ) → (E → Span) → (E → Checking) → List (StringPart E) → Checked Typed
 string_checked (Some s) place f ps = Ok (string_literal s)
@@ -181,7 +181,7 @@ checked_step s (layer.None span) p = Ok (literal v.Absent ty.Absent)
 checked_step s (layer.Int n span) p = or_bad 106 span (int_literal n)
 checked_step s (layer.Str string) p =
     string_checked (plain_text string.parts) (λ (x : Part Checking). span_of x.0) (λ (x : Part Checking). x.1) string.parts
-checked_step s (layer.Name n) p = name_checked s.names n
+checked_step s (layer.Name n) p = name_checked s.names s.calls n
 checked_step s (layer.Call n o items c) p = call_checked s n (joined n.span c) (items_checked (λ (x : Part Checking). x.1) items p)
 checked_step s (layer.Group o x c) p = x.1 p
 checked_step s (layer.Pair o l m r c) p = pair_checked (l.1 p) (r.1 p)

@@ -17,8 +17,8 @@ use Rattle.wdl_ast.specs.declared.string.StringPart.{StringPart}
 use Rattle.wdl_ast.specs.declared.string.StringPart.TheVariants as part
 use Rattle.wdl_typed.specs.declared.expr.TPair.{TPair}
 use Rattle.wdl_typed.specs.declared.scope.Bound.{Bound}
+use Rattle.wdl_typed.specs.Lists.{has_name}
 use Rattle.wdl_typed.specs.Scope.{type_in}
-use Rattle.wdl_names.specs.Names.{is_call}
 use Rattle.wdl_check_rules.specs.declared.fault.CheckFault.{CheckFault}
 use Rattle.wdl_check_rules.specs.declared.fault.CheckFault.TheVariants.{Bad, NoMemory}
 use Rattle.wdl_check_rules.specs.declared.member.Given.{Given}
@@ -57,16 +57,16 @@ given_that None f = []
 -- ---- names
 
 -- a name that stands for no value: 307 that of a call, 301 any other
-abbrev pub name_code : List Bound → List ℕ → ℕ
-name_code names name = if is_call names name then 307 else 301
+abbrev pub name_code : List (List ℕ) → List ℕ → ℕ
+name_code calls name = if has_name name calls then 307 else 301
 
-abbrev pub name_conditions : List Bound → Ident → Conditions
-name_conditions names n = unless (type_in names (key_of n.name None)) (at (name_code names n.name) n.span)
+abbrev pub name_conditions : List Bound → List (List ℕ) → Ident → Conditions
+name_conditions names calls n = unless (type_in names (key_of n.name None)) (at (name_code calls n.name) n.span)
 
 -- the name is that of a call and of no value
-abbrev pub is_call_alone : List Bound → Option (List ℕ) → Bool
-is_call_alone names None = false
-is_call_alone names (Some x) = is_none (type_in names (key_of x None)) && is_call names x
+abbrev pub is_call_alone : List Bound → List (List ℕ) → Option (List ℕ) → Bool
+is_call_alone names calls None = false
+is_call_alone names calls (Some x) = is_none (type_in names (key_of x None)) && has_name x calls
 
 -- ---- lists of parts; `f` gives the conditions of a part
 
@@ -131,7 +131,7 @@ map_conditions span rows =
 abbrev pub member_of_conditions : Scope → Option (List ℕ) → Ident → Span → Option Typed → Conditions → Conditions
 member_of_conditions s name n span x fs =
     unless (output_named s.names name n.name)
-    (if is_call_alone s.names name then at 301 span else fs ++ given_that x (λ t. unless (member_of s.structs n.name t) (at 306 n.span)))
+    (if is_call_alone s.names s.calls name then at 301 span else fs ++ given_that x (λ t. unless (member_of s.structs n.name t) (at 306 n.span)))
 
 abbrev pub conditions_step : Scope → Expr-F (Part (Bool → Conditions)) → Bool → Conditions
 conditions_step s (layer.If i c t a e r) p =
@@ -155,7 +155,7 @@ conditions_step s (layer.Int n span) p = unless (int_literal n) (at 106 span)
 conditions_step s (layer.Str string) p =
     parts_conditions (λ (x : Part (Bool → Conditions)). span_of x.0) (λ (x : Part (Bool → Conditions)). typed_at s x.0)
     (λ (x : Part (Bool → Conditions)). x.1) string.parts
-conditions_step s (layer.Name n) p = name_conditions s.names n
+conditions_step s (layer.Name n) p = name_conditions s.names s.calls n
 conditions_step s (layer.Call n o items c) p =
     function_conditions s.outputs (func_of n.name) n.span
     ++ (items_conditions (λ (x : Part (Bool → Conditions)). x.1) items p

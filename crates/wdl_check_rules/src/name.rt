@@ -10,7 +10,7 @@ use crate::fault::CheckFault;
 use crate::typed::Typed;
 use std::alloc::Global;
 use wdl_ast::Ident;
-use wdl_names::Names;
+use wdl_names::{Names, Words};
 use wdl_typed::TExpr;
 use wdl_value::{Key, Name, NoMemory};
 
@@ -44,21 +44,26 @@ fn named(alloc: Global, names: &Names, key: Key) -> Result<Option<Typed>, NoMemo
 }
 
 /// 307 for the name of a call, 301 for any other that stands for no value.
-fn name_code(names: &Names, name: &Name) -> u16
-    ensures { result ≡ condition.name_code names.now name.now }
+fn name_code(calls: &Words, name: &Name) -> u16
+    ensures { result ≡ condition.name_code calls.now name.now }
 {
-    if names.is_call(name) { 307 } else { 301 }
+    if calls.has(name) { 307 } else { 301 }
 }
 
-/// A name as an expression.
-pub fn check_name(alloc: Global, names: &Names, ident: &Ident) -> Result<Typed, CheckFault>
-    ensures { checked.Gives (checked.name_checked names.now ident.now) result }
+/// A name as an expression; `calls` are the names of the calls that are seen.
+pub fn check_name(
+    alloc: Global,
+    names: &Names,
+    calls: &Words,
+    ident: &Ident,
+) -> Result<Typed, CheckFault>
+    ensures { checked.Gives (checked.name_checked names.now calls.now ident.now) result }
 {
     let key = key_of(alloc, &ident.name, None)?;
     match named(alloc, names, key)? {
         Some(typed) => Ok(typed),
         None => Err(CheckFault::Bad {
-            code: name_code(names, &ident.name),
+            code: name_code(calls, &ident.name),
             span: ident.span,
         }),
     }
@@ -81,12 +86,17 @@ pub fn output_named(
 }
 
 /// Whether the name is that of a call and of no value.
-pub fn is_call_alone(alloc: Global, names: &Names, name: Option<&Name>) -> Result<bool, NoMemory>
-    ensures { IfOk result (λ b. b ≡ condition.is_call_alone names.now (option_copied name.entry)) }
+pub fn is_call_alone(
+    alloc: Global,
+    names: &Names,
+    calls: &Words,
+    name: Option<&Name>,
+) -> Result<bool, NoMemory>
+    ensures { IfOk result (λ b. b ≡ condition.is_call_alone names.now calls.now (option_copied name.entry)) }
 {
     let Some(name) = name else {
         return Ok(false);
     };
     let key = key_of(alloc, name, None)?;
-    Ok(names.type_of(&key).is_none() && names.is_call(name))
+    Ok(names.type_of(&key).is_none() && calls.has(name))
 }

@@ -1,4 +1,7 @@
-use Rattle.std.proofs.Common.{◌≡◌}
+use Rattle.std.proofs.Common.{◌≡◌, Some, ap, subst}
+use Rattle.wdl_check_decls.specs.declared.standing.Standing.TheVariants.{Body}
+use Rattle.wdl_check_decls.specs.Declarations.{decl_typed}
+use Rattle.wdl_check_decls.specs.Expressions.{World, world}
 use Rattle.wdl_check_flow.specs.Given.{seen_of}
 use Rattle.wdl_check_flow.specs.Targets.{place_of}
 use Rattle.wdl_check_flow.proofs.StateLaws.{decl_states}
@@ -12,4 +15,5 @@ returns c =
     let same : c.get.result.now ≡ c.in_ok-decl.decl = cc in
     let made : c.into_inner.result ≡ c.in_ok-decl.decl = cc in
     decl_states (place_of c.args.context.now) (seen_of c.args.visible.now) c.args.declaration.now c.in_ok-decl.decl c.get.result.now c.into_inner.result (seen_of c.enter_decl.new.self)
-    c.in_ok-decl.ensures same c.in_ok-enter_decl.ensures made
+    (subst (λ (w : World). (decl_typed Body w c.args.visible.now.names c.args.declaration.now).typed ≡ Some c.in_ok-decl.decl) (ap world c.with_calls-seeing.ensures) c.in_ok-decl.ensures)
+    same c.in_ok-enter_decl.ensures made

@@ -1,16 +1,17 @@
-use Rattle.std.proofs.Common.{false, Err, sym, ◌∙◌, subst}
+use Rattle.std.proofs.Common.{◌≡◌, false, Some, Err, ap, sym, ◌∙◌, subst}
 use Rattle.wdl_check_rules.specs.declared.fault.CheckFault.TheVariants.{Bad}
 use Rattle.wdl_check_rules.specs.Spans.{span_of}
 use Rattle.wdl_check_types.specs.Outcome.{Answers}
-use Rattle.wdl_check_decls.specs.Expressions.{expr_typed}
+use Rattle.wdl_check_decls.specs.Expressions.{World, expr_typed, world}
 use Rattle.wdl_check_flow.specs.Blocks.{collection_of, collection_typed}
 use Rattle.wdl_check_flow.specs.Given.{seen_of}
-use Rattle.wdl_check_flow.specs.Targets.{place_of}
+use Rattle.wdl_check_flow.specs.Targets.{place_of, world_at}
 use Rattle.wdl_check_flow.proofs.StateLaws.{refused_by}
 use Rattle.wdl_check_flow.proofs.collection.check_collection.Goals as goal
 
 pub returns-in-None : goal.returns-in-None
 returns-in-None c =
     subst (λ span. Answers (collection_typed (place_of c.args.context.now) (seen_of c.args.visible.now) c.args.over.now) (Err (Bad 326 span))) (sym c.span_of.ensures)
-    (refused_by (expr_typed (place_of c.args.context.now).world c.args.visible.now.names false false c.args.over.now) collection_of 326 (span_of c.args.over.now) c.in_ok-typed.typed c.in_ok-typed.ensures
+    (refused_by (expr_typed (world_at (place_of c.args.context.now) (seen_of c.args.visible.now)) c.args.visible.now.names false false c.args.over.now) collection_of 326 (span_of c.args.over.now) c.in_ok-typed.typed
+    (subst (λ (w : World). (expr_typed w c.args.visible.now.names false false c.args.over.now).typed ≡ Some c.in_ok-typed.typed) (ap world c.with_calls-seeing.ensures) c.in_ok-typed.ensures)
     (sym c.in_ok-collection.ensures ∙ c.in-None.is))
