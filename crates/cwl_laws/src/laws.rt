@@ -1,12 +1,19 @@
 //! Laws of the definitions, which say nothing of code.
 
 ghost use Rattle.cwl_laws.specs.Laws.{BodiesAgree};
+ghost use Rattle.cwl_laws.specs.Simulation.{Simulation};
 ghost use Rattle.cwl_laws.specs.Parts.{CalleesAgree, ConditionsSimulate, FlowCallsKept, FlowCallsSimulate, IdsRead, InputsKept, ReferencesDiffer, ReferencesRead, ScattersSimulate, StatementsGive, TaskCallsKept, TaskCallsSimulate, TaskInputsKept, TasksAreTools, UsesAreSeen, WiresRefer};
+
+/// The CWL process of a checked form of the subset means what the form's flow gives: for inputs that fit, any site and any table
+/// of answers, the flow is clean exactly where the meaning is complete, and then they have the same jobs and the same outputs.
+pub fn simulation()
+    ensures law { Simulation }
+{}
 
 /// What the statements of a workflow give is what the steps of their image mean: statements in turn and steps in one pass,
 /// conditions, scatters, calls of tasks and of workflows, and a workflow one level deeper than those that it calls. The
 /// premises on names and scopes are conditions of these laws.
-pub fn simulation()
+pub fn forms()
     ensures bodies { BodiesAgree }
     ensures conditions { ConditionsSimulate }
     ensures scatters { ScattersSimulate }
