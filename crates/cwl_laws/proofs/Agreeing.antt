@@ -88,7 +88,7 @@ module _ (r : Run) (callee : Callee) (flows : ℕ → Process) (declared_in : Li
   layer_done (layer.If b) n all taken seen first scope le l = if_done r callee flows declared_in targets differ sound depth b n all taken seen first scope le l
 
   -- Each statement agrees with its step.
-  pub statement_done : (st : Statement) → IsDone r callee flows declared_in targets differ sound depth st
+  statement_done : (st : Statement) → IsDone r callee flows declared_in targets differ sound depth st
   statement_done = ind-Statement (IsDone r callee flows declared_in targets differ sound depth) (λ a y is.
       subst (λ (z : Statement-F Statement). IsDone r callee flows declared_in targets differ sound depth (roll-Statement z)) is (λ n all taken seen first scope le o.
       let q = layer_done y n all taken seen first scope le (opened r.library (target_by r.library flows) declared_in targets n all taken seen first scope (Plain y) o) in

@@ -1,5 +1,5 @@
 -- What a block refers to outside, and what its flow sees.
-use Rattle.std.proofs.Common.{◌≡◌, ℕ, ◌⊎◌, inl, inr, Bool, true, false, cond, List, [], ◌∷◌, ◌++◌, map, Option, Some, None, Contains, sym, ap, ◌∙◌, subst, refl}
+use Rattle.std.proofs.Common.{◌≡◌, ℕ, ◌⊎◌, inl, inr, Bool, true, false, cond, List, [], ◌∷◌, ◌++◌, Option, Some, None, Contains, sym, ap, ◌∙◌, subst, refl}
 use Rattle.std.proofs.lemmas.Bool.{false≢true, or_from}
 use Rattle.wdl_base.specs.declared.name.Key.{Key}
 use Rattle.wdl_value.specs.declared.ty.Ty.{Ty}
@@ -9,14 +9,14 @@ use Rattle.wdl_typed.specs.Declarations.{bound, plain_key}
 use Rattle.wdl_typed.specs.Scope.{is_among, same_key, type_in}
 use Rattle.cwl_model.specs.declared.process.Link.TheVariants as link
 use Rattle.cwl_model.proofs.Rounds.{first_is, first_or_later, later_is, none_is, or_else}
-use Rattle.cwl_image.specs.Image.{Draft, Linkage, Output, Scope, body_links, body_uses, firsts, id_of, inner_linkage, inner_scope, item_linkage, keys_of, linkage_at, linkage_of, links_of, outer_uses, type_of, type_or, without}
+use Rattle.cwl_image.specs.Image.{Draft, Linkage, Scope, body_links, body_uses, firsts, id_of, inner_linkage, inner_scope, item_linkage, keys_of, linkage_at, links_of, outer_uses, type_of, type_or, without}
 use Rattle.cwl_laws.specs.Parts.{OutsTyped}
 use Rattle.cwl_laws.proofs.Bodies.{key_same, linkage_append}
 use Rattle.cwl_laws.proofs.Conditions.{same_itself}
 use Rattle.cwl_laws.proofs.Differ.{NoTypes, no_link, not_given}
-use Rattle.cwl_laws.proofs.Elements.{HasType, link_typed, map_has}
+use Rattle.cwl_laws.proofs.Elements.{link_seen, link_typed, map_has}
 use Rattle.cwl_laws.proofs.Given.{outs_linked}
-use Rattle.cwl_laws.proofs.Uses.{type_append, without_has}
+use Rattle.cwl_laws.proofs.Uses.{HasType, type_append, without_has}
 
 none_some : {A : Type 0} {x : A} {B : Type 0} → None ≡ Some x → B
 none_some h = cc
@@ -38,10 +38,10 @@ IsWithin scope names = (k : Key) (l : Linkage) → linkage_at scope k ≡ Some l
 
 -- ---- types of names
 
-pub type_kept : (bs cs : List Bound) (k : Key) → HasType bs k → HasType (bs ++ cs) k
+type_kept : (bs cs : List Bound) (k : Key) → HasType bs k → HasType (bs ++ cs) k
 type_kept bs cs k h = (h.0, type_append bs cs k ∙ ap (λ o. or_else o (type_in cs k)) h.1)
 
-pub type_more : (bs cs : List Bound) (k : Key) → HasType cs k → HasType (bs ++ cs) k
+type_more : (bs cs : List Bound) (k : Key) → HasType cs k → HasType (bs ++ cs) k
 type_more bs cs k h = by_type (type_in bs k) refl
   where
     by_type : (o : Option Ty) → type_in bs k ≡ o → HasType (bs ++ cs) k
@@ -55,15 +55,6 @@ by_side bs cs k t h = by_type (type_in bs k) refl
     by_type : (o : Option Ty) → type_in bs k ≡ o → (type_in bs k ≡ Some t) ⊎ ((type_in bs k ≡ None) × (type_in cs k ≡ Some t))
     by_type (Some u) e = inl (e ∙ sym (ap (λ o. or_else o (type_in cs k)) e) ∙ sym (type_append bs cs k) ∙ h)
     by_type None e = inr (e, sym (ap (λ o. or_else o (type_in cs k)) e) ∙ sym (type_append bs cs k) ∙ h)
-
-link_back : (step : List ℕ) (os : List Output) (bs : List Bound) → OutsTyped os bs → (k : Key) (l : Linkage) → linkage_at (map (linkage_of step) os) k ≡ Some l → HasType bs k
-link_back step [] bs h k l e = none_some e
-link_back step (o ∷ os) [] h k l e = absurd h
-link_back step (o ∷ os) (b ∷ bs) h k l e = by_test (λ q. link_back step os bs h.2 k l q) (same_key o.key k) refl e
-  where
-    by_test : (linkage_at (map (linkage_of step) os) k ≡ Some l → HasType bs k) → (w : Bool) → same_key o.key k ≡ w → cond w (Some (linkage_of step o)) (linkage_at (map (linkage_of step) os) k) ≡ Some l → HasType (b ∷ bs) k
-    by_test rest true s q = (b.ty, ap (λ c. cond c (Some b.ty) (type_in bs k)) (ap (λ j. same_key j k) (sym h.0) ∙ s))
-    by_test rest false s q = let r = rest q in (r.0, ap (λ c. cond c (Some b.ty) (type_in bs k)) (ap (λ j. same_key j k) (sym h.0) ∙ s) ∙ r.1)
 
 -- ---- behind a statement
 
@@ -85,7 +76,7 @@ within_then scope names bs d outs within k l h = by_link (linkage_at scope k) re
   where
     by_link : (o : Option Linkage) → linkage_at scope k ≡ o → HasType (names ++ bs) k
     by_link (Some m) e = type_kept names bs k (within k m e)
-    by_link None e = type_more names bs k (link_back d.id d.outs bs outs k l (sym (ap (λ o. or_else o (linkage_at (links_of d) k)) e) ∙ sym (linkage_append scope (links_of d) k) ∙ h))
+    by_link None e = type_more names bs k (link_seen (links_of d) bs (outs_linked d.id d.outs bs outs) k l (sym (ap (λ o. or_else o (linkage_at (links_of d) k)) e) ∙ sym (linkage_append scope (links_of d) k) ∙ h))
 
 -- ---- references at their first use
 

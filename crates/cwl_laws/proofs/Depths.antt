@@ -20,15 +20,15 @@ use Rattle.cwl_image.specs.declared.broken.Broken.{Broken}
 use Rattle.cwl_image.specs.Expressions.{are_allowed, is_file, is_file_type, is_simple, output_allowed, refers_to_output}
 use Rattle.cwl_image.specs.Image.{Scope, flow_image}
 use Rattle.cwl_image.specs.Named.{flow_named}
-use Rattle.cwl_image.specs.Subset.{called_broken, declared_by, each_broken, flow_at, flow_broken, flow_output_broken, input_broken, output_scope, private_broken, reached, run_broken, target_broken, task_at, task_broken, task_output_broken, task_scope, unless, walk_flow}
+use Rattle.cwl_image.specs.Subset.{called_broken, declared_by, each_broken, flow_at, flow_broken, flow_output_broken, output_scope, reached, target_broken, task_at, task_broken, task_output_broken, task_scope, unless}
 use Rattle.cwl_laws.specs.Parts.{IsCalled}
 use Rattle.cwl_laws.specs.Tools.{AreStatuses, CalleeAgrees}
 use Rattle.cwl_laws.proofs.Agreeing.{CallDone, CallsDone}
 use Rattle.cwl_laws.proofs.CallRules.{flow_call_kept, task_call_kept}
 use Rattle.cwl_laws.proofs.Callees.{callee_agrees}
-use Rattle.cwl_laws.proofs.Flows.{workflow_is}
+use Rattle.cwl_laws.proofs.Flows.{flow_rules, workflow_is}
 use Rattle.cwl_laws.proofs.Statements.{IsSound}
-use Rattle.cwl_laws.proofs.Tools.{both_empty, inputs_are, rule_holds}
+use Rattle.cwl_laws.proofs.Tools.{both_empty, inputs_are, rule_holds, rules_of}
 use Rattle.cwl_model.proofs.Rounds.{first_or_later, none_is}
 
 none_some : {A : Type 0} {x : A} {B : Type 0} → None ≡ Some x → B
@@ -51,17 +51,13 @@ each_at f (y ∷ xs) h x c =
 
 task_simple : (structs : Structs) (t : TaskDef) → task_broken structs t ≡ [] → (d : TDecl) → Contains t.outputs d → is_simple d.ty ≡ true
 task_simple structs t h d c =
-    let p = both_empty
-    (each_broken (input_broken structs (task_scope t)) t.inputs ++ each_broken (private_broken structs (task_scope t)) t.privates ++ run_broken structs (task_scope t) t)
-    (each_broken (task_output_broken structs (task_scope t)) t.outputs) h in
-    let q = each_at (task_output_broken structs (task_scope t)) t.outputs p.1 d c in
+    let q = each_at (task_output_broken structs (task_scope t)) t.outputs (rules_of structs t h).outputs d c in
     let a = both_empty (unless (is_simple d.ty) 605 d.span ++ unless (output_allowed structs (task_scope t) d.value) 606 d.span) (unless (is_file_type d.ty && is_file d.value) 611 d.span) q in
     rule_holds (is_simple d.ty) 605 d.span (both_empty (unless (is_simple d.ty) 605 d.span) (unless (output_allowed structs (task_scope t) d.value) 606 d.span) a.0).0
 
 flow_simple : (lib : Library) (f : FlowDef) → flow_broken lib f ≡ [] → (d : TDecl) → Contains f.outputs d → is_simple d.ty ≡ true
 flow_simple lib f h d c =
-    let p = both_empty (each_broken (input_broken lib.structs (inputs_bound f.inputs)) f.inputs ++ (walk_flow lib f).broken) (each_broken (flow_output_broken lib.structs (output_scope lib f)) f.outputs) h in
-    let q = each_at (flow_output_broken lib.structs (output_scope lib f)) f.outputs p.1 d c in
+    let q = each_at (flow_output_broken lib.structs (output_scope lib f)) f.outputs (flow_rules lib f h).outputs d c in
     let a = both_empty (unless (is_simple d.ty) 605 d.span ++ unless (are_allowed lib.structs (output_scope lib f) d.value false) 606 d.span) (unless (refers_to_output lib.structs (output_scope lib f) d.value) 612 d.span) q in
     rule_holds (is_simple d.ty) 605 d.span (both_empty (unless (is_simple d.ty) 605 d.span) (unless (are_allowed lib.structs (output_scope lib f) d.value false) 606 d.span) a.0).0
 
@@ -88,7 +84,7 @@ few_of (g ∷ fs) (suc k) f e h = few_of fs k f e (rest (count_statements g.body
 module _ (r : Run) (small : AreStatuses r.table) (kept : IsKept r.library) (differ : OutputsDiffer r.library) (named : list_all flow_named r.library.flows ≡ true)
     (few : sum_of (map (λ (f : FlowDef). count_statements f.body) r.library.flows) < 2 ^ 32) (sound : (depth : ℕ) (st : Statement) → IsSound r (flow r depth) st) where
   -- A workflow that nests no deeper agrees with its process.
-  abbrev pub AgreesAt : ℕ → Type 0
+  abbrev AgreesAt : ℕ → Type 0
   AgreesAt depth =
       (m k : ℕ) (f : FlowDef) → m ≤ depth → slice_get r.library.flows k ≡ Some f → body_nests r.library.flows m f.body ≡ true → reached r.library (suc depth) k ≡ []
       → CalleeAgrees r (flow r (suc depth)) k f (flow_image r.library (suc depth) k)
@@ -123,13 +119,10 @@ module _ (r : Run) (small : AreStatuses r.table) (kept : IsKept r.library) (diff
   flow_done depth agrees declared c seen given scope called m k le at broken (Some f) there nested =
       let p = reached_parts r.library depth k f there broken in
       let t = is_typed r.library f (each_passes (flow_typed r.library) r.library.flows k f kept.flows there) in
-      let rules = both_empty (each_broken (input_broken r.library.structs (inputs_bound f.inputs)) f.inputs ++ (walk_flow r.library f).broken)
-      (each_broken (flow_output_broken r.library.structs (output_scope r.library f)) f.outputs) p.0 in
-      let inputs = both_empty (each_broken (input_broken r.library.structs (inputs_bound f.inputs)) f.inputs) (walk_flow r.library f).broken rules.0 in
       record {
         agrees =
             flow_call_kept r (flow r (suc depth)) depth declared c seen given scope called k f at there
-            (inputs_are r.library.structs [] (inputs_bound f.inputs) f.inputs t.inputs_are inputs.0) (sym (fresh-distinct (input_names f.inputs)) ∙ t.inputs_new) (agrees m k f le there nested broken);
+            (inputs_are r.library.structs [] (inputs_bound f.inputs) f.inputs t.inputs_are (flow_rules r.library f p.0).inputs) (sym (fresh-distinct (input_names f.inputs)) ∙ t.inputs_new) (agrees m k f le there nested broken);
         simple = λ s e d i.
             let same : flow_signature f ≡ s = some_same (sym (ap (signature r.library) at ∙ ap (option_and_then (λ u. Some (flow_signature u))) there) ∙ e) in
             flow_simple r.library f p.0 d (subst (λ (z : Signature). Contains z.outputs d) (sym same) i);

@@ -16,9 +16,10 @@ use Rattle.cwl_model.proofs.Rounds.{first_is, later_is, none_is}
 use Rattle.cwl_image.specs.Image.{Draft, Linkage, Output, Targets, body_links, draft, keys_of, linkage_of, links_of}
 use Rattle.cwl_image.specs.Subset.{walk_body}
 use Rattle.cwl_laws.specs.Laws.{AllDiffer, AllNew, KeysDiffer, New, NewItems, NoItems, NoKeys, has_key}
-use Rattle.cwl_laws.proofs.Elements.{HasType, among_has, map_has, no_out, none_left, none_right, out_typed}
+use Rattle.cwl_laws.proofs.Elements.{among_has, map_has, no_out, none_left, none_right, out_typed}
 use Rattle.cwl_laws.proofs.Keys.{items_new}
 use Rattle.cwl_laws.proofs.Splits.{split}
+use Rattle.cwl_laws.proofs.Uses.{HasType}
 
 none_some : {A : Type 0} {x : A} {B : Type 0} → None ≡ Some x → B
 none_some h = cc

@@ -1,5 +1,5 @@
 -- Elements of lists that are made of others, and names by their types.
-use Rattle.std.proofs.Common.{◌≡◌, ◌⊎◌, inl, inr, Bool, true, false, cond, not, ◌||◌, List, [], ◌∷◌, ◌++◌, map, Option, Some, None, Contains, sym, ap, ◌∙◌, subst, refl}
+use Rattle.std.proofs.Common.{◌≡◌, ◌⊎◌, inl, inr, Bool, true, false, cond, not, ◌||◌, List, [], ◌∷◌, ◌++◌, map, Option, Some, None, Contains, sym, ap, ◌∙◌, refl}
 use Rattle.std.proofs.lemmas.Bool.{false≢true, and_parts, not-true, or_left, or_parts, or_right}
 use Rattle.wdl_base.specs.declared.name.Key.{Key}
 use Rattle.wdl_value.specs.declared.ty.Ty.{Ty}
@@ -13,7 +13,7 @@ use Rattle.cwl_laws.specs.Laws.{has_key}
 use Rattle.cwl_laws.specs.Parts.{LinksTyped, OutsTyped}
 use Rattle.cwl_laws.proofs.Bodies.{key_same}
 use Rattle.cwl_laws.proofs.Conditions.{same_itself}
-use Rattle.cwl_laws.proofs.Uses.{type_append}
+use Rattle.cwl_laws.proofs.Uses.{HasType, type_append}
 
 none_some : {A : Type 0} {x : A} {B : Type 0} → None ≡ Some x → B
 none_some h = cc
@@ -31,14 +31,6 @@ map_has A B f (x ∷ xs) y c = by_case (λ d. map_has A B f xs y d) (first_or_la
     by_case : (Contains (map f xs) y → (z : A) × Contains xs z × (f z ≡ y)) → (f x ≡ y) ⊎ Contains (map f xs) y → (z : A) × Contains (x ∷ xs) z × (f z ≡ y)
     by_case rest (inl e) = (x, first_is x xs, e)
     by_case rest (inr d) = let r = rest d in (r.0, later_is x xs r.0 r.1, r.2)
-
-pub map_takes : (A B : Type 0) (f : A → B) (xs : List A) (x : A) → Contains xs x → Contains (map f xs) (f x)
-map_takes A B f [] x c = absurd (none_is x c)
-map_takes A B f (y ∷ xs) x c = by_case (λ d. map_takes A B f xs x d) (first_or_later y xs x c)
-  where
-    by_case : (Contains xs x → Contains (map f xs) (f x)) → (y ≡ x) ⊎ Contains xs x → Contains (f y ∷ map f xs) (f x)
-    by_case rest (inl e) = subst (λ z. Contains (f y ∷ map f xs) (f z)) e (first_is (f y) (map f xs))
-    by_case rest (inr d) = later_is (f y) (map f xs) (f x) (rest d)
 
 pub among_has : (ls : Scope) (k : Key) → is_among k (keys_of ls) ≡ true → (l : Linkage) × Contains ls l × (l.key ≡ k)
 among_has [] k h = absurd (false≢true h)
@@ -82,9 +74,6 @@ linked_itself (m ∷ ls) d l c =
 
 -- ---- types of names
 
-abbrev pub HasType : List Bound → Key → Type 0
-HasType names k = (t : Ty) × (type_in names k ≡ Some t)
-
 pub none_left : (bs cs : List Bound) (k : Key) → type_in (bs ++ cs) k ≡ None → type_in bs k ≡ None
 none_left bs cs k h = by_type (type_in bs k) refl
   where
@@ -125,6 +114,16 @@ link_typed (l ∷ ls) (b ∷ bs) h k t e = by_test (λ q. link_typed ls bs h.2 k
         → (m : Linkage) × (cond (same_key l.key k) (Some l) (linkage_at ls k) ≡ Some m) × (m.ty ≡ type_of t)
     by_test rest true s q = (l, ap (λ c. cond c (Some l) (linkage_at ls k)) s, h.1 ∙ ap type_of (some_same q))
     by_test rest false s q = let r = rest q in (r.0, ap (λ c. cond c (Some l) (linkage_at ls k)) s ∙ r.1, r.2)
+
+-- what is linked has a type
+pub link_seen : (ls : Scope) (bs : List Bound) → LinksTyped ls bs → (k : Key) (l : Linkage) → linkage_at ls k ≡ Some l → HasType bs k
+link_seen [] bs h k l e = none_some e
+link_seen (m ∷ ls) [] h k l e = absurd h
+link_seen (m ∷ ls) (b ∷ bs) h k l e = by_test (λ q. link_seen ls bs h.2 k l q) (same_key m.key k) (ap (λ j. same_key j k) (sym h.0)) e
+  where
+    by_test : (linkage_at ls k ≡ Some l → HasType bs k) → (w : Bool) → same_key b.key k ≡ w → cond w (Some m) (linkage_at ls k) ≡ Some l → HasType (b ∷ bs) k
+    by_test rest true s q = (b.ty, ap (λ c. cond c (Some b.ty) (type_in bs k)) s)
+    by_test rest false s q = let r = rest q in (r.0, ap (λ c. cond c (Some b.ty) (type_in bs k)) s ∙ r.1)
 
 pub link_keys : (ls : Scope) (bs : List Bound) → LinksTyped ls bs → keys_of ls ≡ bound_keys bs
 link_keys [] [] h = refl

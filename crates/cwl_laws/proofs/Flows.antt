@@ -4,17 +4,15 @@ use Rattle.std.specs.Str.{bytes_eq}
 use Rattle.std.proofs.lemmas.Bool.{false≢true, and_parts}
 use Rattle.wdl_base.specs.declared.name.Key.{Key}
 use Rattle.wdl_base.specs.Names.{is_name}
-use Rattle.wdl_value.specs.declared.ty.Ty.{Ty}
 use Rattle.wdl_value.specs.declared.value.Value.{Value}
 use Rattle.wdl_value.specs.Fits.{Structs}
-use Rattle.wdl_value.proofs.SameTypeLemmas.{same_type-true}
 use Rattle.wdl_typed.specs.declared.flow.FlowDef.{FlowDef}
 use Rattle.wdl_typed.specs.declared.flow.Statement.{Statement}
 use Rattle.wdl_typed.specs.declared.flow.Target.{Target}
 use Rattle.wdl_typed.specs.declared.scope.Bound.{Bound}
 use Rattle.wdl_typed.specs.declared.task.TDecl.{TDecl}
 use Rattle.wdl_typed.specs.declared.task.TInput.{TInput}
-use Rattle.wdl_typed.specs.Bodies.{all_declared, body_nests}
+use Rattle.wdl_typed.specs.Bodies.{Library, all_declared, body_nests}
 use Rattle.wdl_typed.specs.Declarations.{bound, decl_names, decls_bound, decls_typed, in_body, input_names, inputs_bound, plain_key}
 use Rattle.wdl_typed.specs.Flow.{Callee, Run, env_of}
 use Rattle.wdl_typed.specs.Kept.{count_statements, flow_names, inputs_seen}
@@ -24,6 +22,7 @@ use Rattle.wdl_typed.specs.Scope.{is_among, lookup, same_key, same_second, type_
 use Rattle.wdl_typed.specs.Typing.{is_type}
 use Rattle.wdl_names.proofs.FreshLemmas.{fresh-distinct}
 use Rattle.wdl_plain.proofs.FlowSound.{Typed, body_is_new}
+use Rattle.wdl_plain.proofs.Fitting.{is_type-some}
 use Rattle.wdl_plain.proofs.NewNames.{name_left}
 use Rattle.flow_laws.proofs.Checked.{IsFlow, OutputsDiffer, names_right}
 use Rattle.flow_laws.proofs.Owned.{shared_by_none}
@@ -39,9 +38,8 @@ use Rattle.cwl_laws.specs.Premises.{AreOutputs, IsOutput, IsWorkflow, input_name
 use Rattle.cwl_laws.specs.Tools.{drafts_of, ground_of, runners_of}
 use Rattle.cwl_laws.proofs.Agreeing.{CallsDone, statements_done}
 use Rattle.cwl_laws.proofs.Bodies.{key_same}
-use Rattle.cwl_laws.proofs.Covers.{IsWithin}
 use Rattle.cwl_laws.proofs.Differ.{all_new, body_differs, body_fresh}
-use Rattle.cwl_laws.proofs.Elements.{HasType, among_has, link_typed, not_linked}
+use Rattle.cwl_laws.proofs.Elements.{among_has, link_seen, link_typed, not_linked}
 use Rattle.cwl_laws.proofs.Statements.{AllDone, BodyHere, IsSound, all_wires, new_differ}
 use Rattle.cwl_laws.proofs.Given.{links_append}
 use Rattle.cwl_laws.proofs.Keys.{IsOutputKey, links_are}
@@ -59,20 +57,25 @@ none_some h = cc
 some_same : {A : Type 0} {x y : A} → Some x ≡ Some y → x ≡ y
 some_same h = cc
 
+-- ---- rules
+
+-- the rules that a workflow keeps
+pub record FlowRules (lib : Library) (f : FlowDef) : Type 0 where
+  pub inputs : each_broken (input_broken lib.structs (inputs_bound f.inputs)) f.inputs ≡ []
+  pub body : (walk_flow lib f).broken ≡ []
+  pub outputs : each_broken (flow_output_broken lib.structs (output_scope lib f)) f.outputs ≡ []
+
+pub flow_rules : (lib : Library) (f : FlowDef) → flow_broken lib f ≡ [] → FlowRules lib f
+flow_rules lib f h =
+    let a = both_empty (each_broken (input_broken lib.structs (inputs_bound f.inputs)) f.inputs ++ (walk_flow lib f).broken) (each_broken (flow_output_broken lib.structs (output_scope lib f)) f.outputs) h in
+    let b = both_empty (each_broken (input_broken lib.structs (inputs_bound f.inputs)) f.inputs) (walk_flow lib f).broken a.0 in
+    record { inputs = b.0; body = b.1; outputs = a.1 }
+
 -- ---- inputs
 
 inputs_linked : (is : List TInput) → LinksTyped (map input_linkage is) (inputs_bound is)
 inputs_linked [] = tt
 inputs_linked (i ∷ is) = (refl, refl, inputs_linked is)
-
-inputs_within : (is : List TInput) → IsWithin (map input_linkage is) (inputs_bound is)
-inputs_within [] k l h = none_some h
-inputs_within (i ∷ is) k l h = by_test (same_key (plain_key i.name) k) h (λ q. inputs_within is k l q)
-  where
-    by_test : (b : Bool) → cond b (Some (input_linkage i)) (linkage_at (map input_linkage is) k) ≡ Some l → (linkage_at (map input_linkage is) k ≡ Some l → HasType (inputs_bound is) k)
-        → (t : Ty) × (cond b (Some i.ty) (type_in (inputs_bound is) k) ≡ Some t)
-    by_test true q rest = (i.ty, refl)
-    by_test false q rest = rest q
 
 inputs_simple : (structs : Structs) (names : List Bound) (is : List TInput) → each_broken (input_broken structs names) is ≡ [] → AreSimple (inputs_bound is)
 inputs_simple structs names [] h k t e = none_some e
@@ -123,10 +126,6 @@ or_nothing None = refl
 behind : (names : List Bound) (ds : List TDecl) (k : Key) (s : List ℕ) → k.second ≡ Some s → type_in (names ++ decls_bound ds) k ≡ type_in names k
 behind names ds k s h = type_append names (decls_bound ds) k ∙ ap (or_else (type_in names k)) (call_none ds k s h) ∙ or_nothing (type_in names k)
 
-typed_as : (o : Option Ty) (t : Ty) → is_type o t ≡ true → o ≡ Some t
-typed_as None t h = absurd (false≢true h)
-typed_as (Some u) t h = ap Some (same_type-true u t h)
-
 module _ (structs : Structs) (seen : List Bound) (scope : Scope) (all : List TDecl) (linked : LinksTyped scope seen) (simple : AreSimple seen) where
   output_is : (names : List Bound) (done : List TDecl) (d : TDecl) → names ≡ seen ++ decls_bound done → is_type (in_body structs names d.value) d.ty ≡ true → refers_to_output structs (seen ++ decls_bound all) d.value ≡ true
       → IsOutput structs seen scope d
@@ -135,7 +134,7 @@ module _ (structs : Structs) (seen : List Bound) (scope : Scope) (all : List TDe
       by_key (reference d.value) refl p.0 p.1
     where
       is : in_body structs names d.value ≡ Some d.ty
-      is = typed_as (in_body structs names d.value) d.ty typed
+      is = is_type-some (in_body structs names d.value) d.ty typed
 
       made : (k : Key) (s : List ℕ) → k.second ≡ Some s → reference d.value ≡ Some k → are_allowed structs (seen ++ decls_bound all) d.value false ≡ true → IsOutput structs seen scope d
       made k s e r a =
@@ -189,13 +188,8 @@ module _ (r : Run) (callee : Callee) (flows : ℕ → Process) (targets : Target
   abbrev After : List Bound
   After = inputs_bound f.inputs ++ t.given.names
 
-  rules : ((each_broken (input_broken r.library.structs (inputs_bound f.inputs)) f.inputs ++ (walk_flow r.library f).broken) ≡ []) × (each_broken (flow_output_broken r.library.structs (output_scope r.library f)) f.outputs ≡ [])
-  rules =
-      both_empty (each_broken (input_broken r.library.structs (inputs_bound f.inputs)) f.inputs ++ (walk_flow r.library f).broken)
-      (each_broken (flow_output_broken r.library.structs (output_scope r.library f)) f.outputs) kept
-
-  body_rules : (each_broken (input_broken r.library.structs (inputs_bound f.inputs)) f.inputs ≡ []) × ((walk_flow r.library f).broken ≡ [])
-  body_rules = both_empty (each_broken (input_broken r.library.structs (inputs_bound f.inputs)) f.inputs) (walk_flow r.library f).broken rules.0
+  rules : FlowRules r.library f
+  rules = flow_rules r.library f kept
 
   words : (are_names (input_names f.inputs) ≡ true) × (body_named f.body ≡ true)
   words =
@@ -208,23 +202,23 @@ module _ (r : Run) (callee : Callee) (flows : ℕ → Process) (targets : Target
   body : BodyHere r callee flows Declared targets differ sound n (flow_names f) (input_names f.inputs) (inputs_seen f) t.given Start f.body
   body = record {
     typed = t.typed;
-    kept = body_rules.1;
+    kept = rules.body;
     called = called;
     nested = nested;
     new = body_is_new r.library f t;
     named = words.1;
     counted = numbered.counted;
-    simple = inputs_simple r.library.structs (inputs_bound f.inputs) f.inputs body_rules.0;
+    simple = inputs_simple r.library.structs (inputs_bound f.inputs) f.inputs rules.inputs;
     words = inputs_words f.inputs words.0;
     covers = λ k u c h. link_typed Start (inputs_bound f.inputs) (inputs_linked f.inputs) k u h;
-    within = inputs_within f.inputs;
+    within = link_seen Start (inputs_bound f.inputs) (inputs_linked f.inputs);
   }
 
   done : AllDone r callee flows Declared targets differ sound (inputs_seen f) t.given Start f.body
   done = statements_done r callee flows Declared targets differ sound depth calls f.body n (flow_names f) (input_names f.inputs) (inputs_seen f) t.given Start le body
 
   linked : LinksTyped (body_links Ds) t.given.names × ((walk_flow r.library f).given ≡ t.given.names)
-  linked = body_linked r.library (target_by r.library flows) Declared f.body (inputs_seen f) t.given t.typed body_rules.1
+  linked = body_linked r.library (target_by r.library flows) Declared f.body (inputs_seen f) t.given t.typed rules.body
 
   plain_none : (name : List ℕ) → linkage_at (body_links Ds) (plain_key name) ≡ None
   plain_none name = not_linked (body_links Ds) (plain_key name) (by_test (is_among (plain_key name) (keys_of (body_links Ds))) refl)
@@ -252,20 +246,20 @@ module _ (r : Run) (callee : Callee) (flows : ℕ → Process) (targets : Target
       record {
         after = After;
         all = done.agree;
-        differ = body_differs r.library (target_by r.library flows) Declared f.body (inputs_seen f) t.given (flow_names f) (input_names f.inputs) t.typed body_rules.1 body.new;
+        differ = body_differs r.library (target_by r.library flows) Declared f.body (inputs_seen f) t.given (flow_names f) (input_names f.inputs) t.typed rules.body body.new;
         wires = all_wires r callee flows Declared targets differ sound f.body;
         apart =
-            steps_apart r.library (target_by r.library flows) Declared (ground_of r) f.body Start (inputs_seen f) t.given words.1 t.typed body_rules.1
+            steps_apart r.library (target_by r.library flows) Declared (ground_of r) f.body Start (inputs_seen f) t.given words.1 t.typed rules.body
             (new_differ (flow_names f) (input_names f.inputs) (inputs_seen f) f.body body.new) numbered;
         new = λ value.
             all_new (inputs_bound f.inputs) (input_names_with value f.inputs) (inputs_unseen value f.inputs) Ds
-            (body_fresh r.library (target_by r.library flows) Declared f.body (inputs_seen f) t.given (flow_names f) (input_names f.inputs) t.typed body_rules.1 body.new);
-        inputs = inputs_are r.library.structs [] (inputs_bound f.inputs) f.inputs t.inputs_are body_rules.0;
+            (body_fresh r.library (target_by r.library flows) Declared f.body (inputs_seen f) t.given (flow_names f) (input_names f.inputs) t.typed rules.body body.new);
+        inputs = inputs_are r.library.structs [] (inputs_bound f.inputs) f.inputs t.inputs_are rules.inputs;
         inputs_differ = sym (fresh-distinct (input_names f.inputs)) ∙ t.inputs_new;
         outputs =
             outputs_are r.library.structs After (Start ++ body_links Ds) f.outputs (links_append Start (body_links Ds) (inputs_bound f.inputs) t.given.names (inputs_linked f.inputs) linked.0)
             (simple_then (inputs_bound f.inputs) t.given.names body.simple done.simple) After [] f.outputs (sym (append-nil After)) t.outputs_are
-            (subst (λ (bs : List Bound). each_broken (flow_output_broken r.library.structs (inputs_bound f.inputs ++ bs ++ decls_bound f.outputs)) f.outputs ≡ []) linked.1 rules.1);
+            (subst (λ (bs : List Bound). each_broken (flow_output_broken r.library.structs (inputs_bound f.inputs ++ bs ++ decls_bound f.outputs)) f.outputs ≡ []) linked.1 rules.outputs);
         outputs_differ = names_right (input_names f.inputs ++ all_declared f.body) (decl_names f.outputs) is.distinct;
         outputs_new = outputs_apart;
         body_plain = plain_none;

@@ -1,8 +1,7 @@
 -- Conditions and scatters of the subset, around statements that agree with their steps.
 use Rattle.std.proofs.Common.{◌≡◌, ℕ, suc, ◌<◌, ◌≤◌, ◌^◌, ◌+◌, Bool, true, false, cond, not, List, [], ◌∷◌, ◌++◌, map, length, Option, Some, None, option_and_then, Contains, arith, sym, ap, ◌∙◌, subst, refl}
-use Rattle.std.proofs.lemmas.Bool.{false≢true, and_parts, not-true, or_from, or_left, or_parts}
+use Rattle.std.proofs.lemmas.Bool.{false≢true, and_parts, not-true, or_from, or_parts}
 use Rattle.std.proofs.lemmas.List.Elements.{Contains-append_left, Contains-append_right}
-use Rattle.std.proofs.lemmas.Bool.Decides.{Decides-eqb}
 use Rattle.wdl_base.specs.declared.name.Key.{Key}
 use Rattle.wdl_base.specs.declared.span.Span.{Span}
 use Rattle.wdl_base.specs.Names.{is_name}
@@ -19,7 +18,7 @@ use Rattle.wdl_typed.specs.declared.flow.TScatter.{TScatter}
 use Rattle.wdl_typed.specs.Bodies.{Seen, body_gives, body_nests, body_step, gives, if_over, items_differ, optional, retyped, scatter_over, with_item}
 use Rattle.wdl_typed.specs.Declarations.{bound, in_body, plain_key}
 use Rattle.wdl_typed.specs.Flow.{Callee, Part, Run, Runner, body_names, body_run, if_run, scatter_run}
-use Rattle.wdl_typed.specs.Lists.{has_name, has_number}
+use Rattle.wdl_typed.specs.Lists.{has_name}
 use Rattle.wdl_typed.specs.Scope.{is_among, same_key, type_in}
 use Rattle.wdl_plain.specs.Readiness.{IsNew}
 use Rattle.wdl_plain.proofs.GivenKeys.{some_inside}
@@ -40,13 +39,14 @@ use Rattle.cwl_laws.proofs.Bodies.{key_same}
 use Rattle.cwl_laws.proofs.Conditions.{if_simulates}
 use Rattle.cwl_laws.proofs.Covers.{Covers, if_covers, if_within, inner_inputs, outer_in, outer_linked, outer_out, scatter_covers, scatter_inputs, scatter_within}
 use Rattle.cwl_laws.proofs.Differ.{NoTypes, body_fresh, keys_differ, no_link}
-use Rattle.cwl_laws.proofs.Elements.{HasType, none_right}
+use Rattle.cwl_laws.proofs.Elements.{none_right}
 use Rattle.cwl_laws.proofs.Statements.{AllDone, BodyHere, IsSound, KnownDone, body_done, drafts, inner_is, keys_linked, part, processes, runs}
 use Rattle.cwl_laws.proofs.Ids.{blocks_read, id_same, item_apart, when_apart}
 use Rattle.cwl_laws.proofs.References.{reads_by}
 use Rattle.cwl_laws.proofs.Scatters.{scatter_simulates}
 use Rattle.cwl_laws.proofs.Stands.{AreSimple, AreWords, Layer, simple_then, words_then}
-use Rattle.cwl_laws.proofs.Steps.{AreNumbered, are_numbered}
+use Rattle.cwl_laws.proofs.Steps.{AreNumbered, are_numbered, number_itself}
+use Rattle.cwl_laws.proofs.Uses.{HasType}
 use Rattle.cwl_laws.proofs.Tools.{both_empty, rule_holds}
 use Rattle.cwl_laws.proofs.Typings.{a_bool, array_simple, item_linked, item_simple, level_below, optional_simple, reference_simple, retyped_simple}
 
@@ -61,9 +61,6 @@ lower n m d e h = omega arith
 
 fewer : (m : ℕ) → 1 + m < 2 ^ 32 → m < 2 ^ 32
 fewer m h = omega arith
-
-number_itself : (k : ℕ) → has_number k (k ∷ []) ≡ true
-number_itself k = or_left _ false ((Decides-eqb k k).1 refl)
 
 module _ (r : Run) (callee : Callee) (flows : ℕ → Process) (declared_in : List (List ℕ)) (targets : Target → List Broken) (differ : OutputsDiffer r.library)
     (sound : (st : Statement) → IsSound r callee st) (depth : ℕ) where

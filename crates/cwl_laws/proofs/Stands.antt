@@ -21,12 +21,12 @@ use Rattle.cwl_image.specs.Image.{Draft, Scope, Targets, body_uses, draft, draft
 use Rattle.cwl_image.specs.Named.{all_true, named_step, statement_named}
 use Rattle.cwl_image.specs.Subset.{Walk, called_broken, called_step, walk, walk_body, walk_step}
 use Rattle.cwl_laws.proofs.Covers.{Covers, IsWithin, by_side, covers_then, within_then}
-use Rattle.cwl_laws.proofs.Elements.{HasType, out_back}
+use Rattle.cwl_laws.proofs.Elements.{out_back}
 use Rattle.cwl_laws.proofs.Keys.{outs_are}
 use Rattle.cwl_laws.proofs.Splits.{Split, split}
 use Rattle.cwl_laws.proofs.Steps.{AreCounted, IsCounted, count_of, number_of}
 use Rattle.cwl_laws.proofs.Tools.{both_empty}
-use Rattle.cwl_laws.proofs.Uses.{uses_typed}
+use Rattle.cwl_laws.proofs.Uses.{HasType, uses_typed}
 
 -- the types of these names are those of the subset
 abbrev pub AreSimple : List Bound → Type 0

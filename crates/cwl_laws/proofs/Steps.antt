@@ -11,7 +11,8 @@ use Rattle.wdl_typed.specs.declared.flow.Statement.TheOpen as layer
 use Rattle.wdl_typed.specs.declared.scope.Bound.{Bound}
 use Rattle.wdl_typed.specs.Bodies.{Library, Numbered, Seen, all_declared, append_all, append_numbers, arg_names, body_gives, declared, is_numbered, joined, names_step, numbered_step}
 use Rattle.wdl_typed.specs.Kept.{count_step, count_statements, sum_of}
-use Rattle.wdl_typed.specs.Lists.{are_below, are_counted, are_distinct, has_name, has_number, numbers_differ}
+use Rattle.wdl_typed.specs.Lists.{are_below, are_counted, are_distinct, has_number, numbers_differ}
+use Rattle.wdl_plain.proofs.NewNames.{name_one}
 use Rattle.flow_laws.proofs.Checked.{names_right}
 use Rattle.flow_laws.proofs.Signs.{Signed, numbers_right, signed_apart, signed_left, signed_right}
 use Rattle.cwl_model.specs.declared.process.CwlStep.{CwlStep}
@@ -58,7 +59,7 @@ abbrev pub AreCounted : List Statement → Type 0
 AreCounted [] = Unit {0}
 AreCounted (st ∷ ss) = IsCounted st × AreCounted ss
 
-number_itself : (k : ℕ) → has_number k (k ∷ []) ≡ true
+pub number_itself : (k : ℕ) → has_number k (k ∷ []) ≡ true
 number_itself k = or_left (k == k) false ((Decides-eqb k k).1 refl)
 
 number_left : (k : ℕ) (ns ms : List ℕ) → has_number k ns ≡ true → has_number k (ns ++ ms) ≡ true
@@ -87,7 +88,7 @@ below_most most (n ∷ ns) h k e =
     by_case here rest (inl q) = subst (λ m. m < most) ((Decides-eqb n k).0 q) here
     by_case here rest (inr q) = rest q
 
-pub below_both : (k n m b : ℕ) → k < n → n ≤ m → m < b → k < b
+below_both : (k n m b : ℕ) → k < n → n ≤ m → m < b → k < b
 below_both k n m b h i j = omega arith
 
 -- a statement has a number at most, and counts once at least
@@ -159,9 +160,6 @@ are_numbered ss h few =
 
 -- ---- what the ids read as
 
-name_itself : (name : List ℕ) → has_name name (name ∷ []) ≡ true
-name_itself name = or_left (bytes_eq name name) false ((bytes_eq-Decides name name).1 refl)
-
 module _ (lib : Library) (processes : Targets) (declared_in : List (List ℕ)) where
   layer_signed : (y : Statement-F Statement) (names : List Bound) → named_step (map-Statement Statement Bool statement_named y) ≡ true
       → (walk_step lib declared_in (map-Statement Statement Walk (walk lib declared_in) y) names).broken ≡ []
@@ -172,7 +170,7 @@ module _ (lib : Library) (processes : Targets) (declared_in : List (List ℕ)) w
       let c = both_empty (unless (is_simple d.ty) 605 d.span ++ unless (are_allowed lib.structs names d.value false) 606 d.span) (unless false 602 d.span) w in
       absurd (false≢true (rule_holds false 602 d.span c.1))
   layer_signed (layer.Call c) names n w a b =
-      subst (Signed (c.name ∷ []) [] []) (sym (name_reads c.name (and_parts (is_name c.name) (are_names (arg_names c.args)) n).0)) (name_itself c.name)
+      subst (Signed (c.name ∷ []) [] []) (sym (name_reads c.name (and_parts (is_name c.name) (are_names (arg_names c.args)) n).0)) (name_one c.name)
   layer_signed (layer.Scatter s) names n w a b =
       subst (Signed (append_all (map declared s.body)) (s.number ∷ []) []) (sym (blocks_read s.number (a s.number (number_itself s.number))).0) (number_itself s.number)
   layer_signed (layer.If i) names n w a b =

@@ -37,7 +37,7 @@ some_same h = cc
 
 -- ---- types of names
 
-abbrev HasType : List Bound → Key → Type 0
+abbrev pub HasType : List Bound → Key → Type 0
 HasType names k = (t : Ty) × (type_in names k ≡ Some t)
 
 pub type_append : (bs cs : List Bound) (k : Key) → type_in (bs ++ cs) k ≡ or_else (type_in bs k) (type_in cs k)

@@ -4,8 +4,11 @@ ghost use Rattle.cwl_laws.specs.Laws.{BodiesAgree};
 ghost use Rattle.cwl_laws.specs.Simulation.{Simulation};
 ghost use Rattle.cwl_laws.specs.Parts.{CalleesAgree, ConditionsSimulate, FlowCallsKept, FlowCallsSimulate, IdsRead, InputsKept, ReferencesDiffer, ReferencesRead, ScattersSimulate, StatementsGive, TaskCallsKept, TaskCallsSimulate, TaskInputsKept, TasksAreTools, UsesAreSeen, WiresRefer};
 
-/// The CWL process of a checked form of the subset means what the form's flow gives: for inputs that fit, any site and any table
-/// of answers, the flow is clean exactly where the meaning is complete, and then they have the same jobs and the same outputs.
+/// The CWL process of a checked form of the subset means what the flow of the form gives.
+///
+/// For inputs that fit, any site and any table of answers with statuses below 256, the flow is clean
+/// exactly where the meaning of the process is complete. Then both have the same jobs and the same
+/// outputs (CWL v1.2, Workflow, CommandLineTool; OpenWDL 1.1, "Workflow Definition").
 pub fn simulation()
     ensures law { Simulation }
 {}
