@@ -68,7 +68,7 @@ lookup_append (k ∷ ks) ls key =
     ∙ sym (or_assoc (cond (same_key k.key key) k.value None) (lookup (env_of ks) key) (lookup (env_of ls) key))
     ∙ ap (λ o. or_else o (lookup (env_of ls) key)) (sym (bound_lookup k.key k.value (env_of ks) key))
 
-linkage_append : (ks ls : Scope) (key : Key) → linkage_at (ks ++ ls) key ≡ or_else (linkage_at ks key) (linkage_at ls key)
+pub linkage_append : (ks ls : Scope) (key : Key) → linkage_at (ks ++ ls) key ≡ or_else (linkage_at ks key) (linkage_at ls key)
 linkage_append [] ls key = refl
 linkage_append (k ∷ ks) ls key = split (linkage_append ks ls key) (same_key k.key key)
   where

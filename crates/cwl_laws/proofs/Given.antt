@@ -81,7 +81,7 @@ optional_type t = by_layer (out-Ty t) refl (is_optional (out-Ty t)) refl
 
 -- ---- lists of names
 
-links_append : (ls ms : List Linkage) (bs cs : List Bound) → LinksTyped ls bs → LinksTyped ms cs → LinksTyped (ls ++ ms) (bs ++ cs)
+pub links_append : (ls ms : List Linkage) (bs cs : List Bound) → LinksTyped ls bs → LinksTyped ms cs → LinksTyped (ls ++ ms) (bs ++ cs)
 links_append [] ms [] cs h k = k
 links_append [] ms (b ∷ bs) cs h k = absurd h
 links_append (l ∷ ls) ms [] cs h k = absurd h

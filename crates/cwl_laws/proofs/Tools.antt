@@ -182,13 +182,13 @@ parts_of structs t h =
     record { names = a.0; inputs = a.1; codes = c.1; command = e.1; outputs = f.1 }
 
 -- the rules that a task keeps
-record Rules (structs : Structs) (t : TaskDef) : Type 0 where
+pub record Rules (structs : Structs) (t : TaskDef) : Type 0 where
   pub inputs : each_broken (input_broken structs (task_scope t)) t.inputs ≡ []
   pub privates : each_broken (private_broken structs (task_scope t)) t.privates ≡ []
   pub run : run_broken structs (task_scope t) t ≡ []
   pub outputs : each_broken (task_output_broken structs (task_scope t)) t.outputs ≡ []
 
-rules_of : (structs : Structs) (t : TaskDef) → task_broken structs t ≡ [] → Rules structs t
+pub rules_of : (structs : Structs) (t : TaskDef) → task_broken structs t ≡ [] → Rules structs t
 rules_of structs t h =
     let c = both_empty
     (each_broken (input_broken structs (task_scope t)) t.inputs ++ each_broken (private_broken structs (task_scope t)) t.privates ++ run_broken structs (task_scope t) t)

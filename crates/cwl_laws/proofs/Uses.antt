@@ -37,7 +37,7 @@ some_same h = cc
 
 -- ---- types of names
 
-abbrev HasType : List Bound → Key → Type 0
+abbrev pub HasType : List Bound → Key → Type 0
 HasType names k = (t : Ty) × (type_in names k ≡ Some t)
 
 pub type_append : (bs cs : List Bound) (k : Key) → type_in (bs ++ cs) k ≡ or_else (type_in bs k) (type_in cs k)
@@ -90,7 +90,7 @@ among_append (l ∷ ks) ls k h = by_test (same_key l.key k) h (among_append ks l
     by_test true h rest = refl
     by_test false h rest = rest h
 
-without_has : (inside ks : List Key) (k : Key) → Contains (without inside ks) k → Contains ks k × (is_among k inside ≡ false)
+pub without_has : (inside ks : List Key) (k : Key) → Contains (without inside ks) k → Contains ks k × (is_among k inside ≡ false)
 without_has inside [] k c = absurd (none_is k c)
 without_has inside (j ∷ ks) k c = by_test (is_among j inside) refl c (λ d. without_has inside ks k d)
   where
