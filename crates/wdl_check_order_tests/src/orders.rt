@@ -8,15 +8,27 @@ use wdl_parse_doc::parse;
 use wdl_value::{NoMemory, Span};
 
 /// Statements of a workflow, each row with the positions of its order, or with 320 and the statement where that holds.
-const ORDERS: &str =
-    "Int a = 1 Int b = 2 => 0 1 ;Int a = b Int b = 1 => 1 0 ;Int a = [b, c][0] Int c = 1 Int b = 2 => 1 2 0 ;\
-Int a = if c then b else d Int b = 1 Boolean c = true Int d = 2 => 1 2 3 0 ;Int a = f((b), {c: d}) Int b = 1 Int c = 1 Int d = 1 => 1 2 3 0 ;\
-String a = '~{b} and ~{c + d}' String b = '' String c = '' String d = '' => 1 2 3 0 ;P a = P {b: c} Int b = 1 Int c = 1 => 1 2 0 ;\
-call t as c { input: s = d.r } call t as d => 1 0 ;call t after d call t as d => 1 0 ;call t { input: s } Int s = 1 => 1 0 ;\
-call n.t Int a = t.r => 0 1 ;Int a = t.r call n.t => 1 0 ;scatter (i in xs) { Int j = i } Array[Int] xs = [1] => 1 0 ;\
-scatter (i in [1]) { Int j = i } Int i = 1 => 0 1 ;Int k = j scatter (i in [1]) { Int j = i } => 1 0 ;\
-if (b) { Int j = k Int k = 1 } Boolean b = true => 1 0 ;if (true) { Int j = k } Int k = 1 => 1 0 ;\
-Int a = a => 320 Int a = a;Int a = b Int b = a => 320 Int a = b;if (x) { Boolean y = true } Boolean x = y => 320 if (x) { Boolean y = true }";
+const ORDERS: &str = "\
+Int a = 1 Int b = 2 => 0 1 ;\
+Int a = b Int b = 1 => 1 0 ;\
+Int a = [b, c][0] Int c = 1 Int b = 2 => 1 2 0 ;\
+Int a = if c then b else d Int b = 1 Boolean c = true Int d = 2 => 1 2 3 0 ;\
+Int a = f((b), {c: d}) Int b = 1 Int c = 1 Int d = 1 => 1 2 3 0 ;\
+String a = '~{b} and ~{c + d}' String b = '' String c = '' String d = '' => 1 2 3 0 ;\
+P a = P {b: c} Int b = 1 Int c = 1 => 1 2 0 ;\
+call t as c { input: s = d.r } call t as d => 1 0 ;\
+call t after d call t as d => 1 0 ;\
+call t { input: s } Int s = 1 => 1 0 ;\
+call n.t Int a = t.r => 0 1 ;\
+Int a = t.r call n.t => 1 0 ;\
+scatter (i in xs) { Int j = i } Array[Int] xs = [1] => 1 0 ;\
+scatter (i in [1]) { Int j = i } Int i = 1 => 0 1 ;\
+Int k = j scatter (i in [1]) { Int j = i } => 1 0 ;\
+if (b) { Int j = k Int k = 1 } Boolean b = true => 1 0 ;\
+if (true) { Int j = k } Int k = 1 => 1 0 ;\
+Int a = a => 320 Int a = a;\
+Int a = b Int b = a => 320 Int a = b;\
+if (x) { Boolean y = true } Boolean x = y => 320 if (x) { Boolean y = true }";
 
 fn document(alloc: Global, text: &str) -> Result<Document, Fail> {
     let tokens = lex(alloc, text.as_bytes(), 0)?;

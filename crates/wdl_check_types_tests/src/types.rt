@@ -13,12 +13,35 @@ use wdl_value::{Name, Span};
 const LOCALS: &str = "P P;B Q;Q R";
 
 /// Types as the document writes them, each in the names of the library, or with 329 and the text where that holds.
-const TYPES: &str =
-    "Int => Int;Boolean => Boolean;String => String;File => File;Int? => Int?;Int??? => Int?;P => P;B => Q;Q => R;Q? => R?;\
-S => 329 S;R => 329 R;Array[Int] => Array[Int];Array[B]+ => Array[Q]+;Array[Int?]+? => Array[Int?]+?;Array[S] => 329 S;\
-Pair[B, Q] => Pair[Q, R];Pair[S, R] => 329 S;Pair[P, S] => 329 S;Map[String, B] => Map[String, Q];Map[Int, Int?] => Map[Int, Int?];\
-Map[File, Map[Boolean, P]] => Map[File, Map[Boolean, P]];Map[Int?, Int] => 329 Map[Int?, Int];Map[P, Int] => 329 Map[P, Int];\
-Map[Array[Int], Int] => 329 Map[Array[Int], Int];Map[S, Int] => 329 S;Map[Int, S] => 329 S;Pair[Int, Map[P, Int]?] => 329 Map[P, Int]";
+const TYPES: &str = "\
+Int => Int;\
+Boolean => Boolean;\
+String => String;\
+File => File;\
+Int? => Int?;\
+Int??? => Int?;\
+P => P;\
+B => Q;\
+Q => R;\
+Q? => R?;\
+S => 329 S;\
+R => 329 R;\
+Array[Int] => Array[Int];\
+Array[B]+ => Array[Q]+;\
+Array[Int?]+? => Array[Int?]+?;\
+Array[S] => 329 S;\
+Pair[B, Q] => Pair[Q, R];\
+Pair[S, R] => 329 S;\
+Pair[P, S] => 329 S;\
+Map[String, B] => Map[String, Q];\
+Map[Int, Int?] => Map[Int, Int?];\
+Map[File, Map[Boolean, P]] => Map[File, Map[Boolean, P]];\
+Map[Int?, Int] => 329 Map[Int?, Int];\
+Map[P, Int] => 329 Map[P, Int];\
+Map[Array[Int], Int] => 329 Map[Array[Int], Int];\
+Map[S, Int] => 329 S;\
+Map[Int, S] => 329 S;\
+Pair[Int, Map[P, Int]?] => 329 Map[P, Int]";
 
 fn names_of(alloc: Global, rows: &str) -> Result<Items<Name>, Fail> {
     let mut names = Items::new(alloc);

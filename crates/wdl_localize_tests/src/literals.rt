@@ -14,11 +14,34 @@ use wdl_value::{Name, NoMemory, Span};
 const LOCALS: &str = "P P;B Q;Q R";
 
 /// Expressions, each with the name of the first struct literal that stands outermost in it, or with 329 and the name.
-const LITERALS: &str =
-    "P {x: 1} => P;B {x: 1} => Q;Q {x: B {y: 1}} => R;(B {x: 1}) => Q;[B {x: 1}, P {x: 1}] => Q;B {x: 1}.y => Q;f(B {}) => Q;\
-(B {}, 1) => Q;{1: B {}} => Q;-B {} => Q;B {} + 1 => Q;B {}[0] => Q;if B {} then P {} else P {} => Q;'a~{sep=\",\" B {}}b' => Q;\
-S {x: 1} => 329 S;R {x: 1} => 329 R;B {x: S {}} => 329 S;[1, S {}] => 329 S;{1: 2, S {}: 3} => 329 S;1 + (2 * f(S {}, R {})) => 329 S;\
-if x then S {} else R {} => 329 S;'~{S {}}' => 329 S;x.y => none;true => none;None => none;false => none;12 => none";
+const LITERALS: &str = "\
+P {x: 1} => P;\
+B {x: 1} => Q;\
+Q {x: B {y: 1}} => R;\
+(B {x: 1}) => Q;\
+[B {x: 1}, P {x: 1}] => Q;\
+B {x: 1}.y => Q;\
+f(B {}) => Q;\
+(B {}, 1) => Q;\
+{1: B {}} => Q;\
+-B {} => Q;\
+B {} + 1 => Q;\
+B {}[0] => Q;\
+if B {} then P {} else P {} => Q;\
+'a~{sep=\",\" B {}}b' => Q;\
+S {x: 1} => 329 S;\
+R {x: 1} => 329 R;\
+B {x: S {}} => 329 S;\
+[1, S {}] => 329 S;\
+{1: 2, S {}: 3} => 329 S;\
+1 + (2 * f(S {}, R {})) => 329 S;\
+if x then S {} else R {} => 329 S;\
+'~{S {}}' => 329 S;\
+x.y => none;\
+true => none;\
+None => none;\
+false => none;\
+12 => none";
 
 fn names_of(alloc: Global, rows: &str) -> Result<Items<Name>, Fail> {
     let mut names = Items::new(alloc);

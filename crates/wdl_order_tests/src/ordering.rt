@@ -65,14 +65,30 @@ fn all_stand(alloc: Global, cases: &str) -> Result<bool, Fail> {
 
 #[test]
 fn statements_stand_after_what_they_need(rt: HostRuntime) -> Result<(), Fail> {
-    let simple =
-        "a= b= c= -> 0 1 2|c=b b=a a= -> 2 1 0|a=d b= c= d= -> 1 2 3 0|b=q a= -> 0 1|c=a a= a= -> 1 2 0|c!d.out d! -> 1 0|c!;d d! -> 1 0";
+    let simple = "\
+a= b= c= -> 0 1 2|\
+c=b b=a a= -> 2 1 0|\
+a=d b= c= d= -> 1 2 3 0|\
+b=q a= -> 0 1|\
+c=a a= a= -> 1 2 0|\
+c!d.out d! -> 1 0|\
+c!;d d! -> 1 0";
     assert!(rt; all_stand(rt.alloc(), simple)?);
-    let blocks =
-        "[ x=y,i ]i=xs y= xs= -> 1 2 0|[ x= y=x ]?c c= -> 1 0|z=y [ x= y=x ]?c c= -> 2 1 0|[ x=i ]i=xs xs= i= -> 1 0 2|[ [ x=w ]?c ]i=xs w= xs= c= -> 1 2 3 0|[ c!;d ]i= d! -> 1 0";
+    let blocks = "\
+[ x=y,i ]i=xs y= xs= -> 1 2 0|\
+[ x= y=x ]?c c= -> 1 0|\
+z=y [ x= y=x ]?c c= -> 2 1 0|\
+[ x=i ]i=xs xs= i= -> 1 0 2|\
+[ [ x=w ]?c ]i=xs w= xs= c= -> 1 2 3 0|\
+[ c!;d ]i= d! -> 1 0";
     assert!(rt; all_stand(rt.alloc(), blocks)?);
-    let circles =
-        "a=b b=a -> circle 0 1|b= a=a -> circle 1|a=b b=c c=b -> circle 1 2|[ x=z ]?c z=x c= -> circle 0 1|[ x= ]?x -> circle 0|c!;d d!c.out -> circle 0 1";
+    let circles = "\
+a=b b=a -> circle 0 1|\
+b= a=a -> circle 1|\
+a=b b=c c=b -> circle 1 2|\
+[ x=z ]?c z=x c= -> circle 0 1|\
+[ x= ]?x -> circle 0|\
+c!;d d!c.out -> circle 0 1";
     assert!(rt; all_stand(rt.alloc(), circles)?);
     Ok(())
 }

@@ -179,46 +179,58 @@ fn expr_shape(alloc: Global, row: &str) -> Result<String, Fail> {
 
 /// Expressions, each with the place behind the longest one, or with its code. A part that is wrong leaves what stands
 /// before it, or nothing.
-const EXPRESSIONS: &str =
-    "1|2 3;1|) 1;1&2 3;1&) 1;1@2 3;1_2 3;1@) 1;1<2 3;1l2 3;1>2 3;1g2 3;1<) 1;1+2 3;1-2 3;1+) 1;\
-1*2 3;1/2 3;1%2 3;1*) 1;!T 2;-1 2;+1 2;--1 3;a.b 3;a. 1;a[0] 4;a[0 1;a[ 1;a.b[0].c 8;T 1;X 1;V 1;1 1;a 1;\
-a() 3;a(1,2) 6;a(1,) 1;a(1 1;(1) 3;(1,2) 5;[] 2;[1,2] 5;[1,] 4;{} 2;{1:2} 5;{1:2,3:4,} 10;S{} 3;S{a:1,b:2,} 11;S{1:2} 1;S{a:1 1;\
-\"' 2;\"#$1~#' 7;\"$p=\"#'1~' 10;\"$d=\"'1~' 9;\"$T=\"#'X=\"'1~' 14;\"$X=\"'T=\"#'1~' 14;\"$p~' 5;\
-^ 120 at 0;1+^ 120 at 2;z(a) 120 at 0;z 1;o 121 at 0;w(a) 121 at 0;s(a) 122 at 0;(J(a)) 123 at 1";
+const EXPRESSIONS: &str = "\
+1|2 3;1|) 1;1&2 3;1&) 1;1@2 3;1_2 3;1@) 1;1<2 3;1l2 3;1>2 3;1g2 3;1<) 1;1+2 3;1-2 3;1+) 1;1*2 3;\
+1/2 3;1%2 3;1*) 1;!T 2;-1 2;+1 2;--1 3;a.b 3;a. 1;a[0] 4;a[0 1;a[ 1;a.b[0].c 8;T 1;X 1;V 1;1 1;\
+a 1;a() 3;a(1,2) 6;a(1,) 1;a(1 1;(1) 3;(1,2) 5;[] 2;[1,2] 5;[1,] 4;{} 2;{1:2} 5;{1:2,3:4,} 10;\
+S{} 3;S{a:1,b:2,} 11;S{1:2} 1;S{a:1 1;\"' 2;\"#$1~#' 7;\"$p=\"#'1~' 10;\"$d=\"'1~' 9;\
+\"$T=\"#'X=\"'1~' 14;\"$X=\"'T=\"#'1~' 14;\"$p~' 5;^ 120 at 0;1+^ 120 at 2;z(a) 120 at 0;z 1;\
+o 121 at 0;w(a) 121 at 0;s(a) 122 at 0;(J(a)) 123 at 1";
 
 /// The same of choices, which take all that goes on behind `else`.
-const CHOICES: &str =
-    "iTt1e2 6;\"'+iTt1e2 9;1+iTt1e2*3 10;1*iTt2e3|4 10;1<iTt2e3<4 10;iTt1e2+3|4 10;iTt1e2+) 6;iTt1e2[0] 9;iTt1e2t 6;-iTt1e2+3 9;!iTt1e2 7;\
-(iTt1e2)+3 10;iTtiTt1e2e3 11;iTt1eiTt2e3 11;iTt1+iTt2e3e4 13;iiTtTeXt1e2 11;1+iT 1;1+iTt1 1;1+iTt1e 1;1+iTt2e3*) 8;[iTt1e2,iTt3e4] 15;a[iTt1e2+3] 11";
+const CHOICES: &str = "\
+iTt1e2 6;\"'+iTt1e2 9;1+iTt1e2*3 10;1*iTt2e3|4 10;1<iTt2e3<4 10;iTt1e2+3|4 10;iTt1e2+) 6;\
+iTt1e2[0] 9;iTt1e2t 6;-iTt1e2+3 9;!iTt1e2 7;(iTt1e2)+3 10;iTtiTt1e2e3 11;iTt1eiTt2e3 11;\
+iTt1+iTt2e3e4 13;iiTtTeXt1e2 11;1+iT 1;1+iTt1 1;1+iTt1e 1;1+iTt2e3*) 8;[iTt1e2,iTt3e4] 15;\
+a[iTt1e2+3] 11";
 
 /// Types, as above.
-const TYPES: &str =
-    "B 1;N 1;W 1;I 1;S 1;A[N] 4;A[N]+ 5;M[N,W] 6;P[B,S] 6;N? 2;N?? 3;N+ 1;A[N]+? 6;A[N]?+ 5;M[N,A[S?]]? 11;F 120 at 0;A[O] 121 at 2";
+const TYPES: &str = "\
+B 1;N 1;W 1;I 1;S 1;A[N] 4;A[N]+ 5;M[N,W] 6;P[B,S] 6;N? 2;N?? 3;N+ 1;A[N]+? 6;A[N]?+ 5;\
+M[N,A[S?]]? 11;F 120 at 0;A[O] 121 at 2";
 
 /// Texts that are refused where a token fits no expression, or where they end, which the last token stands for.
-const MISFITS: &str =
-    "iTt1 110 at 3;iT 110 at 1;! 110 at 0;N 110 at 0;i 110 at 0;) 110 at 0; 110 at 0;(1 110 at 1;() 110 at 1;(1,2,3) 110 at 4;(1,) 110 at 3;[, 110 at 1;[1 110 at 1;\
-[11] 110 at 2;{1} 110 at 2;{1:2 110 at 3;{1, 110 at 2;(1: 110 at 2;[1e 110 at 2;[--) 110 at 3;[!t] 110 at 2;[1+] 110 at 3;[1+N] 110 at 3;[1*2-) 110 at 5;\
-[iT1] 110 at 3;[iTt1] 110 at 5;[iTt1e] 110 at 6;[iTt1e2) 110 at 7;[iTt1e2+e] 110 at 8;[iTt1e2e] 110 at 7;(1+iT) 110 at 5;[N 110 at 1;(t 110 at 1;\
-[a(1,)] 110 at 5;[a(,)] 110 at 3;[a(12)] 110 at 4;[a(t)] 110 at 3;[a.] 110 at 3;[a.N] 110 at 3;[a[]] 110 at 3;[a[0) 110 at 4;[a[t]] 110 at 3;[S{1:2}] 110 at 3;\
-[S{a1}] 110 at 4;[S{a:}] 110 at 5;[S{N:1}] 110 at 3;[{1:23:4}] 110 at 5";
+const MISFITS: &str = "\
+iTt1 110 at 3;iT 110 at 1;! 110 at 0;N 110 at 0;i 110 at 0;) 110 at 0; 110 at 0;(1 110 at 1;\
+() 110 at 1;(1,2,3) 110 at 4;(1,) 110 at 3;[, 110 at 1;[1 110 at 1;[11] 110 at 2;{1} 110 at 2;\
+{1:2 110 at 3;{1, 110 at 2;(1: 110 at 2;[1e 110 at 2;[--) 110 at 3;[!t] 110 at 2;[1+] 110 at 3;\
+[1+N] 110 at 3;[1*2-) 110 at 5;[iT1] 110 at 3;[iTt1] 110 at 5;[iTt1e] 110 at 6;\
+[iTt1e2) 110 at 7;[iTt1e2+e] 110 at 8;[iTt1e2e] 110 at 7;(1+iT) 110 at 5;[N 110 at 1;\
+(t 110 at 1;[a(1,)] 110 at 5;[a(,)] 110 at 3;[a(12)] 110 at 4;[a(t)] 110 at 3;[a.] 110 at 3;\
+[a.N] 110 at 3;[a[]] 110 at 3;[a[0) 110 at 4;[a[t]] 110 at 3;[S{1:2}] 110 at 3;[S{a1}] 110 at 4;\
+[S{a:}] 110 at 5;[S{N:1}] 110 at 3;[{1:23:4}] 110 at 5";
 
 /// The same of strings and their placeholders.
-const STRING_MISFITS: &str =
-    "\"# 110 at 1;\"#$1' 110 at 4;\"$~' 110 at 2;\"$a1~' 110 at 3;\"$t~' 110 at 2;\"$a=\"'1~' 110 at 3;\"$V=\"'1~' 110 at 3;\"$i=\"'1~' 110 at 3;\"$t=\"'1~' 110 at 2;\"$N=1~' 110 at 2;\
-\"$p=\"'d=\"'1~' 110 at 7;\"$p=1~' 110 at 4;\"$p=\"$1~'1~' 110 at 5;\"$p=\"'~' 110 at 6;\"$T=\"'1~' 110 at 6;\"$T=\"'T=\"'1~' 110 at 6;\"$T=\"'X1~' 110 at 7;\"$X=\"'X=\"'1~' 110 at 6;\
-\"$T=\"'a=\"'1~' 110 at 6;\"$X=\"'T=1~' 110 at 8;\"$T=\"$1~'1~' 110 at 5";
+const STRING_MISFITS: &str = "\
+\"# 110 at 1;\"#$1' 110 at 4;\"$~' 110 at 2;\"$a1~' 110 at 3;\"$t~' 110 at 2;\
+\"$a=\"'1~' 110 at 3;\"$V=\"'1~' 110 at 3;\"$i=\"'1~' 110 at 3;\"$t=\"'1~' 110 at 2;\
+\"$N=1~' 110 at 2;\"$p=\"'d=\"'1~' 110 at 7;\"$p=1~' 110 at 4;\"$p=\"$1~'1~' 110 at 5;\
+\"$p=\"'~' 110 at 6;\"$T=\"'1~' 110 at 6;\"$T=\"'T=\"'1~' 110 at 6;\"$T=\"'X1~' 110 at 7;\
+\"$X=\"'X=\"'1~' 110 at 6;\"$T=\"'a=\"'1~' 110 at 6;\"$X=\"'T=1~' 110 at 8;\
+\"$T=\"$1~'1~' 110 at 5";
 
 /// The same of types.
-const TYPE_MISFITS: &str =
-    "1 110 at 0;i 110 at 0; 110 at 0;t 110 at 0;A 110 at 0;A1 110 at 1;A[N 110 at 2;A[] 110 at 2;A[i] 110 at 2;A[N, 110 at 3;A[N) 110 at 3;M[N] 110 at 3;M[N,i] 110 at 4;\
-MN 110 at 1;M[N,N,N] 110 at 5;P[N,] 110 at 4;P[i,N] 110 at 2;A[A[N] 110 at 5;A[N1] 110 at 3";
+const TYPE_MISFITS: &str = "\
+1 110 at 0;i 110 at 0; 110 at 0;t 110 at 0;A 110 at 0;A1 110 at 1;A[N 110 at 2;A[] 110 at 2;\
+A[i] 110 at 2;A[N, 110 at 3;A[N) 110 at 3;M[N] 110 at 3;M[N,i] 110 at 4;MN 110 at 1;\
+M[N,N,N] 110 at 5;P[N,] 110 at 4;P[i,N] 110 at 2;A[A[N] 110 at 5;A[N1] 110 at 3";
 
 /// How operators group.
-const SHAPES: &str =
-    "1-2-3 bbp;1*2/3 bbp;1-2*3 bpb;1*2-3 bbp;1<2+3 bpb;1+2<3 bbp;1@2<3 bpb;1<2@3 bbp;1&2@3 bpb;1@2&3 bbp;1|2&3 bpb;\
-1&2|3 bbp;!a.b um;-a[0] ux;!1@2 bup;1*-2 bpu;a.b[-1] xmu;1+iTt2e3*4 bpc;1*iTt2e3|4 bpc;1-iTt2e3-4 bpc;1+2*iTt3e4+5 bpb;1|2&iTt3e4 bpb;\
-iTt1e2+3 cpb;iTt1+2e3 cbp;-iTt1e2+3 uc;1+-iTt2e3 bpu;(iTt1e2)*3 bpp;iTt1e2.a cpm;iTt1eiTt2e3 cpc";
+const SHAPES: &str = "\
+1-2-3 bbp;1*2/3 bbp;1-2*3 bpb;1*2-3 bbp;1<2+3 bpb;1+2<3 bbp;1@2<3 bpb;1<2@3 bbp;1&2@3 bpb;\
+1@2&3 bbp;1|2&3 bpb;1&2|3 bbp;!a.b um;-a[0] ux;!1@2 bup;1*-2 bpu;a.b[-1] xmu;1+iTt2e3*4 bpc;\
+1*iTt2e3|4 bpc;1-iTt2e3-4 bpc;1+2*iTt3e4+5 bpb;1|2&iTt3e4 bpb;iTt1e2+3 cpb;iTt1+2e3 cbp;\
+-iTt1e2+3 uc;1+-iTt2e3 bpu;(iTt1e2)*3 bpp;iTt1e2.a cpm;iTt1eiTt2e3 cpc";
 
 /// Ways to nest, or to go on: what stands before, in the middle and behind.
 const NESTS: &str =

@@ -18,11 +18,33 @@ fn all_coerce(alloc: Global, cases: &str, expected: bool) -> Result<bool, Fail> 
 #[test]
 fn types_coerce_by_the_table(rt: HostRuntime) -> Result<(), Fail> {
     let alloc = rt.alloc();
-    let accepted =
-        "Int Int|empty Bool|none Int ?|none none|Int Str ?|Int ? Str ?|File Str|Bool Str|Int Str|Str File|Int []+ Str []|Int [] Int []+|Int Str {} Str File {}|Int Str () Str File ()";
+    let accepted = "\
+Int Int|\
+empty Bool|\
+none Int ?|\
+none none|\
+Int Str ?|\
+Int ? Str ?|\
+File Str|\
+Bool Str|\
+Int Str|\
+Str File|\
+Int []+ Str []|\
+Int [] Int []+|\
+Int Str {} Str File {}|\
+Int Str () Str File ()";
     assert!(rt; all_coerce(alloc, accepted, true)?);
-    let refused =
-        "Int ? Int|none Int|Str Int|Int Bool|File Int|Str Str {} Int Str {}|Int [] Int|Int Int []|Str Int () Int Int ()|Int empty";
+    let refused = "\
+Int ? Int|\
+none Int|\
+Str Int|\
+Int Bool|\
+File Int|\
+Str Str {} Int Str {}|\
+Int [] Int|\
+Int Int []|\
+Str Int () Int Int ()|\
+Int empty";
     assert!(rt; all_coerce(alloc, refused, false)?);
     Ok(())
 }
@@ -52,8 +74,24 @@ fn joins(alloc: Global, t: &Ty, u: &Ty, expected: &str) -> Result<bool, Fail> {
 #[test]
 fn types_join_by_the_table(rt: HostRuntime) -> Result<(), Fail> {
     let alloc = rt.alloc();
-    let cases =
-        "Str File = Str|empty Int = Int|none Int = Int ?|none Int ? = Int ?|none none = none|Int Int ? = Int ?|Str ? File ? = Str ?|Int []+ Int [] = Int []|Int []+ Int []+ = Int []+|Str [] File []+ = Str []|Str Int () File Int () = Str Int ()|Str Int {} Str empty {} = Str Int {}|Int Str = no|Bool Int = no|Int []+ Int = no|Str Int () Str Bool () = no|Int ? Str = no";
+    let cases = "\
+Str File = Str|\
+empty Int = Int|\
+none Int = Int ?|\
+none Int ? = Int ?|\
+none none = none|\
+Int Int ? = Int ?|\
+Str ? File ? = Str ?|\
+Int []+ Int [] = Int []|\
+Int []+ Int []+ = Int []+|\
+Str [] File []+ = Str []|\
+Str Int () File Int () = Str Int ()|\
+Str Int {} Str empty {} = Str Int {}|\
+Int Str = no|\
+Bool Int = no|\
+Int []+ Int = no|\
+Str Int () Str Bool () = no|\
+Int ? Str = no";
     assert!(rt; all_join(alloc, cases)?);
     Ok(())
 }
@@ -99,16 +137,35 @@ fn operators_are_typed_by_the_table(rt: HostRuntime) -> Result<(), Fail> {
         (Op::Sub, "Int Int = Int Int Int|Str Str = no"),
         (
             Op::Add,
-            "Int Int = Int Int Int|Str Str = Str Str Str|Int File = Int File Str|File Bool = File Bool Str|Bool Int = no|Str ? Str = no|Str none = no|Str Str [] = no",
+            "\
+Int Int = Int Int Int|\
+Str Str = Str Str Str|\
+Int File = Int File Str|\
+File Bool = File Bool Str|\
+Bool Int = no|\
+Str ? Str = no|\
+Str none = no|\
+Str Str [] = no",
         ),
         (
             Op::Lt,
-            "Int Int = Int Int Bool|Bool Bool = Bool Bool Bool|Str Str = Str Str Bool|File File = no|Int Str = no",
+            "\
+Int Int = Int Int Bool|\
+Bool Bool = Bool Bool Bool|\
+Str Str = Str Str Bool|\
+File File = no|\
+Int Str = no",
         ),
         (Op::Ge, "Str Str = Str Str Bool|Str File = no"),
         (
             Op::Eq,
-            "Int Int = Int Int Bool|none Int = Int ? Int ? Bool|Str File = Str Str Bool|Int []+ Int [] = Int [] Int [] Bool|Int Str = no|empty Str = no",
+            "\
+Int Int = Int Int Bool|\
+none Int = Int ? Int ? Bool|\
+Str File = Str Str Bool|\
+Int []+ Int [] = Int [] Int [] Bool|\
+Int Str = no|\
+empty Str = no",
         ),
         (Op::Ne, "Bool Bool = Bool Bool Bool|Bool Str = no"),
         (Op::And, "Bool Bool = Bool Bool Bool|Bool Int = no"),
@@ -122,8 +179,13 @@ fn operators_are_typed_by_the_table(rt: HostRuntime) -> Result<(), Fail> {
 #[test]
 fn plus_takes_undefined_operands_in_a_placeholder_alone(rt: HostRuntime) -> Result<(), Fail> {
     let alloc = rt.alloc();
-    let cases =
-        "Int ? Str = Int ? Str Str ?|Str none = Str none Str ?|none Int = none Int Str ?|Int ? Int = no|Int ? Int ? = no|Str [] none = no";
+    let cases = "\
+Int ? Str = Int ? Str Str ?|\
+Str none = Str none Str ?|\
+none Int = none Int Str ?|\
+Int ? Int = no|\
+Int ? Int ? = no|\
+Str [] none = no";
     assert!(rt; all_operate(alloc, Op::AddMaybe, true, cases)?);
     assert!(rt; all_operate(alloc, Op::Add, true, cases)?);
     assert!(rt;
