@@ -1,4 +1,4 @@
-use Rattle.std.proofs.Common.{◌≡◌, ◌∙◌, ◌<◌, ℕ, List, false, Some, Err, length, map, refl, sym, subst, ap}
+use Rattle.std.proofs.Common.{◌≡◌, ◌∙◌, ◌<◌, List, Some, Err, length, map, refl, sym, subst, ap}
 use Rattle.std.proofs.lemmas.List.{length-map}
 use Rattle.std.proofs.lemmas.Option.{slice_get_read}
 use Rattle.wdl_base.specs.declared.span.Span.{Span}
@@ -22,8 +22,8 @@ returns-in-Order g c =
     (subst (λ f. Orders (map as_needing c.as_slice.result.now) f) c.in-Order.is c.in_ok-positions.ensures) in
     one ns c.in-Order.positions.items least ∙ ap Some (sym c.from_vec.ensures)
 
-pub returns-in-Stuck : goal.returns-in-Stuck
-returns-in-Stuck g c =
+pub returns : goal.returns
+returns g c =
     let ns : List Needing = map (λ m. g.M.Member.needing m.now) c.args.list.now in
     let listed : map as_needing c.as_slice.result.now ≡ map (λ m. g.M.Member.needing m.now) c.args.list.now =
     ap (map as_needing) c.as_slice.ensures.value ∙ c.in_ok-all.ensures in
