@@ -1,27 +1,25 @@
 -- Workflows and processes.
-use Rattle.std.proofs.Common.{◌≡◌, ℕ, Bool, true, false, cond, ◌==◌, ◌&&◌, ◌||◌, List, [], ◌∷◌, ◌++◌, map, codes, Option, Some, None, option_map, option_and_then, Result, Ok, Err, IfOk, bytes_eq, refl, sym, ap, ◌∙◌, subst}
+use Rattle.std.proofs.Common.{◌≡◌, ℕ, Bool, true, false, cond, ◌==◌, ◌&&◌, List, [], ◌∷◌, ◌++◌, map, codes, Option, Some, None, option_map, Result, Ok, Err, IfOk, refl, sym, ap, ◌∙◌, subst}
 use Rattle.std.proofs.lemmas.Bool.{false≢true, and_parts, eqb-true}
 use Rattle.serde_json.specs.Data.{Data, null, boolean, number, string, array, object, Items, no_items, item, Members, no_members, member}
-use Rattle.serde_json.specs.Find.{get_member}
 use Rattle.serde_json.specs.View.{items_of, view}
 use Rattle.serde_json.specs.declared.value.Value as json
 use Rattle.cwl_model.specs.declared.process.CwlFlow.{CwlFlow}
 use Rattle.cwl_model.specs.declared.process.CwlStep.{CwlStep}
 use Rattle.cwl_model.specs.declared.process.FlowOut.{FlowOut}
 use Rattle.cwl_model.specs.declared.process.Link.{Link}
-use Rattle.cwl_model.specs.declared.process.Link.TheVariants as link
 use Rattle.cwl_model.specs.declared.process.Mode.{Mode}
 use Rattle.cwl_model.specs.declared.process.Mode.TheVariants as mode
-use Rattle.cwl_model.specs.declared.process.Process.{Process, Process-F, fold-roll-Process}
+use Rattle.cwl_model.specs.declared.process.Process.{Process, fold-roll-Process}
 use Rattle.cwl_model.specs.declared.process.Process.TheVariants as process
 use Rattle.cwl_model.specs.declared.process.Process.TheOpen as layer
 use Rattle.cwl_model.specs.declared.process.Wire.{Wire}
 use Rattle.cwl_model.specs.declared.tool.CwlIn.{CwlIn}
 use Rattle.cwl_model.specs.declared.tool.Tool.{Tool}
-use Rattle.cwl_emit.specs.Reading.{text_of, is_text, list_of, has_names, is_member, member_of, with2, with3, with5, type_of, input_of, is_version, cut_at, link_by, link_of, flow_out, flow_out_of, wire, wire_of, step_names, mode_in, step, step_in, is_class, are_classes, are_requirements, flow_names, flow, is_flow, flow_in, tool_in, tool_or_flow, cwl_of, member_steps, steps_of, all_steps, step_of, member_run}
+use Rattle.cwl_emit.specs.Reading.{text_of, is_text, list_of, has_names, is_member, member_of, with2, with3, type_of, input_of, is_version, cut_at, link_by, link_of, flow_out, flow_out_of, wire, wire_of, step_names, mode_in, step, step_in, is_class, are_requirements, flow_names, flow, is_flow, flow_in, tool_in, tool_or_flow, cwl_of, member_steps, steps_of, all_steps, step_of, member_run}
 use Rattle.cwl_emit.specs.Laws.{HasJson}
-use Rattle.cwl_emit.specs.Writing.{list, type_json, input_json, with_version, tool_json, link_text, link_json, flow_out_json, wire_json, mode_members, step_json, class_json, requirements_json, flow_json, step_written, process_step, process_json, with_json, steps_json}
-use Rattle.cwl_emit.proofs.Parts.{mapped, chained, chosen, inside, of_two, of_three, of_five, Is, ItemsAre, MembersAre, no_item, item_is, array_is, no_member, member_is, object_is, string_is, text_is, word_is, list_is, names_ordered, shape_of, shape_is}
+use Rattle.cwl_emit.specs.Writing.{list, type_json, input_json, tool_json, link_text, link_json, flow_out_json, wire_json, mode_members, step_json, class_json, requirements_json, flow_json, step_written, process_step, process_json, with_json, steps_json}
+use Rattle.cwl_emit.proofs.Parts.{mapped, chained, chosen, inside, of_two, of_three, of_five, Is, ItemsAre, MembersAre, no_item, item_is, array_is, no_member, member_is, object_is, text_is, word_is, list_is, names_ordered, shape_of, shape_is}
 use Rattle.cwl_emit.proofs.Values.{type_is, input_is, Found, first_named, found_at, found_is}
 use Rattle.cwl_emit.proofs.Tools.{tool_is}
 

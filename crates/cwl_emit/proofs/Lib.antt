@@ -1,6 +1,7 @@
 pub mod JsonViews
-pub mod PlainText
+pub mod Exact
 pub mod Parts
 pub mod Values
 pub mod Tools
 pub mod Flows
+pub mod Formed

@@ -1,14 +1,13 @@
 -- Each part that JSON stands for is written as that JSON, with members in byte order and no floats.
-use Rattle.std.proofs.Common.{◌≡◌, ℕ, ℤ, pos, negsuc, Bool, true, false, cond, ◌&&◌, ◌||◌, List, [], ◌∷◌, map, codes, Option, Some, None, option_map, option_and_then, bytes_eq, nat_lt, refl, sym, ap, ◌∙◌, subst}
+use Rattle.std.proofs.Common.{◌≡◌, ℕ, Bool, true, false, cond, ◌&&◌, ◌||◌, List, [], ◌∷◌, map, Option, Some, None, option_map, option_and_then, bytes_eq, refl, ap, ◌∙◌, subst}
 use Rattle.std.proofs.lemmas.Bool.{false≢true, true≢false, and_parts, and_from}
 use Rattle.std.proofs.lemmas.Slice.Eq.{bytes_eq-Decides}
-use Rattle.serde_json.specs.Data.{Num, unsigned, negative, float, Data, null, boolean, number, string, array, object, Items, no_items, item, Members, no_members, member}
-use Rattle.serde_json.specs.Find.{get_member}
+use Rattle.serde_json.specs.Data.{Data, string, array, object, Items, no_items, item, Members, no_members, member}
 use Rattle.serde_json.specs.View.{items_of}
 use Rattle.serde_json.specs.Written.{has_float, items_have_float, members_have_float}
 use Rattle.wdl_base.specs.Plain.{has_nul}
 use Rattle.json_values.specs.Ordered.{is_ordered, items_ordered, members_ordered, is_first}
-use Rattle.cwl_emit.specs.Reading.{plain, text_of, is_text, all_of, list_of, are_texts, has_names, found, is_member, optional, with2, with3, with4, with5}
+use Rattle.cwl_emit.specs.Reading.{plain, text_of, is_text, all_of, list_of, has_names, with2, with3, with4, with5}
 use Rattle.cwl_emit.specs.Writing.{list}
 
 -- ---- answers that came

@@ -1,7 +1,7 @@
 -- Tools.
-use Rattle.std.proofs.Common.{◌≡◌, ℕ, Bool, true, false, cond, ◌&&◌, ◌||◌, List, [], ◌∷◌, map, codes, Option, Some, None, option_map, option_and_then, nat_lt, refl, sym, ap, ◌∙◌, subst}
+use Rattle.std.proofs.Common.{◌≡◌, ℕ, Bool, true, false, cond, ◌&&◌, ◌||◌, List, [], ◌∷◌, codes, Option, Some, None, option_map, nat_lt, refl, sym, ap, ◌∙◌, subst}
 use Rattle.std.proofs.lemmas.Bool.{false≢true, and_parts}
-use Rattle.serde_json.specs.Data.{Num, unsigned, negative, float, Data, null, boolean, number, string, array, object, Items, no_items, item, Members, no_members, member}
+use Rattle.serde_json.specs.Data.{unsigned, Data, number, string, array, object, no_items, item, Members, no_members, member}
 use Rattle.serde_json.specs.Find.{get_member}
 use Rattle.cwl_model.specs.declared.tool.Origin.{Origin}
 use Rattle.cwl_model.specs.declared.tool.Origin.TheVariants as origin
@@ -10,9 +10,9 @@ use Rattle.cwl_model.specs.declared.tool.Tool.{Tool}
 use Rattle.cwl_model.specs.declared.tool.ToolOut.{ToolOut}
 use Rattle.cwl_model.specs.Fields.{field_text, pieces_in}
 use Rattle.cwl_model.proofs.Fields.{fields_read}
-use Rattle.cwl_emit.specs.Reading.{text_of, is_text, list_of, are_texts, has_names, found, is_member, member_of, optional, with2, with4, input_of, tool_out, glob_of, origin_in, tool_out_of, argument_of, code_of, are_ascending, codes_of, is_command, is_version, tool_names, tool, is_tool, tool_in}
-use Rattle.cwl_emit.specs.Writing.{list, input_json, glob_json, origin_members, tool_out_json, code_json, code_members, with_version, argument_json, command_json, tool_json}
-use Rattle.cwl_emit.proofs.Parts.{mapped, chained, chosen, inside, of_two, of_four, Is, ItemsAre, MembersAre, no_item, item_is, array_is, no_member, member_is, object_is, string_is, text_is, word_is, list_is, names_ordered, shape_of, shape_is}
+use Rattle.cwl_emit.specs.Reading.{text_of, is_text, list_of, has_names, found, is_member, member_of, optional, with4, input_of, tool_out, glob_of, origin_in, tool_out_of, argument_of, code_of, are_ascending, codes_of, is_command, is_version, tool_names, tool, is_tool, tool_in}
+use Rattle.cwl_emit.specs.Writing.{list, input_json, glob_json, tool_out_json, code_json, code_members, with_version, argument_json, command_json, tool_json}
+use Rattle.cwl_emit.proofs.Parts.{mapped, chained, chosen, inside, of_two, of_four, Is, MembersAre, no_item, item_is, array_is, no_member, member_is, object_is, text_is, word_is, list_is, names_ordered, shape_of, shape_is}
 use Rattle.cwl_emit.proofs.Values.{input_is}
 
 -- ---- outputs

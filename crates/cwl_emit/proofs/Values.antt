@@ -1,5 +1,5 @@
 -- Types, defaults and inputs.
-use Rattle.std.proofs.Common.{◌≡◌, ℕ, ℤ, pos, negsuc, Bool, true, false, cond, ◌&&◌, ◌||◌, List, [], ◌∷◌, map, codes, Option, Some, None, option_map, option_and_then, bytes_eq, refl, sym, ap, ◌∙◌, subst}
+use Rattle.std.proofs.Common.{◌≡◌, ℕ, ℤ, pos, negsuc, Bool, true, false, cond, ◌&&◌, ◌||◌, List, [], ◌∷◌, map, codes, Option, Some, None, option_map, bytes_eq, refl, sym, ap, ◌∙◌, subst}
 use Rattle.std.proofs.lemmas.Bool.{false≢true, and_parts}
 use Rattle.std.proofs.lemmas.Slice.Eq.{bytes_eq-Decides}
 use Rattle.serde_json.specs.Data.{Num, unsigned, negative, float, Data, null, boolean, number, string, array, object, Items, no_items, item, Members, no_members, member}
@@ -10,14 +10,14 @@ use Rattle.wdl_value.specs.declared.value.Value.TheVariants as v
 use Rattle.wdl_value.specs.declared.value.Value.TheOpen as layer
 use Rattle.wdl_value.specs.Fits.{is_int}
 use Rattle.json_values.specs.Ordered.{is_ordered}
-use Rattle.json_values.specs.Writing.{Written, written, written_step, data_at, json_of, all_items}
+use Rattle.json_values.specs.Writing.{Written, written, written_step, json_of, all_items}
 use Rattle.cwl_model.specs.declared.tool.CwlIn.{CwlIn}
-use Rattle.cwl_model.specs.declared.ty.CwlTy.{CwlTy, CwlTy-F, fold-roll-CwlTy}
+use Rattle.cwl_model.specs.declared.ty.CwlTy.{CwlTy, fold-roll-CwlTy}
 use Rattle.cwl_model.specs.declared.ty.CwlTy.TheVariants as ty
 use Rattle.cwl_model.specs.declared.ty.CwlTy.TheOpen as type
-use Rattle.cwl_emit.specs.Reading.{plain, text_of, is_text, has_names, is_member, member_of, optional, with3, named_type, is_end, type_of, type_or_null, last_type, item_type, int_of, number_of, value_of, values_of, cwl_in, input_in, input_of}
-use Rattle.cwl_emit.specs.Writing.{type_step, type_json, list_type, null_type, with_default, input_json}
-use Rattle.cwl_emit.proofs.Parts.{mapped, chained, chosen, inside, of_three, Is, ItemsAre, MembersAre, no_item, item_is, array_is, no_member, member_is, object_is, plain_is, string_is, text_is, word_is, shape_of, shape_is}
+use Rattle.cwl_emit.specs.Reading.{plain, text_of, is_text, has_names, is_member, member_of, optional, with3, named_type, type_of, type_or_null, last_type, item_type, int_of, number_of, value_of, values_of, cwl_in, input_in, input_of}
+use Rattle.cwl_emit.specs.Writing.{type_step, type_json, list_type, null_type, input_json}
+use Rattle.cwl_emit.proofs.Parts.{mapped, chained, chosen, inside, of_three, Is, ItemsAre, no_item, item_is, array_is, no_member, member_is, object_is, plain_is, string_is, text_is, word_is, shape_of, shape_is}
 
 -- ---- types
 

@@ -2,6 +2,7 @@
 
 ghost use Rattle.std.specs.Prelude.{◌≡◌, IfOk, Some, true};
 ghost use Rattle.serde_json.specs.View.{view};
+ghost use Rattle.serde_json.specs.Written.{compact_text};
 ghost use Rattle.cwl_emit.specs.Laws.{HasJson, IsText};
 ghost use Rattle.cwl_emit.specs.Reading.{cwl_of};
 ghost use Rattle.cwl_emit.specs.Writing as spec;
@@ -40,22 +41,23 @@ fn steps_json(alloc: Global, steps: &[CwlStep<Process>]) -> Result<Json, NoMemor
     Ok(Json::Array(items))
 }
 
-/// The JSON value that stands for a process (CWL v1.2, CommandLineTool and Workflow), where some value does: as the
-/// outermost process, which has the member `cwlVersion`, or as that of a step. Its members are in byte order. Its time
-/// is linear but for a logarithm.
+/// The JSON value that is written for a process (CWL v1.2, CommandLineTool and Workflow): as the outermost process, which
+/// has the member `cwlVersion`, or as that of a step. It stands for the process, where some value does. Its members are
+/// in byte order. Its time is linear but for a logarithm.
 ///
 /// None stands for a process with codes that are not ascending, pieces that are not those of their text, ids with `/`,
 /// or defaults other than undefined values, Booleans, integers, strings and arrays of these.
 pub fn process_value(alloc: Global, process: &Process, outermost: bool) -> Result<Json, NoMemory>
     ensures value { IfOk result (λ j. HasJson outermost process.now → cwl_of outermost (view j) ≡ Some process.now) }
+    ensures written { IfOk result (λ j. view j ≡ spec.process_json process.now outermost) }
 {
     process_json(alloc, process, outermost)
 }
 
-/// The text of the JSON value that stands for the outermost process, members in byte order and without blanks.
+/// The text of the JSON value that is written for the outermost process, members in byte order and without blanks.
 pub fn process_text(alloc: Global, process: &Process) -> Result<Text, NoMemory>
-    requires { HasJson true process.now }
-    ensures value { IfOk result (λ t. IsText process.now t) }
+    ensures value { IfOk result (λ t. HasJson true process.now → IsText process.now t) }
+    ensures written { IfOk result (λ t. t ≡ compact_text (spec.process_json process.now true)) }
 {
     let json = process_value(alloc, process, true)?;
     Ok(Text::from_string(json.to_string(alloc)?))

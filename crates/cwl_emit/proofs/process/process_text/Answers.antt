@@ -1,31 +1,32 @@
-use Rattle.std.proofs.Common.{◌≡◌, true, false, Some, ap, sym, ◌∙◌}
+use Rattle.std.proofs.Common.{◌≡◌, true, false, ap, ◌∙◌}
 use Rattle.serde_json.specs.View.{view}
 use Rattle.serde_json.specs.Written.{has_float, compact_text}
 use Rattle.wdl_base.specs.Plain.{has_nul}
-use Rattle.cwl_emit.proofs.PlainText.{text_nul}
+use Rattle.wdl_json.proofs.Texts.{text_nul}
 use Rattle.json_values.specs.Ordered.{is_ordered}
-use Rattle.cwl_emit.specs.Reading.{cwl_of}
+use Rattle.cwl_emit.proofs.Exact.{process_exact}
 use Rattle.cwl_emit.proofs.Flows.{process_is}
 use Rattle.cwl_emit.proofs.process.process_text.Goals as goal
 
 pub from_string-requires : goal.from_string-requires
 from_string-requires c =
     let j = view c.in_ok-json.json in
-    let is = process_is true j c.args.process.now (c.in_ok-json.ensures.value c.requires) in
-    let exact : has_float j ≡ false = ap has_float is.same ∙ is.exact in
+    let exact : has_float j ≡ false = ap has_float c.in_ok-json.ensures.written ∙ process_exact c.args.process.now true in
     ap has_nul (c.in_ok-to_string.ensures.text exact) ∙ text_nul j
 
 pub returns : goal.returns
 returns c =
     let j = view c.in_ok-json.json in
-    let stands = c.in_ok-json.ensures.value c.requires in
-    let is = process_is true j c.args.process.now stands in
-    let exact : has_float j ≡ false = ap has_float is.same ∙ is.exact in
+    let exact : has_float j ≡ false = ap has_float c.in_ok-json.ensures.written ∙ process_exact c.args.process.now true in
+    let is_text = c.from_string.ensures ∙ c.in_ok-to_string.ensures.text exact in
     record {
-      value = record {
-        json = j;
-        stands = stands;
-        ordered = ap is_ordered is.same ∙ is.ordered;
-        written = c.from_string.ensures ∙ c.in_ok-to_string.ensures.text exact;
-      };
+      value = λ has.
+          let is = process_is true j c.args.process.now (c.in_ok-json.ensures.value has) in
+          record {
+            json = j;
+            stands = c.in_ok-json.ensures.value has;
+            ordered = ap is_ordered is.same ∙ is.ordered;
+            written = is_text;
+          };
+      written = is_text ∙ ap compact_text c.in_ok-json.ensures.written;
     }

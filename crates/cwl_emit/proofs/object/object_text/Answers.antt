@@ -1,0 +1,17 @@
+use Rattle.std.proofs.Common.{◌≡◌, false, ap, ◌∙◌}
+use Rattle.serde_json.specs.View.{view}
+use Rattle.serde_json.specs.Written.{has_float, compact_text}
+use Rattle.wdl_base.specs.Plain.{has_nul}
+use Rattle.wdl_json.proofs.Texts.{text_nul}
+use Rattle.cwl_emit.proofs.Exact.{object_exact}
+use Rattle.cwl_emit.proofs.object.object_text.Goals as goal
+
+pub from_string-requires : goal.from_string-requires
+from_string-requires c =
+    let exact : has_float (view c.in_ok-json.json) ≡ false = ap has_float c.in_ok-json.ensures ∙ object_exact c.args.given.now in
+    ap has_nul (c.in_ok-to_string.ensures.text exact) ∙ text_nul (view c.in_ok-json.json)
+
+pub returns : goal.returns
+returns c =
+    let exact : has_float (view c.in_ok-json.json) ≡ false = ap has_float c.in_ok-json.ensures ∙ object_exact c.args.given.now in
+    record { value = c.from_string.ensures ∙ c.in_ok-to_string.ensures.text exact ∙ ap compact_text c.in_ok-json.ensures }
