@@ -15,7 +15,7 @@ pub struct Seeing<'a> {
 impl<'a> Seeing<'a> {
     /// The same where these calls are seen.
     pub fn with_calls(&self, calls: &'a Words) -> Seeing<'a>
-        ensures { result ≡ record { structs = self.now.structs; locals = self.now.locals; calls = calls } }
+        ensures { result ≡ record { structs = self.now.structs; locals = self.now.locals; calls = calls.entry } }
     {
         Seeing {
             structs: self.structs,
