@@ -165,18 +165,13 @@ flow_made lib ts f ins start scope steps outs run taken begun walked seen given 
     ∙ ap (flow_process (map cwl_in f.inputs) (map (flow_out (map input_linkage f.inputs ++ body_links (map (draft lib ts) f.body))) f.outputs))
     (walked ∙ ap (body_steps (map (draft lib ts) f.body)) begun)
 
--- a workflow that is there, and one that is not
+-- a workflow that is there
 pub flow_here : (lib : Library) (depth k : ℕ) (f : FlowDef) → 0 < depth → slice_get lib.flows k ≡ Some f → flow_of lib (targets_at lib (depth - 1)) f ≡ flow_to lib depth k
 unfolding targets_at flow_to
 flow_here lib zero k f some there = absurd (omega (arith, some))
 flow_here lib (suc d) k f some there =
     let e : suc d - 1 ≡ d = omega arith in
     ap (λ n. flow_of lib (target_by lib (flow_to lib n)) f) e ∙ sym (ap (flow_at lib (target_by lib (flow_to lib d))) there)
-
-pub flow_missing : (lib : Library) (depth k : ℕ) → slice_get lib.flows k ≡ None → empty ≡ flow_to lib depth k
-unfolding flow_to
-flow_missing lib zero k none = refl
-flow_missing lib (suc d) k none = sym (ap (flow_at lib (target_by lib (flow_image lib d))) none)
 
 -- the main workflow, which a form of the subset has
 pub has_main : (lib : Library) (main : Option ℕ) → main ≡ None → is_kept lib main ≡ true → ⊥

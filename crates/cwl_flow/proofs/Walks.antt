@@ -24,10 +24,6 @@ one_more g h first body i s xs ys all below is more before =
     ∙ ap (λ ss. xs ++ g ss) (sym (cut body i s below is))
     ∙ before
 
-pub at_end : {A : Type 0} (g : List Statement → List A) → g [] ≡ [] → (body : List Statement) (i : ℕ) (xs all : List A) → length body ≤ i
-    → xs ++ g (drop i body) ≡ all → xs ≡ all
-at_end g none body i xs all past before = sym (append-nil xs) ∙ ap (λ zs. xs ++ zs) (sym none) ∙ ap (λ ss. xs ++ g ss) (sym (drop_all i body past)) ∙ before
-
 -- one more step, and what is seen behind it
 pub step_more : (c : Context) (body : List Statement) (i : ℕ) (s : Statement) (t : CwlStep Process) (steps steps' all : List (CwlStep Process)) (scope scope' : Scope)
     → i < length body → s ≡ get_or body i s → t ≡ step_of (draft_of c s) scope → steps' ≡ steps ++ t ∷ [] → scope' ≡ scope ++ links_of (draft_of c s)
