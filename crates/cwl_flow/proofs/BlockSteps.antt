@@ -13,7 +13,7 @@ use Rattle.cwl_model.specs.declared.process.Process.{Process}
 use Rattle.cwl_model.specs.declared.process.Wire.{Wire}
 use Rattle.cwl_model.specs.declared.tool.CwlIn.{CwlIn}
 use Rattle.cwl_model.specs.declared.ty.CwlTy.{CwlTy}
-use Rattle.cwl_image.specs.Image.{Draft, Scope, block_out, block_output, body_links, body_steps, flow_process, if_draft, inner_scope, input_of, item_linkage, list_type, null_type, out_id, outer_uses, outer_wire, reference, scatter_draft, step_of, when_input, wire_to, Targets, args_wired, call_draft, call_output, cwl_in, draft, draft_step, empty, flow_at, flow_image, flow_of, flow_out, input_linkage, signature_outputs, target_by}
+use Rattle.cwl_image.specs.Image.{Draft, Scope, block_out, block_output, body_links, body_steps, flow_process, if_draft, inner_scope, input_of, item_linkage, list_type, null_type, out_id, outer_uses, outer_wire, reference, scatter_draft, step_of, when_input, wire_to, Targets, args_wired, call_draft, call_output, cwl_in, draft, draft_step, flow_at, flow_image, flow_of, flow_out, input_linkage, signature_outputs, target_by}
 use Rattle.cwl_image.specs.Kept.{is_kept}
 use Rattle.cwl_flow.specs.declared.blocks.Block.{Block}
 use Rattle.cwl_flow.specs.declared.context.Context.{Context}
