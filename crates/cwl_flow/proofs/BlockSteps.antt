@@ -13,7 +13,7 @@ use Rattle.cwl_model.specs.declared.process.Process.{Process}
 use Rattle.cwl_model.specs.declared.process.Wire.{Wire}
 use Rattle.cwl_model.specs.declared.tool.CwlIn.{CwlIn}
 use Rattle.cwl_model.specs.declared.ty.CwlTy.{CwlTy}
-use Rattle.cwl_image.specs.Image.{Draft, Scope, block_out, block_output, body_links, body_steps, flow_process, if_draft, inner_scope, input_of, item_linkage, list_type, null_type, out_id, outer_uses, outer_wire, reference, scatter_draft, step_of, when_input, wire_to, Targets, args_wired, call_draft, call_output, cwl_in, draft, draft_step, empty, flow_at, flow_image, flow_of, flow_out, input_linkage, signature_outputs, target_by}
+use Rattle.cwl_image.specs.Image.{Draft, Scope, block_out, block_output, body_links, body_steps, flow_process, if_draft, inner_scope, input_of, item_linkage, list_type, null_type, out_id, outer_uses, outer_wire, reference, scatter_draft, step_of, when_input, wire_to, Targets, args_wired, call_draft, call_output, cwl_in, draft, draft_step, flow_at, flow_image, flow_of, flow_out, input_linkage, signature_outputs, target_by}
 use Rattle.cwl_image.specs.Kept.{is_kept}
 use Rattle.cwl_flow.specs.declared.blocks.Block.{Block}
 use Rattle.cwl_flow.specs.declared.context.Context.{Context}
@@ -165,18 +165,13 @@ flow_made lib ts f ins start scope steps outs run taken begun walked seen given 
     ∙ ap (flow_process (map cwl_in f.inputs) (map (flow_out (map input_linkage f.inputs ++ body_links (map (draft lib ts) f.body))) f.outputs))
     (walked ∙ ap (body_steps (map (draft lib ts) f.body)) begun)
 
--- a workflow that is there, and one that is not
+-- a workflow that is there
 pub flow_here : (lib : Library) (depth k : ℕ) (f : FlowDef) → 0 < depth → slice_get lib.flows k ≡ Some f → flow_of lib (targets_at lib (depth - 1)) f ≡ flow_to lib depth k
 unfolding targets_at flow_to
 flow_here lib zero k f some there = absurd (omega (arith, some))
 flow_here lib (suc d) k f some there =
     let e : suc d - 1 ≡ d = omega arith in
     ap (λ n. flow_of lib (target_by lib (flow_to lib n)) f) e ∙ sym (ap (flow_at lib (target_by lib (flow_to lib d))) there)
-
-pub flow_missing : (lib : Library) (depth k : ℕ) → slice_get lib.flows k ≡ None → empty ≡ flow_to lib depth k
-unfolding flow_to
-flow_missing lib zero k none = refl
-flow_missing lib (suc d) k none = sym (ap (flow_at lib (target_by lib (flow_image lib d))) none)
 
 -- the main workflow, which a form of the subset has
 pub has_main : (lib : Library) (main : Option ℕ) → main ≡ None → is_kept lib main ≡ true → ⊥

@@ -1,6 +1,6 @@
 -- Walks over statements, one by one.
-use Rattle.std.proofs.Common.{◌≡◌, ℕ, ◌+◌, ◌-◌, ◌<◌, ◌≤◌, List, [], ◌∷◌, ◌++◌, length, take, drop, get_or, append_assoc, sym, ap, ◌∙◌}
-use Rattle.std.proofs.lemmas.List.{append-nil, drop_all, drop_more, take_rest}
+use Rattle.std.proofs.Common.{◌≡◌, ℕ, ◌+◌, ◌-◌, ◌<◌, List, [], ◌∷◌, ◌++◌, length, take, drop, get_or, append_assoc, sym, ap, ◌∙◌}
+use Rattle.std.proofs.lemmas.List.{drop_more, take_rest}
 use Rattle.std.proofs.Math.Seq.{drop-append_seam}
 use Rattle.wdl_typed.specs.declared.flow.Statement.{Statement}
 use Rattle.cwl_model.specs.declared.process.CwlStep.{CwlStep}
@@ -23,10 +23,6 @@ one_more g h first body i s xs ys all below is more before =
     ∙ ap (λ zs. xs ++ zs) (sym (first s (drop (i + 1) body)))
     ∙ ap (λ ss. xs ++ g ss) (sym (cut body i s below is))
     ∙ before
-
-pub at_end : {A : Type 0} (g : List Statement → List A) → g [] ≡ [] → (body : List Statement) (i : ℕ) (xs all : List A) → length body ≤ i
-    → xs ++ g (drop i body) ≡ all → xs ≡ all
-at_end g none body i xs all past before = sym (append-nil xs) ∙ ap (λ zs. xs ++ zs) (sym none) ∙ ap (λ ss. xs ++ g ss) (sym (drop_all i body past)) ∙ before
 
 -- one more step, and what is seen behind it
 pub step_more : (c : Context) (body : List Statement) (i : ℕ) (s : Statement) (t : CwlStep Process) (steps steps' all : List (CwlStep Process)) (scope scope' : Scope)

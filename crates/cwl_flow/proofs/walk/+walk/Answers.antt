@@ -1,5 +1,5 @@
-use Rattle.std.proofs.Common.{refl}
-use Rattle.cwl_image.specs.Image.{body_links, links_of}
+use Rattle.std.proofs.Common.{◌++◌, refl}
+use Rattle.cwl_image.specs.Image.{body_links, body_steps, links_of}
 use Rattle.cwl_flow.specs.Drafts.{draft_of, drafts_of}
 use Rattle.cwl_flow.proofs.BlockSteps.{of_condition, of_scatter, step_made}
 use Rattle.cwl_flow.proofs.Walks.{one_more, step_more}
@@ -27,8 +27,8 @@ body_steps-loop-statement-preserved g t c =
     let body = c.args.body.now in
     let i = c.loop-statement.statement-index in
     let s = c.statement-item.result in (
-      step_more d body i s c.in_ok-step.field-0 c.loop-statement.steps c.push.new.self _ c.loop-statement.scope c.add_links.new.links
+      step_more d body i s c.in_ok-step.field-0 c.loop-statement.steps c.push.new.self (body_steps (drafts_of d body) c.args.scope.now) c.loop-statement.scope c.add_links.new.links
           c.loop-statement-test.true c.statement-item.is c.in_ok-step.ensures c.in_ok-push.ensures.ok c.in_ok-add_links.ensures c.loop-statement.invariant.0,
-      one_more (λ ss. body_links (drafts_of d ss)) (λ u. links_of (draft_of d u)) (λ u us. refl) body i s c.loop-statement.scope c.add_links.new.links _
+      one_more (λ ss. body_links (drafts_of d ss)) (λ u. links_of (draft_of d u)) (λ u us. refl) body i s c.loop-statement.scope c.add_links.new.links (c.args.scope.now ++ body_links (drafts_of d body))
           c.loop-statement-test.true c.statement-item.is c.in_ok-add_links.ensures c.loop-statement.invariant.1,
     )
