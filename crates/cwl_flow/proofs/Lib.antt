@@ -1,0 +1,7 @@
+pub mod BlockSteps
+pub mod Firsts
+pub mod Found
+pub mod Plain
+pub mod Signatures
+pub mod Skip
+pub mod Walks

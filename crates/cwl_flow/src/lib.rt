@@ -1,0 +1,18 @@
+//! The CWL workflow that stands for a workflow of the subset (CWL v1.2, Workflow).
+#![tactic(auto)]
+
+mod blocks;
+mod calls;
+mod context;
+mod flow;
+mod ids;
+mod index;
+mod keyed;
+mod links;
+mod mark;
+mod subset;
+mod uses;
+mod walk;
+mod wires;
+
+pub use subset::{tool_of, translate};
