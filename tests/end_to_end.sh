@@ -71,7 +71,7 @@ checks() {
 }
 
 echo "words"
-usage='usage: wdl run [--inputs FILE] [--root DIR] FILE | check FILE\n'
+usage='usage: wdl run [--inputs FILE] [--root DIR] FILE | check FILE | cwl [--inputs FILE] FILE\n'
 document bare.wdl 'workflow w { }'
 expect "no words" 2 '' "$usage"
 expect "another command" 2 '' "$usage" walk bare.wdl
@@ -95,7 +95,6 @@ expect "one worker" 0 '{}\n' '' run --workers 1 bare.wdl
 expect "a file behind --" 0 'ok\n' '' check -- bare.wdl
 expect "other workers" 12 '' 'not built yet\n' run --workers 2 bare.wdl
 expect "a journal" 12 '' 'not built yet\n' run --journal journal bare.wdl
-expect "cwl" 12 '' 'not built yet\n' cwl bare.wdl
 expect "load" 12 '' 'not built yet\n' load 3
 expect "bundle" 12 '' 'not built yet\n' bundle bare.wdl
 
@@ -313,6 +312,8 @@ script() {
 }
 script program
 script moving
+script cwl
+grep '^cwltool' out
 
 echo "journals"
 # A journal is a database that the shell of SQLite reads, and that is read again after that.

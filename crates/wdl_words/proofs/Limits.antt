@@ -6,8 +6,8 @@ use Rattle.std.specs.Str.Parse.{digits_value}
 use Rattle.std.proofs.lemmas.Bool.Decides.{nat_tests}
 use Rattle.clap.specs.Words.{Row, Text, first_of}
 use Rattle.wdl_base.specs.Plain.{has_nul}
-use Rattle.wdl_words.specs.Commands.{found_in, run_app}
-use Rattle.wdl_words.specs.Words.{IsWithinLimits, begins_with_slash, directory_of, file_in, file_of, is_numeral, load_in, named_by_first, not_empty, number_within, operand_in, optional_file, root_of, run_in, run_of, run_with, some_nul, wants, wants_by, without_slashes, workers_of}
+use Rattle.wdl_words.specs.Commands.{cwl_app, found_in, run_app}
+use Rattle.wdl_words.specs.Words.{IsWithinLimits, begins_with_slash, cwl_in, cwl_of, cwl_with, directory_of, file_in, file_of, is_numeral, load_in, named_by_first, not_empty, number_within, operand_in, optional_file, root_of, run_in, run_of, run_with, some_nul, wants, wants_by, without_slashes, workers_of}
 use Rattle.wdl_words.proofs.Slashes.{slashes_short}
 use Rattle.wdl_words.specs.declared.wants.Wants.{Wants}
 use Rattle.wdl_words.specs.declared.wants.Wants.TheVariants.{Run, Check, Cwl, Load, Bundle}
@@ -84,25 +84,35 @@ rows_limits rows asked h = run_limits
     (optional_file (first_of (codes "journal") rows)) asked
     (workers_limits (first_of (codes "workers") rows)) (root_limits (first_of (codes "root") rows)) h
 
+cwl_limits : (rows : List Row) (asked : Wants) → cwl_of rows ≡ Some asked → IsWithinLimits asked
+cwl_limits rows asked h = go (option_and_then file_of (first_of (codes "file") rows)) (optional_file (first_of (codes "inputs") rows)) h
+  where
+    go : (file : Option Text) (inputs : Option (Option Text)) → cwl_with file inputs ≡ Some asked → IsWithinLimits asked
+    go (Some file) (Some inputs) found = let some : Cwl file inputs ≡ asked = cc in subst IsWithinLimits some tt
+    go (Some file) None found = cc
+    go None inputs found = cc
+
 load_limits : (words : List Text) (n : ℕ) → load_in words ≡ Some n → (1 ≤ n) × (n ≤ 10000)
 load_limits words n h =
     let text = and_then_some (number_within 1 10000) (operand_in (codes "load") (codes "number") words) n h in
     number_limits 1 10000 text.0 n text.2
 
 by_command : (command : Text) (words : List Text) (asked : Wants) → wants_by command words ≡ Some asked → IsWithinLimits asked
-unfolding run_in
+unfolding run_in cwl_in
 by_command command words asked h =
     go (bytes_eq command (codes "run")) (bytes_eq command (codes "check")) (bytes_eq command (codes "cwl"))
     (bytes_eq command (codes "load")) (bytes_eq command (codes "bundle")) h
   where
     go : (a b c d e : Bool) → cond a (run_in words) (cond b (option_map Check (file_in command words))
-        (cond c (option_map Cwl (file_in command words)) (cond d (option_map Load (load_in words))
+        (cond c (cwl_in words) (cond d (option_map Load (load_in words))
         (cond e (option_map Bundle (file_in command words)) None)))) ≡ Some asked → IsWithinLimits asked
     go true b c d e found =
         let rows = and_then_some run_of (found_in run_app words) asked found in
         rows_limits rows.0 asked rows.2
     go false true c d e found = mapped Check (file_in command words) asked (λ file given. tt) found
-    go false false true d e found = mapped Cwl (file_in command words) asked (λ file given. tt) found
+    go false false true d e found =
+        let rows = and_then_some cwl_of (found_in cwl_app words) asked found in
+        cwl_limits rows.0 asked rows.2
     go false false false true e found = mapped Load (load_in words) asked (load_limits words) found
     go false false false false true found = mapped Bundle (file_in command words) asked (λ file given. tt) found
     go false false false false false found = cc

@@ -1,5 +1,5 @@
 -- Texts without the slashes at their ends.
-use Rattle.std.proofs.Common.{◌≡◌, ◌≢◌, ◌≤◌, ◌==◌, ◌&&◌, ℕ, Bool, true, false, not, nat_le, cond, List, [], ◌∷◌, ◌++◌, length, refl, ap, ◌∙◌, arith}
+use Rattle.std.proofs.Common.{◌≡◌, ◌≢◌, ◌≤◌, ◌==◌, ◌&&◌, ℕ, true, false, not, nat_le, cond, List, [], ◌∷◌, ◌++◌, length, refl, ap, arith}
 use Rattle.std.proofs.lemmas.Bool.{and_parts, ne_eqb, not-true, or_from, or_parts}
 use Rattle.wdl_base.specs.Plain.{has_nul}
 use Rattle.wdl_words.specs.Words.{before_slashes, begins_with_slash, is_directory, without_slashes}

@@ -20,6 +20,9 @@ run_app =
     (option_rule (codes "inputs"))) (option_rule (codes "workers"))) (option_rule (codes "root")))
     (option_rule (codes "journal"))) (operand_rule (codes "file"))
 
+abbrev pub cwl_app : App
+cwl_app = with_rule (with_rule (new_app (codes "cwl")) (option_rule (codes "inputs"))) (operand_rule (codes "file"))
+
 -- rows, where no kind of error comes
 abbrev pub without_errors : Kinds → List Row → Option (List Row)
 without_errors [] rows = Some rows

@@ -5,7 +5,7 @@ use Rattle.std.specs.Str.{bytes_eq, all_ascii_digits}
 use Rattle.std.specs.Str.Parse.{digits_value}
 use Rattle.clap.specs.Words.{Row, Text, first_of}
 use Rattle.wdl_base.specs.Plain.{has_nul}
-use Rattle.wdl_words.specs.Commands.{found_in, operand_app, run_app}
+use Rattle.wdl_words.specs.Commands.{cwl_app, found_in, operand_app, run_app}
 use Rattle.wdl_words.specs.declared.wants.Wants.{Wants}
 use Rattle.wdl_words.specs.declared.wants.Wants.TheVariants.{Run, Check, Cwl, Load, Bundle}
 
@@ -83,6 +83,16 @@ run_of rows = run_with
 unfoldable pub run_in : List Text → Option Wants
 run_in words = option_and_then run_of (found_in run_app words)
 
+abbrev pub cwl_with : Option Text → Option (Option Text) → Option Wants
+cwl_with (Some file) (Some inputs) = Some (Cwl file inputs)
+cwl_with _ _ = None
+
+abbrev pub cwl_of : List Row → Option Wants
+cwl_of rows = cwl_with (option_and_then file_of (first_of (codes "file") rows)) (optional_file (first_of (codes "inputs") rows))
+
+unfoldable pub cwl_in : List Text → Option Wants
+cwl_in words = option_and_then cwl_of (found_in cwl_app words)
+
 -- the one word of a command that has no option
 abbrev pub operand_in : Text → Text → List Text → Option Text
 operand_in command operand words =
@@ -100,7 +110,7 @@ abbrev pub wants_by : Text → List Text → Option Wants
 wants_by command words =
     if bytes_eq command (codes "run") then run_in words
     else if bytes_eq command (codes "check") then option_map Check (file_in command words)
-    else if bytes_eq command (codes "cwl") then option_map Cwl (file_in command words)
+    else if bytes_eq command (codes "cwl") then cwl_in words
     else if bytes_eq command (codes "load") then option_map Load (load_in words)
     else if bytes_eq command (codes "bundle") then option_map Bundle (file_in command words)
     else None

@@ -1,6 +1,6 @@
 ghost use Rattle.std.specs.Prelude.{◌≡◌, true, false, map, option_map, option_and_then, string_bytes, IfOk};
 ghost use Rattle.clap.specs.Words.{app_of, first_of, found_of, is_simple_and_free, rows_of, rule_of};
-ghost use Rattle.wdl_words.specs.Commands.{found_in, operand_app, operand_rule, option_rule, run_app};
+ghost use Rattle.wdl_words.specs.Commands.{cwl_app, found_in, operand_app, operand_rule, option_rule, run_app};
 ghost use Rattle.wdl_words.specs.Faults.{FindsIn, ReadsText};
 ghost use Rattle.wdl_words.specs.Words.{operand_in};
 
@@ -30,6 +30,14 @@ fn run_command<'a>(alloc: Global) -> Result<Command<'a>, AllocError>
         .arg(option(alloc, "workers"))?
         .arg(option(alloc, "root"))?
         .arg(option(alloc, "journal"))?
+        .arg(operand(alloc, "file"))
+}
+
+fn cwl_command<'a>(alloc: Global) -> Result<Command<'a>, AllocError>
+    ensures { IfOk result (λ command. app_of command ≡ cwl_app) }
+{
+    Command::new(alloc, "cwl")
+        .arg(option(alloc, "inputs"))?
         .arg(operand(alloc, "file"))
 }
 
@@ -63,6 +71,13 @@ pub fn run_matches<'a>(alloc: Global, words: &'a [String]) -> Result<ArgMatches<
     ensures { FindsIn run_app (map string_bytes words.now) result }
 {
     matches_in(run_command(alloc)?, words)
+}
+
+/// What clap finds in the words of `cwl`.
+pub fn cwl_matches<'a>(alloc: Global, words: &'a [String]) -> Result<ArgMatches<'a>, WordFault>
+    ensures { FindsIn cwl_app (map string_bytes words.now) result }
+{
+    matches_in(cwl_command(alloc)?, words)
 }
 
 /// The one word of a command that has no option.

@@ -4,7 +4,7 @@ ghost use Rattle.wdl_words.specs.Words as spec;
 ghost use Rattle.wdl_words.specs.Faults.{Reads};
 ghost use Rattle.wdl_words.specs.declared.error.WordFault.TheVariants.{Usage};
 
-use crate::commands::{operand_in, run_matches, value_of};
+use crate::commands::{cwl_matches, operand_in, run_matches, value_of};
 use crate::error::WordFault;
 use crate::values::{file_of, number_within, optional_file, root_of, workers_of};
 use crate::wants::Wants;
@@ -33,6 +33,24 @@ fn run_in(alloc: Global, words: &[String]) -> Result<Wants, WordFault>
     run_of(alloc, &matches)
 }
 
+fn cwl_of<'a>(alloc: Global, matches: &ArgMatches<'a>) -> Result<Wants, WordFault>
+    ensures { Reads (spec.cwl_of (rows_of (found_of matches.now))) result }
+{
+    let file = value_of(matches, "file").ok_or(WordFault::Usage)?;
+    Ok(Wants::Cwl {
+        file: file_of(alloc, file)?,
+        inputs: optional_file(alloc, value_of(matches, "inputs"))?,
+    })
+}
+
+#[tactic(auto, unfolding(crate::specs::Words::cwl_in))]
+fn cwl_in(alloc: Global, words: &[String]) -> Result<Wants, WordFault>
+    ensures { Reads (spec.cwl_in (map string_bytes words.now)) result }
+{
+    let matches = cwl_matches(alloc, words)?;
+    cwl_of(alloc, &matches)
+}
+
 fn file_in(alloc: Global, command: &str, words: &[String]) -> Result<Text, WordFault>
     ensures { Reads (spec.file_in command.now (map string_bytes words.now)) result }
 {
@@ -53,9 +71,7 @@ fn wants_by(alloc: Global, command: &str, words: &[String]) -> Result<Wants, Wor
         "check" => Ok(Wants::Check {
             file: file_in(alloc, command, words)?,
         }),
-        "cwl" => Ok(Wants::Cwl {
-            file: file_in(alloc, command, words)?,
-        }),
+        "cwl" => cwl_in(alloc, words),
         "load" => Ok(Wants::Load {
             number: load_in(alloc, words)?,
         }),
@@ -90,7 +106,8 @@ fn named_by_first(alloc: Global, words: &[String]) -> Result<Wants, WordFault>
 /// What the words of the command line, after the program's own name, ask for: `Usage` exactly where they have no
 /// reading.
 ///
-/// The words are `run [--inputs FILE] [--workers N] [--root DIR] [--journal FILE] FILE`, `check FILE`, `cwl FILE`,
+/// The words are `run [--inputs FILE] [--workers N] [--root DIR] [--journal FILE] FILE`, `check FILE`,
+/// `cwl [--inputs FILE] FILE`,
 /// `load N` or `bundle FILE`. Each option takes one value, as a word of its own or after `=`, and stands at most
 /// once. N is one or more decimal digits, for 1 to 64 workers (4 where it is left out) or 1 to 10,000 calls. DIR
 /// begins with `/`, has at most 512 bytes as it is given, and is `/tmp/wdl-run` where it is left out; the slashes at its

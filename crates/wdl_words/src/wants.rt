@@ -21,9 +21,12 @@ pub enum Wants {
     Check {
         file: Text,
     },
-    /// Translate a document to CWL.
+    /// Translate a document to CWL, or the inputs of its workflow where they are named.
     Cwl {
+        /// The document's path, not empty.
         file: Text,
+        /// The path of the inputs, not empty.
+        inputs: Option<Text>,
     },
     /// Make and run a workflow of that many calls, 1 to 10,000.
     Load {

@@ -97,10 +97,6 @@ fn other_commands_take_one_word(rt: HostRuntime) -> Result<(), Fail> {
         Wants::Check { file } => assert!(rt; file.is(" w.wdl")),
         _ => assert!(rt; false),
     }
-    match read_words(alloc, words_of(alloc, "cwl|w.wdl")?.as_slice())? {
-        Wants::Cwl { file } => assert!(rt; file.is("w.wdl")),
-        _ => assert!(rt; false),
-    }
     match read_words(alloc, words_of(alloc, "bundle|w.wdl")?.as_slice())? {
         Wants::Bundle { file } => assert!(rt; file.is("w.wdl")),
         _ => assert!(rt; false),
@@ -108,6 +104,29 @@ fn other_commands_take_one_word(rt: HostRuntime) -> Result<(), Fail> {
     match read_words(alloc, words_of(alloc, "load|0010000")?.as_slice())? {
         Wants::Load { number } => assert!(rt; number == 10_000),
         _ => assert!(rt; false),
+    }
+    Ok(())
+}
+
+/// Reads `cwl w.wdl` with these inputs.
+fn is_cwl(asked: &Wants, wanted: Option<&str>) -> bool {
+    match asked {
+        Wants::Cwl { file, inputs } => file.is("w.wdl") && is_text(inputs, wanted),
+        _ => false,
+    }
+}
+
+#[test]
+fn cwl_may_name_inputs(rt: HostRuntime) -> Result<(), Fail> {
+    let alloc = rt.alloc();
+    let rows = [
+        ("cwl|w.wdl", None),
+        ("cwl|--inputs|i.json|w.wdl", Some("i.json")),
+        ("cwl|w.wdl|--inputs=i.json", Some("i.json")),
+    ];
+    for (words, wanted) in rows {
+        let asked = read_words(alloc, words_of(alloc, words)?.as_slice())?;
+        assert!(rt; is_cwl(&asked, wanted), "{words}");
     }
     Ok(())
 }
@@ -141,6 +160,9 @@ fn other_words_are_refused(rt: HostRuntime) -> Result<(), Fail> {
         "run|-h|w.wdl",
         "run|--version",
         "run|-V|w.wdl",
+        "cwl|--inputs|w.wdl",
+        "cwl|--inputs||w.wdl",
+        "cwl|--root|/r|w.wdl",
         "check",
         "check|--workers|4|w.wdl",
         "check|a\0b",

@@ -1,5 +1,5 @@
 -- Which status comes.
-use Rattle.std.proofs.Common.{arith, ◌≡◌, inl, inr, ◌⊎◌, ℕ, false, true, List, [], Option, Some, None, Ok, Err, Contains, ap, sym, subst, ◌∙◌, refl}
+use Rattle.std.proofs.Common.{arith, ◌≡◌, inl, inr, ◌⊎◌, ℕ, false, true, List, [], Option, Some, None, Result, Ok, Err, Contains, ap, sym, subst, ◌∙◌, refl}
 use Rattle.std.proofs.lemmas.Bool.{false≢true}
 use Rattle.wdl_base.specs.declared.answer.Answer.{Answer}
 use Rattle.wdl_base.specs.declared.fault.Fault.{Fault}
@@ -14,18 +14,22 @@ use Rattle.wdl_typed.specs.declared.flow.FlowDef.{FlowDef}
 use Rattle.wdl_typed.specs.Flow.{too_many}
 use Rattle.wdl_words.specs.declared.wants.Wants.{Wants}
 use Rattle.wdl_json.specs.Inputs.{inputs_in, main_of}
+use Rattle.wdl_json.specs.declared.fault.InputFault.{InputFault}
 use Rattle.wdl_json.specs.declared.fault.InputFault.TheVariants.{Bad}
 use Rattle.sequential_run.specs.Runs as run
 use Rattle.workflow_cli.specs.declared.asking.Command.{Command}
 use Rattle.workflow_cli.specs.declared.asking.Command.TheVariants as command
-use Rattle.workflow_cli.specs.Asking.{IsCheckOf, IsCommand, IsNotBuilt, IsRunOf, Words, asked, command_of}
-use Rattle.workflow_cli.specs.Causes.{CauseOf, IsAccepted, Names}
-use Rattle.workflow_cli.specs.Complete.{CheckIsComplete, DocumentIsComplete, InputsIsComplete, IsOr, IsSomeDocument, MainIsComplete, MustHave, MustLack, NotBuiltIsComplete, RunIsComplete, UsageIsComplete}
+use Rattle.workflow_cli.specs.Asking.{IsCheckOf, IsCommand, IsCwlOf, IsForInputs, IsForMain, IsNotBuilt, IsRunOf, Words, asked, command_of}
+use Rattle.workflow_cli.specs.Causes.{CauseOf, IsFinished, Names}
+use Rattle.workflow_cli.specs.Complete.{CheckIsComplete, CwlIsComplete, DocumentIsComplete, InputsIsComplete, IsOr, IsSomeDocument, IsSomeExclusion, MainIsComplete, MustGive, MustHave, MustLack, NotBuiltIsComplete, RunIsComplete, UsageIsComplete}
 use Rattle.workflow_cli.specs.Documents.{HasChecked, HasNoMain, IsRefused, Tells}
-use Rattle.workflow_cli.specs.Running.{IsAsked, IsBadInputs, IsDone, IsIdle, IsInputsText, IsStarted, Main, Trace, flow_of}
+use Rattle.workflow_cli.specs.Running.{IsBadInputs, IsInputsText, IsStarted, Main, Trace, flow_of}
+use Rattle.workflow_cli.specs.Translating.{GivesAll, IsCwlText, IsInSubset, IsOutside, IsTranslated}
 use Rattle.workflow_cli.specs.Writing.{IsCut, Told}
 use Rattle.workflow_cli.proofs.Forms.{one_form}
 use Rattle.workflow_cli.proofs.Outcomes.{Outcome}
+use Rattle.workflow_cli.proofs.Works.{for_main}
+use Rattle.workflow_cli.proofs.Excluded.{not_outside}
 
 none_within : {A : Type 0} (x : A) → Contains [] x → ⊥
 none_within x c = omega (arith, c.1)
@@ -42,8 +46,12 @@ same_wants words v w e h = let p = sym e ∙ h in cc
 same_command : (words : Words) (c d : Command) → IsCommand words c → IsCommand words d → c ≡ d
 same_command words c d h k = let p = sym h.built ∙ ap command_of (same_wants words h.wants k.wants h.asked k.asked) ∙ k.built in cc
 
-no_check : (words : Words) (file other : List ℕ) (inputs : Option (List ℕ)) (site : List ℕ) → IsCheckOf words file → IsRunOf words other inputs site → ⊥
-no_check words file other inputs site h k = let e = same_command words (command.Check file) (command.Run other inputs site) h k in cc
+no_check : (words : Words) (file other : List ℕ) (inputs : Option (List ℕ)) → IsCheckOf words file → IsForMain words other inputs → ⊥
+no_check words file other inputs h (inl k) = let e = same_command words (command.Check file) (command.Run other inputs k.0) h k.1 in cc
+no_check words file other inputs h (inr k) = let e = same_command words (command.Check file) (command.Cwl other inputs) h k in cc
+
+no_run : (words : Words) (file other : List ℕ) (inputs others : Option (List ℕ)) (site : List ℕ) → IsCwlOf words file inputs → IsRunOf words other others site → ⊥
+no_run words file other inputs others site h k = let e = same_command words (command.Cwl file inputs) (command.Run other others site) h k in cc
 
 not_both : (words : Words) (c : Command) → IsCommand words c → IsNotBuilt words → ⊥
 not_both words c h k = let p = sym h.built ∙ ap command_of (same_wants words h.wants k.wants h.asked k.asked) ∙ k.missing in cc
@@ -55,22 +63,45 @@ readable words c h e = let p = sym h.asked ∙ e in cc
 abbrev file_of : Command → List ℕ
 file_of (command.Run file inputs root) = file
 file_of (command.Check file) = file
+file_of (command.Cwl file inputs) = file
 
--- a command of these words, which names this file
-record IsNaming (words : Words) (file : List ℕ) : Type 0 where
+-- the inputs that it names
+abbrev inputs_of : Command → Option (List ℕ)
+inputs_of (command.Run file inputs root) = inputs
+inputs_of (command.Check file) = None
+inputs_of (command.Cwl file inputs) = inputs
+
+-- a command of these words, which names this file and these inputs
+record IsNaming (words : Words) (file : List ℕ) (inputs : Option (List ℕ)) : Type 0 where
   command : Command
   is_command : IsCommand words command
   names : file_of command ≡ file
+  reads : inputs_of command ≡ inputs
 
-naming : (words : Words) (file : List ℕ) → Names words file → IsNaming words file
-naming words file (inl h) = record { command = command.Check file; is_command = h; names = refl }
-naming words file (inr h) = record { command = command.Run file h.0 h.1; is_command = h.2; names = refl }
+main_naming : (words : Words) (file : List ℕ) (inputs : Option (List ℕ)) → IsForMain words file inputs → IsNaming words file inputs
+main_naming words file inputs (inl h) = record { command = command.Run file inputs h.0; is_command = h.1; names = refl; reads = refl }
+main_naming words file inputs (inr h) = record { command = command.Cwl file inputs; is_command = h; names = refl; reads = refl }
+
+naming : (words : Words) (file : List ℕ) → Names words file → (inputs : Option (List ℕ)) × IsNaming words file inputs
+naming words file (inl h) = (None, record { command = command.Check file; is_command = h; names = refl; reads = refl })
+naming words file (inr h) = (h.0, main_naming words file h.0 h.1)
 
 one_file : (words : Words) (f g : List ℕ) → Names words f → Names words g → f ≡ g
 one_file words f g h k =
-    let a = naming words f h in
-    let b = naming words g k in
+    let a = (naming words f h).1 in
+    let b = (naming words g k).1 in
     sym a.names ∙ ap file_of (same_command words a.command b.command a.is_command b.is_command) ∙ b.names
+
+one_inputs : (words : Words) (f g : List ℕ) (i j : Option (List ℕ)) → IsForMain words f i → IsForMain words g j → i ≡ j
+one_inputs words f g i j h k =
+    let a = main_naming words f i h in
+    let b = main_naming words g j k in
+    sym a.reads ∙ ap inputs_of (same_command words a.command b.command a.is_command b.is_command) ∙ b.reads
+
+-- a translation reads no inputs where it names none
+named_inputs : (words : Words) (file other : List ℕ) (inputs : Option (List ℕ)) → IsCwlOf words file None → IsForInputs words other inputs → ⊥
+named_inputs words file other inputs h (inl k) = no_run words file other None inputs k.0 h k.1
+named_inputs words file other inputs h (inr k) = let e = same_command words (command.Cwl file None) (command.Cwl other inputs) h k.2 in let p = k.1 in cc
 
 module _ (tells : Tells) (refused : List ℕ → Type 0) (rose : Type 0) (gives : Request → Answer → Type 0) (refuses : Request → Type 0) (words : Words) (t : Trace) where
   abbrev Said : Status → List (List ℕ) → Type 0
@@ -89,23 +120,27 @@ module _ (tells : Tells) (refused : List ℕ → Type 0) (rose : Type 0) (gives 
     unread : (c : Command) → IsCommand words c → rose → Saying r
     unchecked : (code : ℕ) (span : Span) (paths : List (List ℕ)) (file : List ℕ) → r ≡ status.Document code span → Names words file
         → IsRefused tells file code span paths → Saying r
-    mainless : (code : ℕ) (span : Span) (paths : List (List ℕ)) (file : List ℕ) (inputs : Option (List ℕ)) (site : List ℕ)
-        → r ≡ status.Document code span → IsRunOf words file inputs site → HasNoMain tells file code span paths → Saying r
+    mainless : (code : ℕ) (span : Span) (paths : List (List ℕ)) (file : List ℕ) (inputs : Option (List ℕ))
+        → r ≡ status.Document code span → IsForMain words file inputs → HasNoMain tells file code span paths → Saying r
     misfit : (code : ℕ) (name : Option (List ℕ)) → r ≡ status.Inputs code name → IsBadInputs tells words code name → Saying r
+    outside : (rule : ℕ) (span : Span) (paths : List (List ℕ)) → r ≡ status.NotInSubset rule span → IsOutside tells words rule span paths → Saying r
     broken : (m : Main) → IsStarted tells words m → Broke m → Saying r
+
+  inputs_command : (file : List ℕ) (inputs : Option (List ℕ)) → IsForInputs words file inputs → (c : Command) × IsCommand words c
+  inputs_command file inputs h = let n = main_naming words file inputs (for_main words file inputs h) in (n.command, n.is_command)
 
   saying : (r : Status) (paths : List (List ℕ)) → Said r paths → Saying r
   saying status.Ok paths h = absurd h
   saying (status.Failed fault) paths h = broken h.main h.run.started (inl (fault, h.is_fault))
   saying status.Usage paths h = wordless refl h.1
   saying (status.Document code span) paths (idle, inl h) = unchecked code span paths h.file refl h.named h.refused
-  saying (status.Document code span) paths (idle, inr h) = mainless code span paths h.file h.inputs h.site refl h.asked h.mainless
+  saying (status.Document code span) paths (idle, inr h) = mainless code span paths h.file h.inputs refl h.asked h.mainless
   saying (status.Inputs code name) paths h = misfit code name refl h.1
-  saying (status.Read path) paths (idle, inl h) = let n = naming words h.file h.named in unread n.command n.is_command h.unread.counted
-  saying (status.Read path) paths (idle, inr h) = unread (command.Run h.file (Some path) h.site) h.asked h.counted
+  saying (status.Read path) paths (idle, inl h) = let n = (naming words h.file h.named).1 in unread n.command n.is_command h.unread.counted
+  saying (status.Read path) paths (idle, inr h) = let c = inputs_command h.file (Some path) h.asked in unread c.0 c.1 h.counted
   saying status.Write paths h = absurd h
   saying status.NoMemory paths h = starved refl
-  saying (status.NotInSubset rule span) paths h = absurd h
+  saying (status.NotInSubset rule span) paths h = outside rule span paths refl h.1
   saying (status.Launch place) paths h = broken h.main h.run.started (inr (inl (place, h.refused)))
   saying status.Keep paths h = absurd h
   saying status.TooMany paths h = broken h.main h.run.started (inr (inr h.many))
@@ -113,14 +148,15 @@ module _ (tells : Tells) (refused : List ℕ → Type 0) (rose : Type 0) (gives 
 
   -- the work was done
   abbrev Did : List ℕ → Type 0
-  Did text = IsDone tells words gives t text ⊎ (IsIdle t × IsAccepted tells words text)
+  Did = IsFinished tells words gives t
 
   started_command : (m : Main) → IsStarted tells words m → (c : Command) × IsCommand words c
   started_command m h = (command.Run h.asked.file h.asked.inputs m.site, h.asked.asked)
 
   did_command : (text : List ℕ) → Did text → (c : Command) × IsCommand words c
   did_command text (inl h) = started_command h.main h.run.started
-  did_command text (inr h) = (command.Check h.1.file, h.1.asked)
+  did_command text (inr (idle, inl h)) = (command.Check h.file, h.asked)
+  did_command text (inr (idle, inr h)) = (command.Cwl h.file h.inputs, h.asked)
 
   -- words that ask for nothing that is done
   abbrev Undone : Type 0
@@ -135,10 +171,87 @@ module _ (tells : Tells) (refused : List ℕ → Type 0) (rose : Type 0) (gives 
   said_idly undone r (wordless e h) = inr (inl (e, h))
   said_idly undone r (unbuilt e h) = inr (inr (e, h))
   said_idly undone r (unread c h rise) = absurd (undone c h)
-  said_idly undone r (unchecked code span paths file e named h) = let n = naming words file named in absurd (undone n.command n.is_command)
-  said_idly undone r (mainless code span paths file inputs site e asks h) = absurd (undone (command.Run file inputs site) asks)
-  said_idly undone r (misfit code name e h) = absurd (undone (command.Run h.asked.file h.asked.inputs h.site) h.asked.asked)
+  said_idly undone r (unchecked code span paths file e named h) = let n = (naming words file named).1 in absurd (undone n.command n.is_command)
+  said_idly undone r (mainless code span paths file inputs e asks h) = let n = main_naming words file inputs asks in absurd (undone n.command n.is_command)
+  said_idly undone r (misfit code name e h) = let c = inputs_command h.file h.inputs h.asked in absurd (undone c.0 c.1)
+  said_idly undone r (outside rule span paths e h) = absurd (undone (command.Cwl h.file h.inputs) h.asked)
   said_idly undone r (broken m h b) = let c = started_command m h in absurd (undone c.0 c.1)
+
+  -- a document that the words name, its checked form and its main workflow
+  record IsSeen : Type 0 where
+    file : List ℕ
+    inputs : Option (List ℕ)
+    asked : IsForMain words file inputs
+    checked : Checked
+    has : HasChecked tells file checked
+    flow : FlowDef
+    main : main_of checked.flows checked.main ≡ Some flow
+
+  abbrev started_seen : (m : Main) → IsStarted tells words m → IsSeen
+  started_seen m h =
+      record { file = h.asked.file; inputs = h.asked.inputs; asked = inl (m.site, h.asked.asked); checked = m.checked; has = h.asked.checked; flow = m.flow; main = h.asked.main }
+
+  abbrev misfit_seen : (code : ℕ) (name : Option (List ℕ)) → IsBadInputs tells words code name → IsSeen
+  misfit_seen code name h =
+      record { file = h.file; inputs = h.inputs; asked = for_main words h.file h.inputs h.asked; checked = h.checked; has = h.has; flow = h.flow; main = h.main }
+
+  abbrev outside_seen : (rule : ℕ) (span : Span) (paths : List (List ℕ)) → IsOutside tells words rule span paths → IsSeen
+  outside_seen rule span paths h =
+      let o = h.outside in
+      let l = o.source.located in
+      record {
+        file = h.file;
+        inputs = h.inputs;
+        asked = inr h.asked;
+        checked = o.checked;
+        has = record { lib = l.lib; has = l.has; is_typed = l.is_typed };
+        flow = o.flow;
+        main = o.source.main;
+      }
+
+  -- a translation, by its number and the inputs that it read
+  record IsMade (file : List ℕ) (inputs : Option (List ℕ)) : Type 0 where
+    checked : Checked
+    has : HasChecked tells file checked
+    number : ℕ
+    numbered : checked.main ≡ Some number
+    flow : FlowDef
+    main : main_of checked.flows checked.main ≡ Some flow
+    given : GivesAll tells inputs checked flow
+    in_subset : IsInSubset checked number
+
+  abbrev made : (file : List ℕ) (inputs : Option (List ℕ)) (text : List ℕ) → IsCwlText tells file inputs text → IsMade file inputs
+  made file None text h =
+      let l = h.source.located in
+      record {
+        checked = h.checked;
+        has = record { lib = l.lib; has = l.has; is_typed = l.is_typed };
+        number = h.number;
+        numbered = h.source.numbered;
+        flow = h.flow;
+        main = h.source.main;
+        given = tt;
+        in_subset = h.in_subset;
+      }
+  made file (Some path) text h =
+      let l = h.source.located in
+      record {
+        checked = h.checked;
+        has = record { lib = l.lib; has = l.has; is_typed = l.is_typed };
+        number = h.number;
+        numbered = h.source.numbered;
+        flow = h.flow;
+        main = h.source.main;
+        given = (h.read, h.given, h.is_read, h.reads);
+        in_subset = h.in_subset;
+      }
+
+  abbrev made_of : (text : List ℕ) (h : IsTranslated tells words text) → IsMade h.file h.inputs
+  made_of text h = made h.file h.inputs text h.is_text
+
+  abbrev translated_seen : (text : List ℕ) → IsTranslated tells words text → IsSeen
+  translated_seen text h =
+      let m = made_of text h in record { file = h.file; inputs = h.inputs; asked = inr h.asked; checked = m.checked; has = m.has; flow = m.flow; main = m.main }
 
   module _ (out out' err err' : Told) (rose_out rose_err : Type 0) where
     abbrev Ends : Status → Type 0
@@ -208,34 +321,39 @@ module _ (tells : Tells) (refused : List ℕ → Type 0) (rose : Type 0) (gives 
         let e = sym (lack has.has.files has.lib.docs has.lib.structs has.has.told has.has.library) ∙ has.is_typed in
         cc
 
-    started_names : (m : Main) (h : IsStarted tells words m) → Names words h.asked.file
-    started_names m h = inr (h.asked.inputs, m.site, h.asked.asked)
-
     pub document_complete : (r : Status) → Ends r → DocumentIsComplete tells words rose (rose_out ⊎ rose_err) r
     document_complete r o file named lack no_rise cut = by_cases (settled cut r o)
       where
-        lacks : (other : List ℕ) (c : Checked) → Names words other → HasChecked tells other c → ⊥
-        lacks other c names h = not_checked file other c lack named names h
+        unseen : IsSeen → ⊥
+        unseen s = not_checked file s.file s.checked lack named (inr (s.inputs, s.asked)) s.has
+
+        own : Command
+        own = (naming words file named).1.command
+
+        is_own : IsCommand words own
+        is_own = (naming words file named).1.is_command
 
         by_cases : Settled r → IsSomeDocument r ⊎ (r ≡ status.NoMemory)
-        by_cases (inl (e, (text, inl h))) = absurd (lacks h.run.started.asked.file h.main.checked (started_names h.main h.run.started) h.run.started.asked.checked)
-        by_cases (inl (e, (text, inr h))) = absurd (lacks h.1.file h.1.checked (inl h.1.asked) h.1.has)
+        by_cases (inl (e, (text, inl h))) = absurd (unseen (started_seen h.main h.run.started))
+        by_cases (inl (e, (text, inr (idle, inl h)))) = absurd (not_checked file h.file h.checked lack named (inl h.asked) h.has)
+        by_cases (inl (e, (text, inr (idle, inr h)))) = absurd (unseen (translated_seen text h))
         by_cases (inr (starved e)) = inr e
-        by_cases (inr (wordless e n)) = let c = naming words file named in absurd (readable words c.command c.is_command n)
-        by_cases (inr (unbuilt e n)) = let c = naming words file named in absurd (not_both words c.command c.is_command n)
+        by_cases (inr (wordless e n)) = absurd (readable words own is_own n)
+        by_cases (inr (unbuilt e n)) = absurd (not_both words own is_own n)
         by_cases (inr (unread c k rise)) = absurd (no_rise rise)
         by_cases (inr (unchecked code span paths other e names h)) = inl (code, span, e)
-        by_cases (inr (mainless code span paths other inputs site e asks h)) = inl (code, span, e)
-        by_cases (inr (misfit code name e h)) = absurd (lacks h.asked.file h.checked (inr (h.asked.inputs, h.site, h.asked.asked)) h.asked.checked)
-        by_cases (inr (broken m h b)) = absurd (lacks h.asked.file m.checked (started_names m h) h.asked.checked)
+        by_cases (inr (mainless code span paths other inputs e asks h)) = inl (code, span, e)
+        by_cases (inr (misfit code name e h)) = absurd (unseen (misfit_seen code name h))
+        by_cases (inr (outside rule span paths e h)) = absurd (unseen (outside_seen rule span paths h))
+        by_cases (inr (broken m h b)) = absurd (unseen (started_seen m h))
 
     -- ---- a check
 
     pub check_complete : (r : Status) → Ends r → CheckIsComplete tells words rose (rose_out ⊎ rose_err) r
     check_complete r o file c asks must no_rise cut = by_cases (settled cut r o)
       where
-        no_run : (other : List ℕ) (inputs : Option (List ℕ)) (site : List ℕ) → IsRunOf words other inputs site → ⊥
-        no_run other inputs site k = no_check words file other inputs site asks k
+        unseen : IsSeen → ⊥
+        unseen s = no_check words file s.file s.inputs asks s.asked
 
         by_cases : Settled r → IsOr status.Ok r
         by_cases (inl d) = inl d.0
@@ -245,125 +363,147 @@ module _ (tells : Tells) (refused : List ℕ → Type 0) (rose : Type 0) (gives 
         by_cases (inr (unread d k rise)) = absurd (no_rise rise)
         by_cases (inr (unchecked code span paths other e names h)) =
             absurd (not_refused file c must code span paths (subst (λ f. IsRefused tells f code span paths) (one_file words other file names (inl asks)) h))
-        by_cases (inr (mainless code span paths other inputs site e k h)) = absurd (no_run other inputs site k)
-        by_cases (inr (misfit code name e h)) = absurd (no_run h.asked.file h.asked.inputs h.site h.asked.asked)
-        by_cases (inr (broken m h b)) = absurd (no_run h.asked.file h.asked.inputs m.site h.asked.asked)
+        by_cases (inr (mainless code span paths other inputs e k h)) = absurd (no_check words file other inputs asks k)
+        by_cases (inr (misfit code name e h)) = absurd (unseen (misfit_seen code name h))
+        by_cases (inr (outside rule span paths e h)) = absurd (unseen (outside_seen rule span paths h))
+        by_cases (inr (broken m h b)) = absurd (unseen (started_seen m h))
 
-    -- ---- a run
+    -- ---- a document that must have a checked form, for its main workflow
 
-    module _ (file : List ℕ) (inputs : Option (List ℕ)) (site : List ℕ) (c : Checked) (asks : IsRunOf words file inputs site) (must : MustHave tells file c) where
-      run_names : Names words file
-      run_names = inr (inputs, site, asks)
+    module _ (file : List ℕ) (inputs : Option (List ℕ)) (c : Checked) (asks : IsForMain words file inputs) (must : MustHave tells file c) where
+      abbrev own : Command
+      own = (main_naming words file inputs asks).command
 
-      -- what another run of these words has
-      record IsSame (d : Checked) (text : List ℕ) (place : List ℕ) : Type 0 where
-        is_checked : d ≡ c
-        is_site : place ≡ site
-        is_text : IsInputsText tells inputs text
+      is_own : IsCommand words own
+      is_own = (main_naming words file inputs asks).is_command
 
-      same : (d : Checked) (f : FlowDef) (text place : List ℕ) → IsAsked tells words d f text place → IsSame d text place
-      same d f text place h =
-          let e = same_command words (command.Run h.file h.inputs place) (command.Run file inputs site) h.asked asks in
-          let one_file : h.file ≡ file = cc in
-          let one_inputs : h.inputs ≡ inputs = cc in
-          let one_site : place ≡ site = cc in
-          record {
-            is_checked = must_be file c d must (subst (λ x. HasChecked tells x d) one_file h.checked);
-            is_site = one_site;
-            is_text = subst (λ i. IsInputsText tells i text) one_inputs h.is_text;
-          }
+      same_file : (s : IsSeen) → s.file ≡ file
+      same_file s = one_file words s.file file (inr (s.inputs, s.asked)) (inr (inputs, asks))
 
-      -- the main workflow of such a run
-      same_main : (d : Checked) (f : FlowDef) (text place : List ℕ) → IsAsked tells words d f text place → main_of c.flows c.main ≡ Some f
-      same_main d f text place h =
-          let s = same d f text place h in
-          sym (ap (λ (x : Checked). main_of x.flows x.main) s.is_checked) ∙ h.main
+      same_checked : (s : IsSeen) → s.checked ≡ c
+      same_checked s = must_be file c s.checked must (subst (λ f. HasChecked tells f s.checked) (same_file s) s.has)
+
+      -- the main workflow of what the words name
+      same_main : (s : IsSeen) → main_of c.flows c.main ≡ Some s.flow
+      same_main s = sym (ap (λ (x : Checked). main_of x.flows x.main) (same_checked s)) ∙ s.main
 
       not_checked_yet : (code : ℕ) (span : Span) (paths : List (List ℕ)) (other : List ℕ) → Names words other → IsRefused tells other code span paths → ⊥
       not_checked_yet code span paths other names h =
-          not_refused file c must code span paths (subst (λ f. IsRefused tells f code span paths) (one_file words other file names run_names) h)
+          not_refused file c must code span paths (subst (λ f. IsRefused tells f code span paths) (one_file words other file names (inr (inputs, asks))) h)
 
-      no_accept : (text : List ℕ) → IsAccepted tells words text → ⊥
-      no_accept text h = no_check words h.file file inputs site h.asked asks
-
-      mainless_form : (code : ℕ) (span : Span) (paths : List (List ℕ)) (other : List ℕ) (place : List ℕ) (given : Option (List ℕ))
-          → IsRunOf words other given place → HasNoMain tells other code span paths → main_of c.flows c.main ≡ None
-      mainless_form code span paths other place given k h =
-          let has = subst (λ f. HasChecked tells f h.checked) (one_file words other file (inr (given, place, k)) run_names) h.has in
+      mainless_form : (code : ℕ) (span : Span) (paths : List (List ℕ)) (other : List ℕ) (given : Option (List ℕ))
+          → IsForMain words other given → HasNoMain tells other code span paths → main_of c.flows c.main ≡ None
+      mainless_form code span paths other given k h =
+          let has = subst (λ f. HasChecked tells f h.checked) (one_file words other file (inr (given, k)) (inr (inputs, asks))) h.has in
           sym (ap (λ (x : Checked). main_of x.flows x.main) (must_be file c h.checked must has)) ∙ h.none
 
       module _ (none : main_of c.flows c.main ≡ None) (no_rise : ¬ rose) (r : Status) where
         abbrev Mainless : Status
         Mainless = status.Document 327 (record { doc = 0; start = 0; end = 0 })
 
-        no_main : (d : Checked) (f : FlowDef) (text place : List ℕ) → IsAsked tells words d f text place → ⊥
-        no_main d f text place h = let e = sym none ∙ same_main d f text place h in cc
+        unseen : IsSeen → ⊥
+        unseen s = let e = sym none ∙ same_main s in cc
 
         main_said : Settled r → IsOr Mainless r
-        main_said (inl (e, (text, inl h))) = absurd (no_main h.main.checked h.main.flow h.run.started.text h.main.site h.run.started.asked)
-        main_said (inl (e, (text, inr h))) = absurd (no_accept text h.1)
+        main_said (inl (e, (text, inl h))) = absurd (unseen (started_seen h.main h.run.started))
+        main_said (inl (e, (text, inr (idle, inl h)))) = absurd (no_check words h.file file inputs h.asked asks)
+        main_said (inl (e, (text, inr (idle, inr h)))) = absurd (unseen (translated_seen text h))
         main_said (inr (starved e)) = inr e
-        main_said (inr (wordless e n)) = absurd (readable words (command.Run file inputs site) asks n)
-        main_said (inr (unbuilt e n)) = absurd (not_both words (command.Run file inputs site) asks n)
+        main_said (inr (wordless e n)) = absurd (readable words own is_own n)
+        main_said (inr (unbuilt e n)) = absurd (not_both words own is_own n)
         main_said (inr (unread d k rise)) = absurd (no_rise rise)
         main_said (inr (unchecked code span paths other e names h)) = absurd (not_checked_yet code span paths other names h)
-        main_said (inr (mainless code span paths other given place e k h)) =
+        main_said (inr (mainless code span paths other given e k h)) =
             inl (e ∙ ap (λ x. status.Document x span) h.is_code ∙ ap (status.Document 327) h.is_span)
-        main_said (inr (misfit code name e h)) = absurd (no_main h.checked h.flow h.text h.site h.asked)
-        main_said (inr (broken m h b)) = absurd (no_main m.checked m.flow h.text m.site h.asked)
+        main_said (inr (misfit code name e h)) = absurd (unseen (misfit_seen code name h))
+        main_said (inr (outside rule span paths e h)) = absurd (unseen (outside_seen rule span paths h))
+        main_said (inr (broken m h b)) = absurd (unseen (started_seen m h))
 
       module _ (f : FlowDef) (main : main_of c.flows c.main ≡ Some f) where
-        is_main : (d : Checked) (g : FlowDef) (text place : List ℕ) → IsAsked tells words d g text place → g ≡ f
-        is_main d g text place h = let e = sym (same_main d g text place h) ∙ main in cc
+        is_main : (s : IsSeen) → s.flow ≡ f
+        is_main s = let e = sym (same_main s) ∙ main in cc
 
-        -- the inputs that such a run reads
-        read_same : (d : Checked) (g : FlowDef) (text place : List ℕ) → IsAsked tells words d g text place → inputs_in d.structs g text ≡ inputs_in c.structs f text
-        read_same d g text place h =
-            let s = same d g text place h in
-            ap (λ (x : Checked). inputs_in x.structs g text) s.is_checked ∙ ap (λ x. inputs_in c.structs x text) (is_main d g text place h)
+        has_main : (code : ℕ) (span : Span) (paths : List (List ℕ)) (other : List ℕ) (given : Option (List ℕ))
+            → IsForMain words other given → HasNoMain tells other code span paths → ⊥
+        has_main code span paths other given k h = let e = sym (mainless_form code span paths other given k h) ∙ main in cc
 
-        has_main : (code : ℕ) (span : Span) (paths : List (List ℕ)) (other : List ℕ) (place : List ℕ) (given : Option (List ℕ))
-            → IsRunOf words other given place → HasNoMain tells other code span paths → ⊥
-        has_main code span paths other place given k h = let e = sym (mainless_form code span paths other place given k h) ∙ main in cc
+        -- the inputs that are read
+        read_same : (s : IsSeen) (text : List ℕ) → inputs_in s.checked.structs s.flow text ≡ inputs_in c.structs f text
+        read_same s text = ap (λ (x : Checked). inputs_in x.structs s.flow text) (same_checked s) ∙ ap (λ x. inputs_in c.structs x text) (is_main s)
 
-        module _ (code : ℕ) (name : Option (List ℕ)) (reads : (text : List ℕ) → IsInputsText tells inputs text → inputs_in c.structs f text ≡ Err (Bad code name))
-            (no_rise : ¬ rose) (r : Status) where
-          reads_bad : (d : Checked) (g : FlowDef) (text place : List ℕ) → IsAsked tells words d g text place → inputs_in d.structs g text ≡ Err (Bad code name)
-          reads_bad d g text place h = read_same d g text place h ∙ reads text (same d g text place h).is_text
+        text_same : (s : IsSeen) (text : List ℕ) → IsInputsText tells s.inputs text → IsInputsText tells inputs text
+        text_same s text h = subst (λ i. IsInputsText tells i text) (one_inputs words s.file file s.inputs inputs s.asked asks) h
 
-          not_started : (m : Main) → IsStarted tells words m → ⊥
-          not_started m h = let e = sym h.reads ∙ reads_bad m.checked m.flow h.text m.site h.asked in cc
+        -- inputs that are given, where all texts of them give the same
+        given_as : (s : IsSeen) (text : List ℕ) (x : Result (List Bind) InputFault) → ((text : List ℕ) → IsInputsText tells inputs text → inputs_in c.structs f text ≡ x)
+            → IsInputsText tells s.inputs text → inputs_in s.checked.structs s.flow text ≡ x
+        given_as s text x reads h = read_same s text ∙ reads text (text_same s text h)
 
-          inputs_said : Settled r → IsOr (status.Inputs code name) r
-          inputs_said (inl (e, (text, inl h))) = absurd (not_started h.main h.run.started)
-          inputs_said (inl (e, (text, inr h))) = absurd (no_accept text h.1)
-          inputs_said (inr (starved e)) = inr e
-          inputs_said (inr (wordless e n)) = absurd (readable words (command.Run file inputs site) asks n)
-          inputs_said (inr (unbuilt e n)) = absurd (not_both words (command.Run file inputs site) asks n)
-          inputs_said (inr (unread d k rise)) = absurd (no_rise rise)
-          inputs_said (inr (unchecked at span paths other e names h)) = absurd (not_checked_yet at span paths other names h)
-          inputs_said (inr (mainless at span paths other given place e k h)) = absurd (has_main at span paths other place given k h)
-          inputs_said (inr (misfit at who e h)) = let p = sym h.refused ∙ reads_bad h.checked h.flow h.text h.site h.asked in let q : status.Inputs at who ≡ status.Inputs code name = cc in inl (e ∙ q)
-          inputs_said (inr (broken m h b)) = absurd (not_started m h)
+    -- ---- inputs that must break a rule
+
+    module _ (file : List ℕ) (inputs : Option (List ℕ)) (c : Checked) (reads_in : IsForInputs words file inputs) (must : MustHave tells file c)
+        (f : FlowDef) (main : main_of c.flows c.main ≡ Some f) (code : ℕ) (name : Option (List ℕ))
+        (reads : (text : List ℕ) → IsInputsText tells inputs text → inputs_in c.structs f text ≡ Err (Bad code name)) (no_rise : ¬ rose) (r : Status) where
+      abbrev for_inputs : IsForMain words file inputs
+      for_inputs = for_main words file inputs reads_in
+
+      fails : (s : IsSeen) (text : List ℕ) → IsInputsText tells s.inputs text → inputs_in s.checked.structs s.flow text ≡ Err (Bad code name)
+      fails s text h = given_as file inputs c for_inputs must f main s text (Err (Bad code name)) reads h
+
+      ungiven : (s : IsSeen) → GivesAll tells s.inputs s.checked s.flow → IsCwlOf words s.file s.inputs → ⊥
+      ungiven s g k = by_inputs s.inputs refl g k
+        where
+          by_inputs : (i : Option (List ℕ)) → s.inputs ≡ i → GivesAll tells i s.checked s.flow → IsCwlOf words s.file i → ⊥
+          by_inputs None e h k = named_inputs words s.file file inputs k reads_in
+          by_inputs (Some path) e h k = let p = sym h.3 ∙ fails s h.0 (subst (λ x. IsInputsText tells x h.0) (sym e) h.2) in cc
+
+      not_started : (m : Main) → IsStarted tells words m → ⊥
+      not_started m h = let e = sym h.reads ∙ fails (started_seen m h) h.text h.asked.is_text in cc
+
+      inputs_said : Settled r → IsOr (status.Inputs code name) r
+      inputs_said (inl (e, (text, inl h))) = absurd (not_started h.main h.run.started)
+      inputs_said (inl (e, (text, inr (idle, inl h)))) = absurd (no_check words h.file file inputs h.asked for_inputs)
+      inputs_said (inl (e, (text, inr (idle, inr h)))) = absurd (ungiven (translated_seen text h) (made_of text h).given h.asked)
+      inputs_said (inr (starved e)) = inr e
+      inputs_said (inr (wordless e n)) = absurd (readable words (own file inputs c for_inputs must) (is_own file inputs c for_inputs must) n)
+      inputs_said (inr (unbuilt e n)) = absurd (not_both words (own file inputs c for_inputs must) (is_own file inputs c for_inputs must) n)
+      inputs_said (inr (unread d k rise)) = absurd (no_rise rise)
+      inputs_said (inr (unchecked at span paths other e names h)) = absurd (not_checked_yet file inputs c for_inputs must at span paths other names h)
+      inputs_said (inr (mainless at span paths other given e k h)) = absurd (has_main file inputs c for_inputs must f main at span paths other given k h)
+      inputs_said (inr (misfit at who e h)) =
+          let p = sym h.refused ∙ fails (misfit_seen at who h) h.text h.is_text in let q : status.Inputs at who ≡ status.Inputs code name = cc in inl (e ∙ q)
+      inputs_said (inr (outside rule span paths e h)) = absurd (ungiven (outside_seen rule span paths h) h.outside.given h.asked)
+      inputs_said (inr (broken m h b)) = absurd (not_started m h)
 
     pub main_complete : (r : Status) → Ends r → MainIsComplete tells words rose (rose_out ⊎ rose_err) r
-    main_complete r o file inputs site c asks must none no_rise cut = main_said file inputs site c asks must none no_rise r (settled cut r o)
+    main_complete r o file inputs c asks must none no_rise cut = main_said file inputs c asks must none no_rise r (settled cut r o)
 
     pub inputs_complete : (r : Status) → Ends r → InputsIsComplete tells words rose (rose_out ⊎ rose_err) r
-    inputs_complete r o file inputs site c f code name asks must main reads no_rise cut = inputs_said file inputs site c asks must f main code name reads no_rise r (settled cut r o)
+    inputs_complete r o file inputs c f code name asks must main reads no_rise cut = inputs_said file inputs c asks must f main code name reads no_rise r (settled cut r o)
 
-    module _ (file : List ℕ) (inputs : Option (List ℕ)) (m : Main) (asks : IsRunOf words file inputs m.site) (must : MustHave tells file m.checked)
+    -- ---- a run
+
+    module _ (file : List ℕ) (inputs : Option (List ℕ)) (m : Main) (asks_run : IsRunOf words file inputs m.site) (must : MustHave tells file m.checked)
         (main : main_of m.checked.flows m.checked.main ≡ Some m.flow) (reads : (text : List ℕ) → IsInputsText tells inputs text → inputs_in m.checked.structs m.flow text ≡ Ok m.given)
         (no_rise : ¬ rose) (launches : (q : Request) → Contains (flow_of m t.journal).jobs q → ¬ (refuses q)) (none : (flow_of m t.journal).faults ≡ [])
         (few : too_many (flow_of m t.journal) ≡ false) (r : Status) where
+      abbrev for_run : IsForMain words file inputs
+      for_run = inl (m.site, asks_run)
+
+      succeeds : (s : IsSeen) (text : List ℕ) → IsInputsText tells s.inputs text → inputs_in s.checked.structs s.flow text ≡ Ok m.given
+      succeeds s text h = given_as file inputs m.checked for_run must m.flow main s text (Ok m.given) reads h
+
+      one_site : (n : Main) (h : IsStarted tells words n) → n.site ≡ m.site
+      one_site n h = let e = same_command words (command.Run h.asked.file h.asked.inputs n.site) (command.Run file inputs m.site) h.asked.asked asks_run in cc
+
       one_main : (n : Main) → IsStarted tells words n → n ≡ m
       one_main n h =
-          let s = same file inputs m.site m.checked asks must n.checked n.flow h.text n.site h.asked in
-          let one_flow = is_main file inputs m.site m.checked asks must m.flow main n.checked n.flow h.text n.site h.asked in
-          let e = sym h.reads ∙ read_same file inputs m.site m.checked asks must m.flow main n.checked n.flow h.text n.site h.asked ∙ reads h.text s.is_text in
+          let s = started_seen n h in
+          let e = sym h.reads ∙ succeeds s h.text h.asked.is_text in
           let one_given : n.given ≡ m.given = cc in
-          ap (λ (x : Checked). make x n.flow n.given n.site) s.is_checked ∙ ap (λ x. make m.checked x n.given n.site) one_flow
-          ∙ ap (λ x. make m.checked m.flow x n.site) one_given ∙ ap (λ x. make m.checked m.flow m.given x) s.is_site
+          ap (λ (x : Checked). make x n.flow n.given n.site) (same_checked file inputs m.checked for_run must s)
+          ∙ ap (λ x. make m.checked x n.given n.site) (is_main file inputs m.checked for_run must m.flow main s)
+          ∙ ap (λ x. make m.checked m.flow x n.site) one_given ∙ ap (λ x. make m.checked m.flow m.given x) (one_site n h)
         where
           make : Checked → FlowDef → List Bind → List ℕ → Main
           make c f g s = record { checked = c; flow = f; given = g; site = s }
@@ -376,17 +516,78 @@ module _ (tells : Tells) (refused : List ℕ → Type 0) (rose : Type 0) (gives 
       run_said : Settled r → IsOr status.Ok r
       run_said (inl d) = inl d.0
       run_said (inr (starved e)) = inr e
-      run_said (inr (wordless e n)) = absurd (readable words (command.Run file inputs m.site) asks n)
-      run_said (inr (unbuilt e n)) = absurd (not_both words (command.Run file inputs m.site) asks n)
+      run_said (inr (wordless e n)) = absurd (readable words (command.Run file inputs m.site) asks_run n)
+      run_said (inr (unbuilt e n)) = absurd (not_both words (command.Run file inputs m.site) asks_run n)
       run_said (inr (unread d k rise)) = absurd (no_rise rise)
-      run_said (inr (unchecked code span paths other e names h)) = absurd (not_checked_yet file inputs m.site m.checked asks must code span paths other names h)
-      run_said (inr (mainless code span paths other given place e k h)) = absurd (has_main file inputs m.site m.checked asks must m.flow main code span paths other place given k h)
-      run_said (inr (misfit code name e h)) =
-          let s = same file inputs m.site m.checked asks must h.checked h.flow h.text h.site h.asked in
-          let p = sym h.refused ∙ read_same file inputs m.site m.checked asks must m.flow main h.checked h.flow h.text h.site h.asked ∙ reads h.text s.is_text in
-          cc
+      run_said (inr (unchecked code span paths other e names h)) = absurd (not_checked_yet file inputs m.checked for_run must code span paths other names h)
+      run_said (inr (mainless code span paths other given e k h)) = absurd (has_main file inputs m.checked for_run must m.flow main code span paths other given k h)
+      run_said (inr (misfit code name e h)) = let p = sym h.refused ∙ succeeds (misfit_seen code name h) h.text h.is_text in cc
+      run_said (inr (outside rule span paths e h)) = absurd (no_run words h.file file h.inputs inputs m.site h.asked asks_run)
       run_said (inr (broken n h b)) = absurd (not_broken (subst Broke (one_main n h) b))
 
     pub run_complete : (r : Status) → Ends r → RunIsComplete tells words refuses rose (rose_out ⊎ rose_err) t r
     run_complete r o file inputs m asks must main reads no_rise cut launches none few =
         run_said file inputs m asks must main reads no_rise launches none few r (settled cut r o)
+
+    -- ---- a translation
+
+    module _ (file : List ℕ) (inputs : Option (List ℕ)) (c : Checked) (number : ℕ) (f : FlowDef) (asks_cwl : IsCwlOf words file inputs) (must : MustHave tells file c)
+        (numbered : c.main ≡ Some number) (main : main_of c.flows c.main ≡ Some f) (gives_all : MustGive tells inputs c f) (no_rise : ¬ rose) (r : Status) where
+      abbrev for_cwl : IsForMain words file inputs
+      for_cwl = inr asks_cwl
+
+      same_number : (s : IsSeen) (k : ℕ) → s.checked.main ≡ Some k → k ≡ number
+      same_number s k e = let p = sym e ∙ ap (λ (x : Checked). x.main) (same_checked file inputs c for_cwl must s) ∙ numbered in cc
+
+      same_subset : (s : IsSeen) (k : ℕ) → s.checked.main ≡ Some k → IsInSubset s.checked k → IsInSubset c number
+      same_subset s k e h =
+          subst (λ n. IsInSubset c n) (same_number s k e) (subst (λ x. IsInSubset x k) (same_checked file inputs c for_cwl must s) h)
+
+      -- the inputs break no rule
+      fits : (code : ℕ) (name : Option (List ℕ)) → IsBadInputs tells words code name → ⊥
+      fits code name h = by_inputs inputs refl gives_all
+        where
+          by_inputs : (i : Option (List ℕ)) → inputs ≡ i → MustGive tells i c f → ⊥
+          by_inputs None e g = named_inputs words file h.file h.inputs (subst (IsCwlOf words file) e asks_cwl) h.asked
+          by_inputs (Some path) e g =
+              let all : (text : List ℕ) → IsInputsText tells inputs text → inputs_in c.structs f text ≡ Ok g.0 = λ text k. g.1 text (subst (λ i. IsInputsText tells i text) e k) in
+              let p = sym h.refused ∙ given_as file inputs c for_cwl must f main (misfit_seen code name h) h.text (Ok g.0) all h.is_text in
+              cc
+
+      -- what comes of it
+      abbrev Comes : Type 0
+      Comes = ((r ≡ status.Ok) × IsInSubset c number) ⊎ ((r ≡ status.NoMemory) ⊎ (IsSomeExclusion r × ¬ (IsInSubset c number)))
+
+      cwl_said : Settled r → Comes
+      cwl_said (inl (e, (text, inl h))) = absurd (no_run words file h.run.started.asked.file inputs h.run.started.asked.inputs h.main.site asks_cwl h.run.started.asked.asked)
+      cwl_said (inl (e, (text, inr (idle, inl h)))) = absurd (no_check words h.file file inputs h.asked for_cwl)
+      cwl_said (inl (e, (text, inr (idle, inr h)))) = let m = made_of text h in inl (e, same_subset (translated_seen text h) m.number m.numbered m.in_subset)
+      cwl_said (inr (starved e)) = inr (inl e)
+      cwl_said (inr (wordless e n)) = absurd (readable words (command.Cwl file inputs) asks_cwl n)
+      cwl_said (inr (unbuilt e n)) = absurd (not_both words (command.Cwl file inputs) asks_cwl n)
+      cwl_said (inr (unread d k rise)) = absurd (no_rise rise)
+      cwl_said (inr (unchecked code span paths other e names h)) = absurd (not_checked_yet file inputs c for_cwl must code span paths other names h)
+      cwl_said (inr (mainless code span paths other given e k h)) = absurd (has_main file inputs c for_cwl must f main code span paths other given k h)
+      cwl_said (inr (misfit code name e h)) = absurd (fits code name h)
+      cwl_said (inr (outside rule span paths e h)) =
+          let o = h.outside in
+          let s = outside_seen rule span paths h in
+          let is_checked = same_checked file inputs c for_cwl must s in
+          let is_number = same_number s o.number o.source.numbered in
+          inr (inr ((rule, span, e), λ k. not_outside o.checked o.number rule span o.lowest (subst (λ n. IsInSubset o.checked n) (sym is_number) (subst (λ x. IsInSubset x number) (sym is_checked) k))))
+      cwl_said (inr (broken m h b)) = absurd (no_run words file h.asked.file inputs h.asked.inputs m.site asks_cwl h.asked.asked)
+
+      within : Comes → IsInSubset c number → IsOr status.Ok r
+      within (inl h) k = inl h.0
+      within (inr (inl h)) k = inr h
+      within (inr (inr h)) k = absurd (h.1 k)
+
+      beyond : Comes → ¬ (IsInSubset c number) → IsSomeExclusion r ⊎ (r ≡ status.NoMemory)
+      beyond (inl h) k = absurd (k h.1)
+      beyond (inr (inl h)) k = inr h
+      beyond (inr (inr h)) k = inl h.0
+
+    pub cwl_complete : (r : Status) → Ends r → CwlIsComplete tells words rose (rose_out ⊎ rose_err) r
+    cwl_complete r o file inputs c number f asks must numbered main gives_all no_rise cut =
+        let said = cwl_said file inputs c number f asks must numbered main gives_all no_rise r (settled cut r o) in
+        (within file inputs c number f asks must numbered main gives_all no_rise r said, beyond file inputs c number f asks must numbered main gives_all no_rise r said)

@@ -5,8 +5,9 @@ use Rattle.report_text.specs.declared.status.Status.TheVariants as status
 use Rattle.wdl_library.specs.declared.library.Library.{Library}
 use Rattle.wdl_typed.specs.declared.checked.Checked.{Checked}
 use Rattle.wdl_imports.specs.Libraries.{HasLibrary}
+use Rattle.workflow_cli.specs.declared.checking.Located.{Located}
 use Rattle.workflow_cli.specs.declared.ended.Stop.{Stop}
-use Rattle.workflow_cli.specs.Documents.{Checks, CheckStops, Tells, Types, TypeStops}
+use Rattle.workflow_cli.specs.Documents.{Checks, CheckStops, Locates, LocatesIn, Tells, Types, TypeStops}
 
 module _ (tells : Tells) (root : List ℕ) (refused : List ℕ → Type 0) (rose : Type 0) (lib : Library) (h : HasLibrary tells root lib) where
   stops : (s : Status) (paths : List (List ℕ)) → TypeStops lib s paths → CheckStops tells root refused rose s paths
@@ -27,3 +28,7 @@ module _ (tells : Tells) (root : List ℕ) (refused : List ℕ → Type 0) (rose
   pub checks : (r : Result Checked Stop) → Types lib r → Checks tells root refused rose r
   checks (Ok c) t = record { lib = lib; has = h; is_typed = t }
   checks (Err stop) t = stops stop.status stop.paths t
+
+  pub locates : (r : Result Located Stop) → LocatesIn lib r → Locates tells root refused rose r
+  locates (Ok l) t = record { lib = lib; has = h; is_typed = t.0; named = t.1 }
+  locates (Err stop) t = stops stop.status stop.paths t

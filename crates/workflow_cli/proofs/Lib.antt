@@ -1,6 +1,7 @@
 mod ToldLemmas
 mod Works
 mod Outcomes
+mod Excluded
 mod Completes
 mod Paths
 mod Joined

@@ -14,7 +14,7 @@ use Rattle.workflow_cli.specs.Asking.{Words}
 use Rattle.workflow_cli.specs.Causes.{Cause, CauseOf, IsBuilt}
 use Rattle.workflow_cli.specs.Documents.{Tells}
 use Rattle.workflow_cli.specs.Running.{Trace}
-use Rattle.workflow_cli.specs.Writing.{Finishes, IsCut, IsReported, IsWritten, Lines, Reports, Told}
+use Rattle.workflow_cli.specs.Writing.{Finishes, IsCut, IsExcluded, IsReported, IsWritten, Lines, Reports, Told}
 
 -- a status with a line and nothing else
 abbrev has_line : Status → Bool
@@ -82,8 +82,12 @@ module _ (tells : Tells) (refused : List ℕ → Type 0) (rose : Type 0) (gives 
   document r o code span e =
       let h = line_told r o (status.Document code span) refl e in record { paths = h.paths; idle = h.cause.0; bad = h.cause.1; nothing = h.nothing; line = h.line }
 
+  pub excluded : (r : Status) → Outcome r → (rule : ℕ) (span : Span) → r ≡ status.NotInSubset rule span → IsExcluded tells words gives t out out' err err' rule span
+  excluded r o rule span e =
+      let h = line_told r o (status.NotInSubset rule span) refl e in record { paths = h.paths; idle = h.cause.0; outside = h.cause.1; nothing = h.nothing; line = h.line }
+
   built_by : (r : Status) (paths : List (List ℕ)) → CauseOf tells refused rose gives refuses words t r paths → IsBuilt r
-  built_by (status.NotInSubset rule span) paths h = h
+  built_by (status.NotInSubset rule span) paths h = tt
   built_by status.Keep paths h = h
   built_by status.Ok paths h = tt
   built_by (status.Failed fault) paths h = tt
@@ -106,7 +110,7 @@ module _ (tells : Tells) (refused : List ℕ → Type 0) (rose : Type 0) (gives 
   lines_by status.Ok h = tt
   lines_by status.Write h = tt
   lines_by (status.Document code span) h = tt
-  lines_by (status.NotInSubset rule span) h = absurd h.cause
+  lines_by (status.NotInSubset rule span) h = tt
   lines_by (status.Failed fault) h = (h.nothing, h.line)
   lines_by status.Usage h = (h.nothing, h.line)
   lines_by (status.Inputs code name) h = (h.nothing, h.line)

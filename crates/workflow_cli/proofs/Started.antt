@@ -1,5 +1,5 @@
 -- What a run starts with, over two calls of the shelf.
-use Rattle.std.proofs.Common.{◌≡◌, ◌≤◌, inr, ℕ, List, Option, Some, None, Bor, is_some, option_copied, arith, sym, subst, true, false}
+use Rattle.std.proofs.Common.{◌≡◌, ◌≤◌, inl, inr, ℕ, List, Option, Some, None, IsSome, Bor, is_some, option_copied, arith, sym, subst, refl, true, false}
 use Rattle.std.proofs.lemmas.Bool.{false≢true}
 use Rattle.wdl_value.specs.declared.env.Bind.{Bind}
 use Rattle.report_text.specs.declared.status.Status.{Status}
@@ -9,7 +9,7 @@ use Rattle.wdl_port.specs.Files.{IsFile}
 use Rattle.wdl_typed.specs.declared.checked.Checked.{Checked}
 use Rattle.wdl_typed.specs.declared.flow.FlowDef.{FlowDef}
 use Rattle.wdl_json.specs.Inputs.{main_of}
-use Rattle.workflow_cli.specs.Documents.{HasChecked, Tells}
+use Rattle.workflow_cli.specs.Documents.{CheckStops, HasChecked, HasLocated, MainStops, Tells}
 use Rattle.workflow_cli.specs.Running.{IsInputsText}
 use Rattle.workflow_cli.specs.Stages.{GiveInStops, HasGiven, IsMainlessStop, PrepareStops}
 
@@ -25,9 +25,54 @@ is_something (Some f) m e n = (f.now, sym e)
 pub rose_later : (a b c : ℕ) → a ≤ b → Rose b c → Rose a c
 rose_later a b c h r = grind (arith, h, r)
 
-module _ (tells : Tells) (refused : List ℕ → Type 0) (rose : Type 0) (file : List ℕ) (inputs : Option (List ℕ)) (c : Checked) (has : HasChecked tells file c) where
+-- the main workflow has a number
+pub has_number : (flows : List FlowDef) (main : Option ℕ) (f : FlowDef) → main_of flows main ≡ Some f → (k : ℕ) × (main ≡ Some k)
+has_number flows None f h = cc
+has_number flows (Some k) f h = (k, refl)
+
+pub is_numbered : (main : Option ℕ) (k : ℕ) → main ≡ Some k → IsSome main
+is_numbered None k h = cc
+is_numbered (Some k) n h = refl
+
+pub checked_in : (tells : Tells) (file : List ℕ) (c : Checked) (paths : List (List ℕ)) → HasLocated tells file c paths → HasChecked tells file c
+checked_in tells file c paths h = record { lib = h.lib; has = h.has; is_typed = h.is_typed }
+
+module _ (tells : Tells) (refused : List ℕ → Type 0) (rose : Type 0) (file : List ℕ) where
+  -- no checked form
+  pub check_main : (s : Status) (paths : List (List ℕ)) → CheckStops tells file refused rose s paths → MainStops tells file refused rose s paths
+  check_main (status.Read path) paths h = h
+  check_main (status.Document code span) paths h = inl h
+  check_main status.NoMemory paths h = tt
+  check_main status.Ok paths h = absurd h
+  check_main (status.Failed fault) paths h = absurd h
+  check_main status.Usage paths h = absurd h
+  check_main (status.Inputs code name) paths h = absurd h
+  check_main status.Write paths h = absurd h
+  check_main (status.NotInSubset rule span) paths h = absurd h
+  check_main (status.Launch place) paths h = absurd h
+  check_main status.Keep paths h = absurd h
+  check_main status.TooMany paths h = absurd h
+  check_main status.NotBuilt paths h = absurd h
+
+  -- no main workflow
+  pub main_prepare : (inputs : Option (List ℕ)) (s : Status) (paths : List (List ℕ)) → MainStops tells file refused rose s paths → PrepareStops tells refused rose file inputs s paths
+  main_prepare inputs (status.Read path) paths h = inl h
+  main_prepare inputs (status.Document code span) paths h = h
+  main_prepare inputs status.NoMemory paths h = tt
+  main_prepare inputs status.Ok paths h = absurd h
+  main_prepare inputs (status.Failed fault) paths h = absurd h
+  main_prepare inputs status.Usage paths h = absurd h
+  main_prepare inputs (status.Inputs code name) paths h = absurd h
+  main_prepare inputs status.Write paths h = absurd h
+  main_prepare inputs (status.NotInSubset rule span) paths h = absurd h
+  main_prepare inputs (status.Launch place) paths h = absurd h
+  main_prepare inputs status.Keep paths h = absurd h
+  main_prepare inputs status.TooMany paths h = absurd h
+  main_prepare inputs status.NotBuilt paths h = absurd h
+
+module _ (tells : Tells) (refused : List ℕ → Type 0) (rose : Type 0) (file : List ℕ) (c : Checked) (has : HasChecked tells file c) where
   -- without a main workflow
-  pub mainless_stops : main_of c.flows c.main ≡ None → (s : Status) (paths : List (List ℕ)) → IsMainlessStop file s paths → PrepareStops tells refused rose file inputs s paths
+  pub mainless_stops : main_of c.flows c.main ≡ None → (s : Status) (paths : List (List ℕ)) → IsMainlessStop file s paths → MainStops tells file refused rose s paths
   mainless_stops none (status.Document code span) paths h = inr (record { checked = c; has = has; none = none; is_code = h.0; is_span = h.1; named = h.2 })
   mainless_stops none status.NoMemory paths h = tt
   mainless_stops none status.Ok paths h = absurd h
@@ -42,6 +87,7 @@ module _ (tells : Tells) (refused : List ℕ → Type 0) (rose : Type 0) (file :
   mainless_stops none status.TooMany paths h = absurd h
   mainless_stops none status.NotBuilt paths h = absurd h
 
+module _ (tells : Tells) (refused : List ℕ → Type 0) (rose : Type 0) (file : List ℕ) (inputs : Option (List ℕ)) (c : Checked) (has : HasChecked tells file c) where
   -- the shelf tells and refuses as before, and a count that rose later rose
   module _ (told : Tells) (same : (p : List ℕ) → told p ≡ tells p) where
     text_before : (i : Option (List ℕ)) (text : List ℕ) → IsInputsText told i text → IsInputsText tells i text

@@ -1,5 +1,5 @@
 -- From the stages to the work of a command.
-use Rattle.std.proofs.Common.{All, ◌≡◌, ◌++◌, inl, inr, ℕ, List, Option, ap, sym, subst, ◌∙◌, codes}
+use Rattle.std.proofs.Common.{All, ◌≡◌, ◌++◌, inl, inr, ℕ, List, Option, Some, None, ap, sym, subst, ◌∙◌, refl, codes}
 use Rattle.wdl_base.specs.declared.answer.Answer.{Answer}
 use Rattle.wdl_base.specs.declared.request.Request.{Request}
 use Rattle.report_text.specs.declared.status.Status.{Status}
@@ -13,11 +13,17 @@ use Rattle.workflow_cli.specs.declared.ended.Stop.{Stop}
 use Rattle.workflow_cli.specs.declared.ended.Work.{Work}
 use Rattle.workflow_cli.specs.declared.ended.Work.TheVariants as work
 use Rattle.workflow_cli.specs.declared.ended.Worked.{Worked}
-use Rattle.workflow_cli.specs.Asking.{AskStops, IsCheckOf, IsRunOf, Words}
+use Rattle.workflow_cli.specs.Asking.{AskStops, IsCheckOf, IsCwlOf, IsForInputs, IsForMain, IsRunOf, Words}
 use Rattle.workflow_cli.specs.Causes.{Cause, CauseOf, IsWork, Names}
-use Rattle.workflow_cli.specs.Documents.{CheckStops, Tells}
+use Rattle.workflow_cli.specs.Documents.{CheckStops, MainStops, Tells}
 use Rattle.workflow_cli.specs.Running.{IsIdle, IsRun, IsStarted, Main, Trace, flow_of, work_trace}
 use Rattle.workflow_cli.specs.Stages.{Accepts, HasRun, HasStopped, PrepareStops, RunsFile, Turns}
+use Rattle.workflow_cli.specs.Translating.{DocumentStops, ObjectStops, Translates, WritesDocument, WritesObject}
+
+-- whose inputs are read has a main workflow
+pub for_main : (words : Words) (file : List ℕ) (inputs : Option (List ℕ)) → IsForInputs words file inputs → IsForMain words file inputs
+for_main words file inputs (inl h) = inl h
+for_main words file inputs (inr h) = inr h.2
 
 module _ (tells : Tells) (refused : List ℕ → Type 0) (rose : Type 0) (gives : Request → Answer → Type 0) (refuses : Request → Type 0) (words : Words) (t : Trace) where
   abbrev Said : Status → List (List ℕ) → Type 0
@@ -60,41 +66,116 @@ module _ (tells : Tells) (refused : List ℕ → Type 0) (rose : Type 0) (gives 
   -- a check
   pub check_is_work : IsIdle t → (file : List ℕ) → IsCheckOf words file → (w : Work) → Accepts tells refused rose file w → IsWork tells refused rose gives refuses words t w
   check_is_work idle file asked (work.Text text) h =
-      record { run = inl idle; cause = inr (idle, record { file = file; asked = asked; checked = h.0; has = h.1; says = h.2 }) }
+      record { run = inl idle; cause = inr (idle, inl (record { file = file; asked = asked; checked = h.0; has = h.1; says = h.2 })) }
   check_is_work idle file asked (work.Stop stop) h = record { run = inl idle; cause = check_stops idle file (inl asked) stop.status stop.paths h }
 
+  -- ---- the main workflow and its inputs
+
+  main_stops : IsIdle t → (file : List ℕ) (inputs : Option (List ℕ)) → IsForMain words file inputs → (s : Status) (paths : List (List ℕ))
+      → MainStops tells file refused rose s paths → Said s paths
+  main_stops idle file inputs main (status.Read path) paths h = (idle, inl (record { file = file; named = inr (inputs, main); unread = h }))
+  main_stops idle file inputs main (status.Document code span) paths (inl h) = (idle, inl (record { file = file; named = inr (inputs, main); refused = h }))
+  main_stops idle file inputs main (status.Document code span) paths (inr h) = (idle, inr (record { file = file; inputs = inputs; asked = main; mainless = h }))
+  main_stops idle file inputs main status.NoMemory paths h = tt
+  main_stops idle file inputs main status.Ok paths h = absurd h
+  main_stops idle file inputs main (status.Failed fault) paths h = absurd h
+  main_stops idle file inputs main status.Usage paths h = absurd h
+  main_stops idle file inputs main (status.Inputs code name) paths h = absurd h
+  main_stops idle file inputs main status.Write paths h = absurd h
+  main_stops idle file inputs main (status.NotInSubset rule span) paths h = absurd h
+  main_stops idle file inputs main (status.Launch place) paths h = absurd h
+  main_stops idle file inputs main status.Keep paths h = absurd h
+  main_stops idle file inputs main status.TooMany paths h = absurd h
+  main_stops idle file inputs main status.NotBuilt paths h = absurd h
+
+  prepare_stops : IsIdle t → (file : List ℕ) (inputs : Option (List ℕ)) → IsForInputs words file inputs → (s : Status) (paths : List (List ℕ))
+      → PrepareStops tells refused rose file inputs s paths → Said s paths
+  prepare_stops idle file inputs asks (status.Read path) paths (inl h) = (idle, inl (record { file = file; named = inr (inputs, for_main words file inputs asks); unread = h }))
+  prepare_stops idle file inputs asks (status.Read path) paths (inr h) =
+      (idle, inr (record { file = file; asked = subst (IsForInputs words file) h.named asks; checked = h.checked; has = h.has; refusal = h.refusal; counted = h.counted }))
+  prepare_stops idle file inputs asks (status.Document code span) paths (inl h) = (idle, inl (record { file = file; named = inr (inputs, for_main words file inputs asks); refused = h }))
+  prepare_stops idle file inputs asks (status.Document code span) paths (inr h) = (idle, inr (record { file = file; inputs = inputs; asked = for_main words file inputs asks; mainless = h }))
+  prepare_stops idle file inputs asks (status.Inputs code name) paths h = (
+    idle,
+    record {
+      file = file;
+      inputs = inputs;
+      asked = asks;
+      checked = h.checked;
+      has = h.has;
+      flow = h.none.flow;
+      main = h.none.main;
+      text = h.none.text;
+      is_text = h.none.is_text;
+      refused = h.none.refused;
+    },
+  )
+  prepare_stops idle file inputs asks status.NoMemory paths h = tt
+  prepare_stops idle file inputs asks status.Ok paths h = absurd h
+  prepare_stops idle file inputs asks (status.Failed fault) paths h = absurd h
+  prepare_stops idle file inputs asks status.Usage paths h = absurd h
+  prepare_stops idle file inputs asks status.Write paths h = absurd h
+  prepare_stops idle file inputs asks (status.NotInSubset rule span) paths h = absurd h
+  prepare_stops idle file inputs asks (status.Launch place) paths h = absurd h
+  prepare_stops idle file inputs asks status.Keep paths h = absurd h
+  prepare_stops idle file inputs asks status.TooMany paths h = absurd h
+  prepare_stops idle file inputs asks status.NotBuilt paths h = absurd h
+
+  -- ---- the CWL document and the input object
+
+  module _ (idle : IsIdle t) (file : List ℕ) where
+    module _ (asked : IsCwlOf words file None) where
+      document_said : (s : Status) (paths : List (List ℕ)) → MainStops tells file refused rose s paths → Said s paths
+      document_said = main_stops idle file None (inr asked)
+
+      document_stops : (s : Status) (paths : List (List ℕ)) → DocumentStops tells refused rose file s paths → Said s paths
+      document_stops (status.NotInSubset rule span) paths h = (idle, record { file = file; inputs = None; asked = asked; outside = h })
+      document_stops (status.Read path) paths h = document_said (status.Read path) paths h
+      document_stops (status.Document code span) paths h = document_said (status.Document code span) paths h
+      document_stops status.NoMemory paths h = tt
+      document_stops status.Ok paths h = absurd h
+      document_stops (status.Failed fault) paths h = absurd h
+      document_stops status.Usage paths h = absurd h
+      document_stops (status.Inputs code name) paths h = absurd h
+      document_stops status.Write paths h = absurd h
+      document_stops (status.Launch place) paths h = absurd h
+      document_stops status.Keep paths h = absurd h
+      document_stops status.TooMany paths h = absurd h
+      document_stops status.NotBuilt paths h = absurd h
+
+      document_is_work : (w : Work) → WritesDocument tells refused rose file w → IsWork tells refused rose gives refuses words t w
+      document_is_work (work.Text text) h = record { run = inl idle; cause = inr (idle, inr (record { file = file; inputs = None; asked = asked; is_text = h })) }
+      document_is_work (work.Stop stop) h = record { run = inl idle; cause = document_stops stop.status stop.paths h }
+
+    module _ (path : List ℕ) (asked : IsCwlOf words file (Some path)) where
+      object_said : (s : Status) (paths : List (List ℕ)) → PrepareStops tells refused rose file (Some path) s paths → Said s paths
+      object_said = prepare_stops idle file (Some path) (inr (path, refl, asked))
+
+      object_stops : (s : Status) (paths : List (List ℕ)) → ObjectStops tells refused rose file (Some path) s paths → Said s paths
+      object_stops (status.NotInSubset rule span) paths h = (idle, record { file = file; inputs = Some path; asked = asked; outside = h })
+      object_stops (status.Read p) paths h = object_said (status.Read p) paths h
+      object_stops (status.Document code span) paths h = object_said (status.Document code span) paths h
+      object_stops (status.Inputs code name) paths h = object_said (status.Inputs code name) paths h
+      object_stops status.NoMemory paths h = tt
+      object_stops status.Ok paths h = absurd h
+      object_stops (status.Failed fault) paths h = absurd h
+      object_stops status.Usage paths h = absurd h
+      object_stops status.Write paths h = absurd h
+      object_stops (status.Launch place) paths h = absurd h
+      object_stops status.Keep paths h = absurd h
+      object_stops status.TooMany paths h = absurd h
+      object_stops status.NotBuilt paths h = absurd h
+
+      object_is_work : (w : Work) → WritesObject tells refused rose file (Some path) w → IsWork tells refused rose gives refuses words t w
+      object_is_work (work.Text text) h = record { run = inl idle; cause = inr (idle, inr (record { file = file; inputs = Some path; asked = asked; is_text = h })) }
+      object_is_work (work.Stop stop) h = record { run = inl idle; cause = object_stops stop.status stop.paths h }
+
+    -- a translation
+    pub cwl_is_work : (inputs : Option (List ℕ)) → IsCwlOf words file inputs → (w : Work) → Translates tells refused rose file inputs w → IsWork tells refused rose gives refuses words t w
+    cwl_is_work None asked w h = document_is_work asked w h
+    cwl_is_work (Some path) asked w h = object_is_work path asked w h
+
   module _ (file : List ℕ) (inputs : Option (List ℕ)) (site : List ℕ) (asked : IsRunOf words file inputs site) where
-    named : Names words file
-    named = inr (inputs, site, asked)
-
-    prepare_stops : IsIdle t → (s : Status) (paths : List (List ℕ)) → PrepareStops tells refused rose file inputs s paths → Said s paths
-    prepare_stops idle (status.Read path) paths (inl h) = (idle, inl (record { file = file; named = named; unread = h }))
-    prepare_stops idle (status.Read path) paths (inr h) =
-        (idle, inr (record { file = file; site = site; asked = subst (λ i. IsRunOf words file i site) h.named asked; checked = h.checked; has = h.has; refusal = h.refusal; counted = h.counted }))
-    prepare_stops idle (status.Document code span) paths (inl h) = (idle, inl (record { file = file; named = named; refused = h }))
-    prepare_stops idle (status.Document code span) paths (inr h) = (idle, inr (record { file = file; inputs = inputs; site = site; asked = asked; mainless = h }))
-    prepare_stops idle (status.Inputs code name) paths h = (
-      idle,
-      record {
-        checked = h.checked;
-        flow = h.none.flow;
-        text = h.none.text;
-        site = site;
-        asked = record { file = file; inputs = inputs; asked = asked; checked = h.has; main = h.none.main; is_text = h.none.is_text };
-        refused = h.none.refused;
-      },
-    )
-    prepare_stops idle status.NoMemory paths h = tt
-    prepare_stops idle status.Ok paths h = absurd h
-    prepare_stops idle (status.Failed fault) paths h = absurd h
-    prepare_stops idle status.Usage paths h = absurd h
-    prepare_stops idle status.Write paths h = absurd h
-    prepare_stops idle (status.NotInSubset rule span) paths h = absurd h
-    prepare_stops idle (status.Launch place) paths h = absurd h
-    prepare_stops idle status.Keep paths h = absurd h
-    prepare_stops idle status.TooMany paths h = absurd h
-    prepare_stops idle status.NotBuilt paths h = absurd h
-
     -- ---- a run
 
     end_is_cause : (m : Main) → IsRun tells words gives t m → (x : End) (w : Work) → Steps t.journal x t.taken → Ends refuses m.checked (flow_of m t.journal) x → Turns m.flow.name x w
@@ -109,7 +190,7 @@ module _ (tells : Tells) (refused : List ℕ → Type 0) (rose : Type 0) (gives 
 
     pub stopped_is_work : (w : Work) → HasStopped tells refused rose file inputs t w → IsWork tells refused rose gives refuses words t w
     stopped_is_work w h =
-        record { run = inl h.idle; cause = subst (Cause tells refused rose gives refuses words t) (sym h.is) (prepare_stops h.idle h.stop.status h.stop.paths h.cause) }
+        record { run = inl h.idle; cause = subst (Cause tells refused rose gives refuses words t) (sym h.is) (prepare_stops h.idle file inputs (inl (site, asked)) h.stop.status h.stop.paths h.cause) }
 
 module _ (tells : Tells) (refused : List ℕ → Type 0) (rose : Type 0) (gives : Request → Answer → Type 0) (refuses : Request → Type 0) (words : Words)
     (file : List ℕ) (inputs : Option (List ℕ)) (site : List ℕ) (asked : IsRunOf words file inputs site) (w : Worked) (before now : ℕ) where

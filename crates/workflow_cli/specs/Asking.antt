@@ -1,5 +1,5 @@
 -- What the words ask for, and what today's program does of it.
-use Rattle.std.specs.Prelude.{◌≡◌, ℕ, Bool, ◌==◌, ◌||◌, List, Option, Some, None, Result, Ok, Err, if◌then◌else◌, map, string_bytes, String, ⊤}
+use Rattle.std.specs.Prelude.{◌≡◌, ◌⊎◌, ℕ, Bool, ◌==◌, ◌||◌, List, Option, Some, None, Result, Ok, Err, if◌then◌else◌, map, string_bytes, String, ⊤}
 use Rattle.std.specs.declared.alloc.Global.{Global}
 use Rattle.report_text.specs.declared.status.Status.{Status}
 use Rattle.report_text.specs.declared.status.Status.TheVariants as status
@@ -25,11 +25,11 @@ abbrev pub run_command : List ℕ → Option (List ℕ) → ℕ → List ℕ →
 run_command file inputs workers root None = if runs_singly workers then Some (command.Run file inputs root) else None
 run_command file inputs workers root (Some journal) = None
 
--- what today's program does of it: runs without a journal and checks
+-- what today's program does of it: runs without a journal, checks and translations
 abbrev pub command_of : Wants → Option Command
 command_of (Run file inputs workers root journal) = run_command file inputs workers root journal
 command_of (Check file) = Some (command.Check file)
-command_of (Cwl file) = None
+command_of (Cwl file inputs) = Some (command.Cwl file inputs)
 command_of (Load number) = None
 command_of (Bundle file) = None
 
@@ -52,6 +52,18 @@ IsRunOf words file inputs root = IsCommand words (command.Run file inputs root)
 -- a check of the document at this path
 abbrev pub IsCheckOf : Words → List ℕ → Type 0
 IsCheckOf words file = IsCommand words (command.Check file)
+
+-- the CWL document of the document at this path, or the CWL input object of the inputs at that one
+abbrev pub IsCwlOf : Words → List ℕ → Option (List ℕ) → Type 0
+IsCwlOf words file inputs = IsCommand words (command.Cwl file inputs)
+
+-- a run or a translation of the document at this path, for which it has a main workflow
+abbrev pub IsForMain : Words → List ℕ → Option (List ℕ) → Type 0
+IsForMain words file inputs = ((site : List ℕ) × IsRunOf words file inputs site) ⊎ IsCwlOf words file inputs
+
+-- the inputs at that path are read for it, and `{}` where none is named
+abbrev pub IsForInputs : Words → List ℕ → Option (List ℕ) → Type 0
+IsForInputs words file inputs = ((site : List ℕ) × IsRunOf words file inputs site) ⊎ ((path : List ℕ) × (inputs ≡ Some path) × IsCwlOf words file inputs)
 
 -- why nothing is done
 abbrev pub AskStops : Words → Status → Type 0

@@ -8,13 +8,14 @@ use Rattle.report_text.specs.declared.status.Status.TheVariants as status
 use Rattle.wdl_typed.specs.declared.checked.Checked.{Checked}
 use Rattle.workflow_cli.specs.declared.ended.Work.{Work}
 use Rattle.workflow_cli.specs.declared.ended.Work.TheVariants as work
-use Rattle.workflow_cli.specs.Asking.{IsCheckOf, IsNotBuilt, IsRunOf, Words, asked}
+use Rattle.workflow_cli.specs.Asking.{IsCheckOf, IsForMain, IsNotBuilt, Words, asked}
 use Rattle.workflow_cli.specs.Documents.{HasChecked, HasNoMain, IsRefused, IsUnreadDocument, Tells}
+use Rattle.workflow_cli.specs.Translating.{IsOutside, IsTranslated}
 use Rattle.workflow_cli.specs.Running.{IsBadInputs, IsDone, IsFailed, IsIdle, IsTooMany, IsUnlaunched, IsUnreadInputs, SomeRun, Trace}
 
--- the words ask for a check or a run of the document at this path
+-- the words name the document at this path
 abbrev pub Names : Words → List ℕ → Type 0
-Names words file = IsCheckOf words file ⊎ ((inputs : Option (List ℕ)) × (site : List ℕ) × IsRunOf words file inputs site)
+Names words file = IsCheckOf words file ⊎ ((inputs : Option (List ℕ)) × IsForMain words file inputs)
 
 module _ (tells : Tells) (words : Words) where
   -- the words ask for a check of a document that has a checked form, and the text says so
@@ -31,12 +32,11 @@ module _ (tells : Tells) (words : Words) where
     pub named : Names words file
     pub refused : IsRefused tells file code span paths
 
-  -- the document that is to be run has no main workflow
+  -- the document that is to be run or translated has no main workflow
   pub record IsMainless (code : ℕ) (span : Span) (paths : List (List ℕ)) : Type 0 where
     pub file : List ℕ
     pub inputs : Option (List ℕ)
-    pub site : List ℕ
-    pub asked : IsRunOf words file inputs site
+    pub asked : IsForMain words file inputs
     pub mainless : HasNoMain tells file code span paths
 
   abbrev pub IsBadDocument : ℕ → Span → List (List ℕ) → Type 0
@@ -51,6 +51,11 @@ module _ (tells : Tells) (words : Words) where
   abbrev pub IsUnread : (List ℕ → Type 0) → Type 0 → List ℕ → Type 0
   IsUnread refused rose path = IsUnreadNamed refused rose path ⊎ IsUnreadInputs tells words refused rose path
 
+-- the text of finished work: of a run, or of a command that runs nothing
+abbrev pub IsFinished : Tells → Words → (Request → Answer → Type 0) → Trace → List ℕ → Type 0
+IsFinished tells words gives t text =
+    IsDone tells words gives t text ⊎ (IsIdle t × (IsAccepted tells words text ⊎ IsTranslated tells words text))
+
 module _ (tells : Tells) (refused : List ℕ → Type 0) (rose : Type 0) (gives : Request → Answer → Type 0) (refuses : Request → Type 0) (words : Words) (t : Trace) where
   -- the status, and the paths of the documents that its line may name
   abbrev pub CauseOf : Status → List (List ℕ) → Type 0
@@ -62,7 +67,7 @@ module _ (tells : Tells) (refused : List ℕ → Type 0) (rose : Type 0) (gives 
   CauseOf (status.Read path) paths = IsIdle t × IsUnread tells words refused rose path
   CauseOf status.Write paths = ⊥
   CauseOf status.NoMemory paths = ⊤
-  CauseOf (status.NotInSubset rule span) paths = ⊥
+  CauseOf (status.NotInSubset rule span) paths = IsIdle t × IsOutside tells words rule span paths
   CauseOf (status.Launch place) paths = IsUnlaunched tells words gives t refuses place
   CauseOf status.Keep paths = ⊥
   CauseOf status.TooMany paths = IsTooMany tells words gives t
@@ -70,7 +75,7 @@ module _ (tells : Tells) (refused : List ℕ → Type 0) (rose : Type 0) (gives 
 
   -- the work of a command, before anything is written
   abbrev pub Cause : Work → Type 0
-  Cause (work.Text text) = IsDone tells words gives t text ⊎ (IsIdle t × IsAccepted tells words text)
+  Cause (work.Text text) = IsFinished tells words gives t text
   Cause (work.Stop stop) = CauseOf stop.status stop.paths
 
   pub record IsWork (w : Work) : Type 0 where
@@ -79,6 +84,5 @@ module _ (tells : Tells) (refused : List ℕ → Type 0) (rose : Type 0) (gives 
 
 -- the statuses that come while other commands are not built
 abbrev pub IsBuilt : Status → Type 0
-IsBuilt (status.NotInSubset rule span) = ⊥
 IsBuilt status.Keep = ⊥
 IsBuilt s = ⊤

@@ -1,7 +1,8 @@
 -- The other way round: which status comes. Each sentence yields to want of memory.
-use Rattle.std.specs.Prelude.{◌≡◌, ◌⊎◌, ℕ, false, List, [], Option, Some, None, Ok, Err, Contains}
+use Rattle.std.specs.Prelude.{◌≡◌, ◌⊎◌, ℕ, false, List, [], Option, Some, None, Ok, Err, Contains, ⊤}
 use Rattle.wdl_base.specs.declared.request.Request.{Request}
 use Rattle.wdl_base.specs.declared.span.Span.{Span}
+use Rattle.wdl_value.specs.declared.env.Bind.{Bind}
 use Rattle.report_text.specs.declared.status.Status.{Status}
 use Rattle.report_text.specs.declared.status.Status.TheVariants as status
 use Rattle.wdl_value.specs.declared.ty.StructDef.{StructDef}
@@ -13,11 +14,12 @@ use Rattle.wdl_sources.specs.Walks.{AreFiles, Files}
 use Rattle.wdl_imports.specs.Libraries.{IsLibrary}
 use Rattle.wdl_check_doc.specs.Checked as check
 use Rattle.wdl_json.specs.Inputs.{inputs_in, main_of}
-use Rattle.workflow_cli.specs.Asking.{IsCheckOf, IsNotBuilt, IsRunOf, Words, asked}
+use Rattle.workflow_cli.specs.Asking.{IsCheckOf, IsCwlOf, IsForInputs, IsForMain, IsNotBuilt, IsRunOf, Words, asked}
 use Rattle.wdl_json.specs.declared.fault.InputFault.TheVariants.{Bad}
 use Rattle.workflow_cli.specs.Causes.{Names}
 use Rattle.workflow_cli.specs.Documents.{Tells}
 use Rattle.workflow_cli.specs.Running.{IsInputsText, Main, Trace, flow_of}
+use Rattle.workflow_cli.specs.Translating.{IsInSubset}
 
 abbrev pub IsOr : Status → Status → Type 0
 IsOr s r = (r ≡ s) ⊎ (r ≡ status.NoMemory)
@@ -58,19 +60,36 @@ abbrev pub DocumentIsComplete : Tells → Words → Type 0 → Type 0 → Status
 DocumentIsComplete tells words unread cut r =
     (file : List ℕ) → Names words file → MustLack tells file → ¬ unread → ¬ cut → IsSomeDocument r ⊎ (r ≡ status.NoMemory)
 
--- a run of a document that has a checked form without a main workflow gives Document with the code 327, where no count rises
+-- a run or a translation of a document that has a checked form without a main workflow gives Document with the code 327, where no count rises
 abbrev pub MainIsComplete : Tells → Words → Type 0 → Type 0 → Status → Type 0
 MainIsComplete tells words unread cut r =
-    (file : List ℕ) (inputs : Option (List ℕ)) (site : List ℕ) (c : Checked) → IsRunOf words file inputs site → MustHave tells file c
+    (file : List ℕ) (inputs : Option (List ℕ)) (c : Checked) → IsForMain words file inputs → MustHave tells file c
     → main_of c.flows c.main ≡ None → ¬ unread → ¬ cut → IsOr (status.Document 327 (record { doc = 0; start = 0; end = 0 })) r
 
 -- inputs that break a rule give Inputs with its code, where no count rises
 abbrev pub InputsIsComplete : Tells → Words → Type 0 → Type 0 → Status → Type 0
 InputsIsComplete tells words unread cut r =
-    (file : List ℕ) (inputs : Option (List ℕ)) (site : List ℕ) (c : Checked) (f : FlowDef) (code : ℕ) (name : Option (List ℕ))
-    → IsRunOf words file inputs site → MustHave tells file c → main_of c.flows c.main ≡ Some f
+    (file : List ℕ) (inputs : Option (List ℕ)) (c : Checked) (f : FlowDef) (code : ℕ) (name : Option (List ℕ))
+    → IsForInputs words file inputs → MustHave tells file c → main_of c.flows c.main ≡ Some f
     → ((text : List ℕ) → IsInputsText tells inputs text → inputs_in c.structs f text ≡ Err (Bad code name))
     → ¬ unread → ¬ cut → IsOr (status.Inputs code name) r
+
+-- whatever the bytes are that the shelf does not tell, the text of the inputs, where they are named, gives some
+abbrev pub MustGive : Tells → Option (List ℕ) → Checked → FlowDef → Type 0
+MustGive tells None c f = ⊤
+MustGive tells (Some path) c f = (given : List Bind) × ((text : List ℕ) → IsInputsText tells (Some path) text → inputs_in c.structs f text ≡ Ok given)
+
+abbrev pub IsSomeExclusion : Status → Type 0
+IsSomeExclusion r = (rule : ℕ) × (span : Span) × (r ≡ status.NotInSubset rule span)
+
+-- A translation of a document that has a checked form with a main workflow, with inputs that break no rule, gives Ok where no rule of
+-- the subset is broken, and NotInSubset where one is; where no count rises.
+abbrev pub CwlIsComplete : Tells → Words → Type 0 → Type 0 → Status → Type 0
+CwlIsComplete tells words unread cut r =
+    (file : List ℕ) (inputs : Option (List ℕ)) (c : Checked) (number : ℕ) (f : FlowDef)
+    → IsCwlOf words file inputs → MustHave tells file c → c.main ≡ Some number → main_of c.flows c.main ≡ Some f
+    → MustGive tells inputs c f → ¬ unread → ¬ cut
+    → (IsInSubset c number → IsOr status.Ok r) × (¬ (IsInSubset c number) → IsSomeExclusion r ⊎ (r ≡ status.NoMemory))
 
 -- A run gives Ok where no count rises, the document has a checked form with a main workflow, the inputs break no rule, the launcher
 -- refuses no job of the flow over the journal, and that flow has no fault and is not too many.

@@ -12,6 +12,8 @@ use Rattle.wdl_check_doc.specs.Checked.{IsTyped, typed}
 use Rattle.wdl_check_rules.specs.declared.fault.CheckFault.{CheckFault}
 use Rattle.wdl_check_rules.specs.declared.fault.CheckFault.TheVariants.{Bad}
 use Rattle.wdl_json.specs.Inputs.{main_of}
+use Rattle.wdl_typed.specs.declared.flow.FlowDef.{FlowDef}
+use Rattle.workflow_cli.specs.declared.checking.Located.{Located}
 use Rattle.workflow_cli.specs.declared.ended.Stop.{Stop}
 
 -- what a shelf tells of its files
@@ -64,6 +66,19 @@ module _ (tells : Tells) (root : List ℕ) where
     pub is_span : span ≡ record { doc = 0; start = 0; end = 0 }
     pub named : paths ≡ root ∷ []
 
+  -- the bytes read have a library with this checked form, and these are the paths of its documents
+  pub record HasLocated (c : Checked) (paths : List (List ℕ)) : Type 0 where
+    pub lib : Library
+    pub has : HasLibrary tells root lib
+    pub is_typed : Rules lib (Ok c)
+    pub named : paths ≡ paths_of lib
+
+  -- the same, and the checked form has this main workflow, by its number
+  pub record HasMain (c : Checked) (number : ℕ) (f : FlowDef) (paths : List (List ℕ)) : Type 0 where
+    pub located : HasLocated c paths
+    pub numbered : c.main ≡ Some number
+    pub main : main_of c.flows c.main ≡ Some f
+
   -- ---- stages
 
   abbrev pub GatherStops : (List ℕ → Type 0) → Type 0 → Status → List (List ℕ) → Type 0
@@ -86,6 +101,20 @@ module _ (tells : Tells) (root : List ℕ) where
   Checks refused rose (Ok c) = HasChecked c
   Checks refused rose (Err stop) = CheckStops refused rose stop.status stop.paths
 
+  abbrev pub Locates : (List ℕ → Type 0) → Type 0 → Result Located Stop → Type 0
+  Locates refused rose (Ok l) = HasLocated l.checked l.paths
+  Locates refused rose (Err stop) = CheckStops refused rose stop.status stop.paths
+
+  abbrev pub MainStops : (List ℕ → Type 0) → Type 0 → Status → List (List ℕ) → Type 0
+  MainStops refused rose (status.Read path) paths = IsUnreadDocument refused rose path
+  MainStops refused rose (status.Document code span) paths = IsRefused code span paths ⊎ HasNoMain code span paths
+  MainStops refused rose status.NoMemory paths = ⊤
+  MainStops refused rose s paths = ⊥
+
+  abbrev pub LocatesMain : (List ℕ → Type 0) → Type 0 → Result Located Stop → Type 0
+  LocatesMain refused rose (Ok l) = (number : ℕ) × (f : FlowDef) × HasMain l.checked number f l.paths
+  LocatesMain refused rose (Err stop) = MainStops refused rose stop.status stop.paths
+
 -- ---- one library
 
 abbrev pub TypeStops : Library → Status → List (List ℕ) → Type 0
@@ -96,6 +125,10 @@ TypeStops lib s paths = ⊥
 abbrev pub Types : Library → Result Checked Stop → Type 0
 Types lib (Ok c) = Rules lib (Ok c)
 Types lib (Err stop) = TypeStops lib stop.status stop.paths
+
+abbrev pub LocatesIn : Library → Result Located Stop → Type 0
+LocatesIn lib (Ok l) = Rules lib (Ok l.checked) × (l.paths ≡ paths_of lib)
+LocatesIn lib (Err stop) = TypeStops lib stop.status stop.paths
 
 -- ---- the stop of a broken rule
 

@@ -3,6 +3,7 @@ pub mod Documents
 pub mod Running
 pub mod Causes
 pub mod Stages
+pub mod Translating
 pub mod Writing
 pub mod Complete
 pub mod Counting

@@ -19,7 +19,7 @@ use Rattle.sequential_run.specs.Flows.{flow_after, is_fed, outputs_in}
 use Rattle.sequential_run.specs.Runs.{IsLaunched, IsRefused, steps_of}
 use Rattle.workflow_cli.specs.declared.ended.Ended.{Ended}
 use Rattle.workflow_cli.specs.declared.ended.Worked.{Worked}
-use Rattle.workflow_cli.specs.Asking.{IsRunOf, Words}
+use Rattle.workflow_cli.specs.Asking.{IsForInputs, IsRunOf, Words}
 use Rattle.workflow_cli.specs.Documents.{HasChecked, Tells}
 
 -- ---- what a run leaves
@@ -79,18 +79,21 @@ module _ (tells : Tells) (words : Words) where
 
   -- the text breaks the rule of that code, the first by the order of the rules
   pub record IsBadInputs (code : ℕ) (name : Option (List ℕ)) : Type 0 where
+    pub file : List ℕ
+    pub inputs : Option (List ℕ)
+    pub asked : IsForInputs words file inputs
     pub checked : Checked
+    pub has : HasChecked tells file checked
     pub flow : FlowDef
+    pub main : main_of checked.flows checked.main ≡ Some flow
     pub text : List ℕ
-    pub site : List ℕ
-    pub asked : IsAsked checked flow text site
+    pub is_text : IsInputsText tells inputs text
     pub refused : inputs_in checked.structs flow text ≡ Err (Bad code name)
 
   -- the shelf refuses the inputs file, and its count of faults rose
   pub record IsUnreadInputs (refused : List ℕ → Type 0) (rose : Type 0) (path : List ℕ) : Type 0 where
     pub file : List ℕ
-    pub site : List ℕ
-    pub asked : IsRunOf words file (Some path) site
+    pub asked : IsForInputs words file (Some path)
     pub checked : Checked
     pub has : HasChecked tells file checked
     pub refusal : refused path

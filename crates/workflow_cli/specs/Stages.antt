@@ -20,7 +20,7 @@ use Rattle.workflow_cli.specs.declared.ended.Worked.{Worked}
 use Rattle.workflow_cli.specs.declared.prepare.Prepared.{Prepared}
 use Rattle.workflow_cli.specs.declared.ended.Work.{Work}
 use Rattle.workflow_cli.specs.declared.ended.Work.TheVariants as work
-use Rattle.workflow_cli.specs.Documents.{CheckStops, HasChecked, HasNoMain, IsRefused, IsUnreadDocument, Tells}
+use Rattle.workflow_cli.specs.Documents.{CheckStops, HasChecked, HasMain, HasNoMain, IsRefused, IsUnreadDocument, Tells}
 use Rattle.workflow_cli.specs.Running.{IsIdle, IsInputsText, Trace}
 
 -- ---- the text of the inputs
@@ -119,7 +119,8 @@ pub record IsPrepared (tells : Tells) (file : List ℕ) (inputs : Option (List �
   pub fits : HasGiven tells inputs c given
 
 abbrev pub Prepares : Tells → (List ℕ → Type 0) → Type 0 → List ℕ → Option (List ℕ) → Result Prepared Stop → Type 0
-Prepares tells refused rose file inputs (Ok p) = IsPrepared tells file inputs p.checked p.given
+Prepares tells refused rose file inputs (Ok p) =
+    IsPrepared tells file inputs p.checked p.given × ((number : ℕ) × (f : FlowDef) × HasMain tells file p.checked number f p.paths)
 Prepares tells refused rose file inputs (Err stop) = PrepareStops tells refused rose file inputs stop.status stop.paths
 
 -- ---- the run

@@ -11,8 +11,9 @@ use Rattle.workflow_cli.specs.declared.ended.Work.{Work}
 use Rattle.workflow_cli.specs.declared.ended.Work.TheVariants as work
 use Rattle.workflow_cli.specs.Asking.{Words}
 use Rattle.workflow_cli.specs.Documents.{Tells}
-use Rattle.workflow_cli.specs.Running.{IsDone, IsIdle, Trace}
-use Rattle.workflow_cli.specs.Causes.{CauseOf, IsAccepted, IsBadDocument}
+use Rattle.workflow_cli.specs.Running.{IsIdle, Trace}
+use Rattle.workflow_cli.specs.Causes.{CauseOf, IsBadDocument, IsFinished}
+use Rattle.workflow_cli.specs.Translating.{IsOutside}
 
 -- what a sink tells that it holds
 abbrev pub Told : Type 0
@@ -57,10 +58,10 @@ HasPaths (work.Stop stop) = HasPath stop.status stop.paths
 -- ---- with each status
 
 module _ (tells : Tells) (words : Words) (gives : Request → Answer → Type 0) (t : Trace) (out out' err err' : Told) where
-  -- with Ok: the outputs of the run, or that the document is accepted, and nothing else
+  -- with Ok: the text of finished work, and nothing else
   pub record IsWritten : Type 0 where
     pub text : List ℕ
-    pub done : IsDone tells words gives t text ⊎ (IsIdle t × IsAccepted tells words text)
+    pub done : IsFinished tells words gives t text
     pub output : out' ≡ grown out text
     pub error : err' ≡ err
 
@@ -72,10 +73,18 @@ module _ (tells : Tells) (words : Words) (gives : Request → Answer → Type 0)
     pub nothing : out' ≡ out
     pub line : err' ≡ grown err (line_of (status.Document code span) paths)
 
+  -- with NotInSubset: the line that names the document by its path, and nothing else
+  pub record IsExcluded (rule : ℕ) (span : Span) : Type 0 where
+    pub paths : List (List ℕ)
+    pub idle : IsIdle t
+    pub outside : IsOutside tells words rule span paths
+    pub nothing : out' ≡ out
+    pub line : err' ≡ grown err (line_of (status.NotInSubset rule span) paths)
+
   -- with Write: the output was cut
   pub record IsCutOutput (rose_out rose_err : Type 0) : Type 0 where
     pub text : List ℕ
-    pub done : IsDone tells words gives t text ⊎ (IsIdle t × IsAccepted tells words text)
+    pub done : IsFinished tells words gives t text
     pub cut : IsCutText text out out' err err' rose_out rose_err
 
 -- with each other status but Write: its line, and nothing else
@@ -83,6 +92,7 @@ abbrev pub Lines : Status → Told → Told → Told → Told → Type 0
 Lines status.Ok out out' err err' = ⊤
 Lines status.Write out out' err err' = ⊤
 Lines (status.Document code span) out out' err err' = ⊤
+Lines (status.NotInSubset rule span) out out' err err' = ⊤
 Lines s out out' err err' = (out' ≡ out) × (err' ≡ grown err (line_of s []))
 
 -- with Write: the line of another status was cut, whose cause holds

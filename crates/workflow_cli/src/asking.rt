@@ -26,6 +26,13 @@ pub enum Command {
     Check {
         file: Text,
     },
+    /// Translates the main workflow of a document to CWL, or the inputs of a run of it where they are named.
+    Cwl {
+        /// The document's path.
+        file: Text,
+        /// The path of the inputs.
+        inputs: Option<Text>,
+    },
 }
 
 /// A run, where it is built: one job runs at a time, with one worker, and for now with the four of the default too; and no
@@ -64,7 +71,7 @@ fn command_of(wants: Wants) -> Option<Command>
             journal,
         } => run_command(file, inputs, workers, root, journal),
         Wants::Check { file } => Some(Command::Check { file }),
-        Wants::Cwl { file: _ } => None,
+        Wants::Cwl { file, inputs } => Some(Command::Cwl { file, inputs }),
         Wants::Load { number: _ } => None,
         Wants::Bundle { file: _ } => None,
     }

@@ -4,7 +4,7 @@ ghost use Rattle.std.specs.Prelude.{◌≡◌, ◌≤◌, ◌↔◌, ◌<◌, �
 ghost use Rattle.report_text.specs.Lines.{HasPath};
 ghost use Rattle.wdl_port.specs.Causes.{Rose};
 ghost use Rattle.workflow_cli.specs.Documents as spec;
-ghost use Rattle.workflow_cli.specs.Documents.{Checks, Gathers, Types, paths_of};
+ghost use Rattle.workflow_cli.specs.Documents.{Checks, Gathers, Locates, LocatesIn, Types, paths_of};
 
 use crate::ended::Stop;
 use report_text::Status;
@@ -15,6 +15,13 @@ use wdl_library::Library;
 use wdl_port::Shelf;
 use wdl_typed::Checked;
 use wdl_value::{Items, NoMemory, Span, Text};
+
+/// A checked form, with the paths of the documents of its library by their numbers.
+#[derive(Drop)]
+pub struct Located {
+    pub checked: Checked,
+    pub paths: Items<Text>,
+}
 
 /// A stop whose line names no document.
 pub fn stop(alloc: Global, status: Status) -> Stop
@@ -106,6 +113,35 @@ fn typed(alloc: Global, library: &Library) -> Result<Checked, Stop>
         Ok(checked) => Ok(checked),
         Err(CheckFault::Bad { code, span }) => Err(untyped(alloc, code, span, library)),
         Err(CheckFault::NoMemory) => Err(stop(alloc, Status::NoMemory)),
+    }
+}
+
+/// The checked form of a library, with the paths of its documents.
+fn located_in(alloc: Global, library: &Library) -> Result<Located, Stop>
+    ensures outcome { LocatesIn library.now result }
+    ensures paths { IfErr result (λ s. HasPath s.status s.paths) }
+{
+    let checked = match typed(alloc, library) {
+        Ok(checked) => checked,
+        Err(stop) => return Err(stop),
+    };
+    match library_paths(alloc, library) {
+        Ok(paths) => Ok(Located { checked, paths }),
+        Err(_) => Err(stop(alloc, Status::NoMemory)),
+    }
+}
+
+/// The checked form of the document at a path, and the paths of the documents that it imports.
+pub fn located_of<F: Shelf>(alloc: Global, file: &Text, shelf: &mut F) -> Result<Located, Stop>
+    ensures outcome { Locates (F.tells shelf.old) file.now (F.refuses shelf.old) (Rose (F.faults shelf.old) (F.faults shelf.new)) result }
+    ensures paths { IfErr result (λ s. HasPath s.status s.paths) }
+    ensures later { F.faults shelf.old ≤ F.faults shelf.new }
+    ensures same_files { (p : List ℕ) → F.tells shelf.new p ≡ F.tells shelf.old p }
+    ensures same_refusals { (p : List ℕ) → F.refuses shelf.new p ↔ F.refuses shelf.old p }
+{
+    match gathered(alloc, file, shelf) {
+        Ok(library) => located_in(alloc, &library),
+        Err(stop) => Err(stop),
     }
 }
 

@@ -4,6 +4,7 @@
 mod asking;
 mod checking;
 mod counting;
+mod cwl;
 mod ended;
 mod file_shelf;
 mod finish;

@@ -1,13 +1,14 @@
 //! What a run starts with: the checked form of its document, and the inputs of the main workflow.
 
-ghost use Rattle.std.specs.Prelude.{◌≡◌, ◌∷◌, [], IfOk, IfErr, IsSome};
+ghost use Rattle.std.specs.Prelude.{◌≡◌, ◌≤◌, ◌↔◌, ◌∷◌, ℕ, List, [], IfOk, IfErr, IsSome};
 ghost use Rattle.std.specs.Option.{option_copied};
 ghost use Rattle.report_text.specs.Lines.{HasPath};
 ghost use Rattle.wdl_port.specs.Causes.{Rose};
-ghost use Rattle.wdl_json.specs.Inputs.{main_of};
+ghost use Rattle.wdl_json.specs.Inputs.{main_of as main_in};
+ghost use Rattle.workflow_cli.specs.Documents.{LocatesMain};
 ghost use Rattle.workflow_cli.specs.Stages as spec;
 
-use crate::checking::{checked_of, stop};
+use crate::checking::{Located, located_of, stop};
 use crate::ended::Stop;
 use crate::inputs::{given_of, inputs_text};
 use report_text::Status;
@@ -16,16 +17,17 @@ use wdl_port::Shelf;
 use wdl_typed::{Checked, FlowDef};
 use wdl_value::{Env, Items, NoMemory, Span, Text};
 
-/// A checked form with a main workflow, and inputs that fit it.
+/// A checked form with a main workflow, the paths of its documents, and inputs that fit it.
 #[derive(Drop)]
 pub struct Prepared {
     pub checked: Checked,
+    pub paths: Items<Text>,
     pub given: Env,
 }
 
 /// The main workflow.
 pub fn main_flow(checked: &Checked) -> Option<&FlowDef>
-    ensures value { option_copied result ≡ main_of checked.now.flows checked.now.main }
+    ensures value { option_copied result ≡ main_in checked.now.flows checked.now.main }
 {
     let number = checked.main?;
     checked.flows.get(number as usize)
@@ -60,6 +62,24 @@ fn mainless(alloc: Global, file: &Text) -> Stop
     }
 }
 
+/// The checked form of the document at a path, which has a main workflow.
+pub fn main_of<F: Shelf>(alloc: Global, file: &Text, shelf: &mut F) -> Result<Located, Stop>
+    ensures outcome { LocatesMain (F.tells shelf.old) file.now (F.refuses shelf.old) (Rose (F.faults shelf.old) (F.faults shelf.new)) result }
+    ensures paths { IfErr result (λ s. HasPath s.status s.paths) }
+    ensures later { F.faults shelf.old ≤ F.faults shelf.new }
+    ensures same_files { (p : List ℕ) → F.tells shelf.new p ≡ F.tells shelf.old p }
+    ensures same_refusals { (p : List ℕ) → F.refuses shelf.new p ↔ F.refuses shelf.old p }
+{
+    let located = match located_of(alloc, file, shelf) {
+        Ok(located) => located,
+        Err(stop) => return Err(stop),
+    };
+    if main_flow(&located.checked).is_none() {
+        return Err(mainless(alloc, file));
+    }
+    Ok(located)
+}
+
 /// The inputs of the main workflow.
 fn given_in<F: Shelf>(
     alloc: Global,
@@ -86,15 +106,16 @@ pub fn start_of<F: Shelf>(
     ensures outcome { spec.Prepares (F.tells shelf.old) (F.refuses shelf.old) (Rose (F.faults shelf.old) (F.faults shelf.new)) file.now inputs.now result }
     ensures paths { IfErr result (λ s. HasPath s.status s.paths) }
 {
-    let checked = match checked_of(alloc, file, shelf) {
-        Ok(checked) => checked,
+    let Located { checked, paths } = match main_of(alloc, file, shelf) {
+        Ok(located) => located,
         Err(stop) => return Err(stop),
     };
-    if main_flow(&checked).is_none() {
-        return Err(mainless(alloc, file));
-    }
     match given_in(alloc, &checked, inputs, shelf) {
-        Ok(given) => Ok(Prepared { checked, given }),
+        Ok(given) => Ok(Prepared {
+            checked,
+            paths,
+            given,
+        }),
         Err(status) => Err(stop(alloc, status)),
     }
 }

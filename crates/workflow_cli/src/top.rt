@@ -7,8 +7,8 @@ ghost use Rattle.report_text.specs.declared.status.Status.TheVariants as status;
 ghost use Rattle.workflow_cli.specs.Asking.{IsNotBuilt, asked};
 ghost use Rattle.workflow_cli.specs.Causes.{IsBuilt, IsUnread};
 ghost use Rattle.workflow_cli.specs.Running.{IsBadInputs, IsFailed, IsIdle, IsTooMany, IsUnlaunched, SomeRun, trace_of};
-ghost use Rattle.workflow_cli.specs.Writing.{IsCut, IsReported, IsWritten, Lines};
-ghost use Rattle.workflow_cli.specs.Complete.{CheckIsComplete, DocumentIsComplete, InputsIsComplete, MainIsComplete, NotBuiltIsComplete, RunIsComplete, UsageIsComplete};
+ghost use Rattle.workflow_cli.specs.Writing.{IsCut, IsExcluded, IsReported, IsWritten, Lines};
+ghost use Rattle.workflow_cli.specs.Complete.{CheckIsComplete, CwlIsComplete, DocumentIsComplete, InputsIsComplete, MainIsComplete, NotBuiltIsComplete, RunIsComplete, UsageIsComplete};
 ghost use Rattle.workflow_cli.specs.Counting.{AreCounts};
 
 use crate::counting::counts_of;
@@ -22,10 +22,11 @@ use wdl_value::Steps;
 
 /// All that the program does. `run [--inputs FILE] [--root DIR] FILE` reads the document of that file and its imports from the
 /// shelf, checks them, reads the inputs, runs the main workflow through the launcher, one job at a time, and writes the outputs as
-/// JSON and a newline to `out`. `check FILE` writes `ok` and a newline, where the document has a checked form. With another status
-/// its line is written to `err`.
+/// JSON and a newline to `out`. `check FILE` writes `ok` and a newline, where the document has a checked form. `cwl FILE` writes the
+/// CWL document of the main workflow and a newline, and `cwl --inputs INPUTS FILE` the CWL input object of these inputs and a newline,
+/// where no rule of the subset is broken. With another status its line is written to `err`.
 ///
-/// Not built yet are `cwl`, `load`, `bundle`, and `run` with `--journal` or with other workers than 1 or the default 4, which
+/// Not built yet are `load`, `bundle`, and `run` with `--journal` or with other workers than 1 or the default 4, which
 /// for now both run one job at a time. The keeper is not used.
 pub fn workflow<F: Shelf, O: Sink, E: Sink, L: Launcher + Sync, K: Keeper, S: Ledger>(
     alloc: Global,
@@ -64,6 +65,9 @@ pub fn workflow<F: Shelf, O: Sink, E: Sink, L: Launcher + Sync, K: Keeper, S: Le
         (L.gives launcher.now) (L.refuses launcher.now) words.now (trace_of result steps.old steps.new)
         (O.told out.old) (O.told out.new) (E.told err.old) (E.told err.new)
         (Rose (O.faults out.old) (O.faults out.new)) (Rose (E.faults err.old) (E.faults err.new)) }
+    ensures not_in_subset { (rule : ℕ) (span : SpanOf) → result.status ≡ status.NotInSubset rule span
+        → IsExcluded (F.tells shelf.old) words.now (L.gives launcher.now) (trace_of result steps.old steps.new)
+        (O.told out.old) (O.told out.new) (E.told err.old) (E.told err.new) rule span }
     ensures launch { (p : List SegmentOf) → result.status ≡ status.Launch p
         → IsUnlaunched (F.tells shelf.old) words.now (L.gives launcher.now) (trace_of result steps.old steps.new)
         (L.refuses launcher.now) p }
@@ -73,7 +77,7 @@ pub fn workflow<F: Shelf, O: Sink, E: Sink, L: Launcher + Sync, K: Keeper, S: Le
         → IsIdle (trace_of result steps.old steps.new) × IsNotBuilt words.now }
     // No other status but NoMemory comes.
     ensures built { IsBuilt result.status }
-    // With a status other than Ok, Write and Document, its line and nothing else was written.
+    // With a status other than Ok, Write, Document and NotInSubset, its line and nothing else was written.
     ensures lines { Lines result.status (O.told out.old) (O.told out.new) (E.told err.old) (E.told err.new) }
     ensures keeper { keeper.new ≡ keeper.old }
     // The other way round: which status comes, unless memory ends.
@@ -86,6 +90,8 @@ pub fn workflow<F: Shelf, O: Sink, E: Sink, L: Launcher + Sync, K: Keeper, S: Le
     ensures inputs_complete { InputsIsComplete (F.tells shelf.old) words.now (Rose (F.faults shelf.old) (F.faults shelf.new))
         (Rose (O.faults out.old) (O.faults out.new) ⊎ Rose (E.faults err.old) (E.faults err.new)) result.status }
     ensures check_complete { CheckIsComplete (F.tells shelf.old) words.now (Rose (F.faults shelf.old) (F.faults shelf.new))
+        (Rose (O.faults out.old) (O.faults out.new) ⊎ Rose (E.faults err.old) (E.faults err.new)) result.status }
+    ensures cwl_complete { CwlIsComplete (F.tells shelf.old) words.now (Rose (F.faults shelf.old) (F.faults shelf.new))
         (Rose (O.faults out.old) (O.faults out.new) ⊎ Rose (E.faults err.old) (E.faults err.new)) result.status }
     ensures run_complete { RunIsComplete (F.tells shelf.old) words.now (L.refuses launcher.now)
         (Rose (F.faults shelf.old) (F.faults shelf.new))

@@ -6,6 +6,7 @@ ghost use Rattle.workflow_cli.specs.Writing.{HasPaths};
 
 use crate::asking::{Command, asked};
 use crate::checking::{checked_of, stop};
+use crate::cwl::cwl;
 use crate::ended::{Work, Worked};
 use crate::run::{idle, run};
 use report_text::Status;
@@ -45,6 +46,7 @@ pub fn work<F: Shelf, L: Launcher, S: Ledger>(
             run(alloc, &file, &inputs, &root, shelf, launcher, steps)
         }
         Ok(Command::Check { file }) => idle(alloc, accepted(alloc, &file, shelf)),
+        Ok(Command::Cwl { file, inputs }) => idle(alloc, cwl(alloc, &file, &inputs, shelf)),
         Err(status) => idle(alloc, Work::Stop(stop(alloc, status))),
     }
 }

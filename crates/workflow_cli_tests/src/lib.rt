@@ -3,6 +3,8 @@
 #![tactic(auto)]
 
 #[cfg(test)]
+mod cwl;
+#[cfg(test)]
 mod documents;
 #[cfg(test)]
 mod inputs;

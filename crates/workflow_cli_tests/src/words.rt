@@ -5,11 +5,11 @@ use workflow_cases::first_mistake;
 /// Words without a reading.
 const UNREADABLE: &str =
     "|run|walk w.wdl|run --workers 0 w.wdl|run --workers 65 w.wdl|run --root tmp w.wdl|run w.wdl w.wdl|\
-run --inputs w.wdl|check|load 0|load 10001|run --root /a --root /b w.wdl";
+run --inputs w.wdl|check|cwl|cwl --inputs w.wdl|cwl --root /a w.wdl|load 0|load 10001|run --root /a --root /b w.wdl";
 
 /// Words that ask for what is not built.
 const NOT_BUILT: &str =
-    "cwl w.wdl|load 1|load 10000|bundle w.wdl|run --journal j w.wdl|run --workers 2 w.wdl|run --workers 64 w.wdl";
+    "load 1|load 10000|bundle w.wdl|run --journal j w.wdl|run --workers 2 w.wdl|run --workers 64 w.wdl";
 
 /// What is wrong with the first of these words, between bars, of which the call shows anything else.
 fn first_wrong(alloc: Global, all: &str, expected: &str) -> Result<String, Fail> {
@@ -27,7 +27,8 @@ fn first_wrong(alloc: Global, all: &str, expected: &str) -> Result<String, Fail>
 
 #[test]
 fn words_without_a_reading_have_status_2(rt: HostRuntime) -> Result<(), Fail> {
-    let expected = "> 2 0\n> ! usage: wdl run [--inputs FILE] [--root DIR] FILE | check FILE";
+    let expected =
+        "> 2 0\n> ! usage: wdl run [--inputs FILE] [--root DIR] FILE | check FILE | cwl [--inputs FILE] FILE";
     assert_eq!(rt; first_wrong(rt.alloc(), UNREADABLE, expected)?.as_str(), "");
     Ok(())
 }

@@ -1,4 +1,4 @@
-use Rattle.std.proofs.Common.{◌∷◌, [], sym, ap, ◌∙◌, lit<, rules}
+use Rattle.std.proofs.Common.{sym, ap, ◌∙◌, lit<, rules}
 use Rattle.std.proofs.lemmas.Str.Pattern.{strip_suffix_char}
 use Rattle.wdl_words.specs.Words.{without_slashes}
 use Rattle.wdl_words.proofs.Slashes.{none_goes, slash_goes}

@@ -3,7 +3,7 @@ use Rattle.workflow_cli.proofs.run.run.Goals as goal
 
 pub returns-in-Ok-clause-value : goal.returns-in-Ok-clause-value
 returns-in-Ok-clause-value g c =
-    let h = c.in-Ok.ensures.outcome in
+    let h = c.in-Ok.ensures.outcome.0 in
     inr (record {
       checked = c.in-Ok.prepared.checked;
       given = c.in-Ok.prepared.given;

@@ -61,3 +61,9 @@ returns-clause-main_complete g c = complete.main_complete _ _ _ _ _ _ _ _ _ _ _ 
 
 pub returns-clause-inputs_complete : goal.returns-clause-inputs_complete
 returns-clause-inputs_complete g c = complete.inputs_complete _ _ _ _ _ _ _ _ _ _ _ _ _ _ (outcome _ _ _ _ _ _ _ _ _ _ _ _ _ c.work-work.result.work _ c.work-work.ensures.cause.cause c.finish-status.ensures.value)
+
+pub returns-clause-not_in_subset : goal.returns-clause-not_in_subset
+returns-clause-not_in_subset g c = told.excluded _ _ _ _ _ _ _ _ _ _ _ _ _ _ (outcome _ _ _ _ _ _ _ _ _ _ _ _ _ c.work-work.result.work _ c.work-work.ensures.cause.cause c.finish-status.ensures.value)
+
+pub returns-clause-cwl_complete : goal.returns-clause-cwl_complete
+returns-clause-cwl_complete g c = complete.cwl_complete _ _ _ _ _ _ _ _ _ _ _ _ _ _ (outcome _ _ _ _ _ _ _ _ _ _ _ _ _ c.work-work.result.work _ c.work-work.ensures.cause.cause c.finish-status.ensures.value)

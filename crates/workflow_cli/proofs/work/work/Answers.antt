@@ -1,5 +1,5 @@
 use Rattle.std.proofs.Common.{refl}
-use Rattle.workflow_cli.proofs.Works.{check_is_work, run_is_work}
+use Rattle.workflow_cli.proofs.Works.{check_is_work, cwl_is_work, run_is_work}
 use Rattle.workflow_cli.proofs.work.work.Goals as goal
 
 pub returns-in-Ok-Run-clause-cause : goal.returns-in-Ok-Run-clause-cause
@@ -11,3 +11,8 @@ pub returns-in-Ok-Check-clause-cause : goal.returns-in-Ok-Check-clause-cause
 returns-in-Ok-Check-clause-cause g c =
     let asked = rw c.in-Ok-Check.field-0-is at c.in-Ok-Check.ensures.value in
     rw c.idle.ensures.work (check_is_work _ _ _ _ _ _ _ (record { no_answer = c.idle.ensures.journal; no_job = c.idle.ensures.steps; no_step = refl }) _ asked c.accepted.result c.accepted.ensures.value)
+
+pub returns-in-Ok-Cwl-clause-cause : goal.returns-in-Ok-Cwl-clause-cause
+returns-in-Ok-Cwl-clause-cause g c =
+    let asked = rw c.in-Ok-Cwl.field-0-is at c.in-Ok-Cwl.ensures.value in
+    rw c.idle-in-Ok-Cwl.ensures.work (cwl_is_work _ _ _ _ _ _ _ (record { no_answer = c.idle-in-Ok-Cwl.ensures.journal; no_job = c.idle-in-Ok-Cwl.ensures.steps; no_step = refl }) _ _ asked c.cwl.result c.cwl.ensures.value)

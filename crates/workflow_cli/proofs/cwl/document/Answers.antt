@@ -1,0 +1,6 @@
+use Rattle.workflow_cli.proofs.Excluded.{writes_document}
+use Rattle.workflow_cli.proofs.cwl.document.Goals as goal
+
+pub returns-in-Ok-clause-value : goal.returns-in-Ok-clause-value
+returns-in-Ok-clause-value g c =
+    writes_document _ _ _ _ c.in-Ok.located.checked c.in-Ok.located.paths c.document_in.result c.in-Ok.ensures.outcome c.document_in.ensures.value

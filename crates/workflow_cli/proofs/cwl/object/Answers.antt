@@ -1,0 +1,8 @@
+use Rattle.workflow_cli.proofs.Excluded.{writes_object}
+use Rattle.workflow_cli.proofs.cwl.object.Goals as goal
+
+pub returns-in-Ok-clause-value : goal.returns-in-Ok-clause-value
+returns-in-Ok-clause-value g c =
+    let p = c.in-Ok.prepared in
+    let h = c.in-Ok.ensures.outcome in
+    writes_object _ _ _ _ p.checked p.paths c.args.inputs.now p.given h.0 h.1 c.object_in.result c.object_in.ensures.value

@@ -1,0 +1,150 @@
+//! The CWL document of the main workflow, and the CWL input object of its inputs.
+
+ghost use Rattle.std.specs.Prelude.{◌≡◌, ◌++◌, Some, IfOk, IfErr, IsSome, ℕ, codes};
+ghost use Rattle.report_text.specs.Lines.{HasPath};
+ghost use Rattle.wdl_port.specs.Causes.{Rose};
+ghost use Rattle.cwl_emit.specs.Objects.{object_text as text_of_object};
+ghost use Rattle.workflow_cli.specs.Translating as spec;
+ghost use Rattle.workflow_cli.specs.Writing.{HasPaths};
+
+use crate::checking::{Located, stop};
+use crate::ended::{Stop, Work};
+use crate::prepare::{Prepared, main_of, start_of};
+use cwl_emit::{object_text, process_text};
+use cwl_flow::translate;
+use cwl_subset::{Subset, SubsetFault, in_subset};
+use report_text::Status;
+use std::alloc::Global;
+use wdl_port::Shelf;
+use wdl_typed::Checked;
+use wdl_value::{Env, Items, NoMemory, Span, Text};
+
+/// The paths, and empty ones behind them up to that number.
+fn padded(alloc: Global, paths: Items<Text>, number: u32) -> Result<Items<Text>, NoMemory>
+    ensures value { IfOk result (λ all. spec.ArePaths paths number all) }
+{
+    let mut all = paths;
+    'fill: while all.len() <= number as usize {
+        all.push(Text::empty(alloc))?;
+    }
+    Ok(all)
+}
+
+/// The stop of a rule of the subset that is broken.
+fn outside(alloc: Global, rule: u16, span: Span, paths: Items<Text>) -> Stop
+    ensures value { spec.IsOutsideStop rule span paths result.status result.paths }
+    ensures paths { HasPath result.status result.paths }
+{
+    match padded(alloc, paths, span.doc) {
+        Ok(paths) => Stop {
+            status: Status::NotInSubset(rule, span),
+            paths,
+        },
+        Err(_) => stop(alloc, Status::NoMemory),
+    }
+}
+
+/// The checked form as one of the subset.
+fn subset_of(alloc: Global, checked: Checked, paths: Items<Text>) -> Result<Subset, Stop>
+    requires main { IsSome checked.main }
+    ensures value { spec.SubsetOf checked paths result }
+    ensures paths { IfErr result (λ s. HasPath s.status s.paths) }
+{
+    match in_subset(alloc, checked) {
+        Ok(subset) => Ok(subset),
+        Err(SubsetFault::NotInSubset { rule, span }) => Err(outside(alloc, rule, span, paths)),
+        Err(SubsetFault::NoMemory) => Err(stop(alloc, Status::NoMemory)),
+    }
+}
+
+/// The text of the CWL document, and a newline.
+fn document_text(alloc: Global, subset: &Subset) -> Result<Text, NoMemory>
+    ensures value { IfOk result (λ t. (number : ℕ) → subset.now.checked.main ≡ Some number → t ≡ spec.document_text subset.now.checked number) }
+{
+    let process = translate(alloc, subset)?;
+    let mut text = process_text(alloc, &process)?;
+    text.push_ascii(b'\n')?;
+    Ok(text)
+}
+
+/// The text of the CWL input object, and a newline.
+fn object_line(alloc: Global, given: &Env) -> Result<Text, NoMemory>
+    ensures value { IfOk result (λ t. t ≡ text_of_object given.now ++ codes "\n") }
+{
+    let mut text = object_text(alloc, given.as_slice())?;
+    text.push_ascii(b'\n')?;
+    Ok(text)
+}
+
+/// The work that a text comes to.
+fn work_of(alloc: Global, text: Result<Text, NoMemory>) -> Work
+    ensures value { spec.TextWork text result }
+    ensures paths { HasPaths result }
+{
+    match text {
+        Ok(text) => Work::Text(text),
+        Err(_) => Work::Stop(stop(alloc, Status::NoMemory)),
+    }
+}
+
+fn document_in(alloc: Global, located: Located) -> Work
+    requires main { IsSome located.checked.main }
+    ensures value { spec.DocumentWork located.checked located.paths result }
+    ensures paths { HasPaths result }
+{
+    let Located { checked, paths } = located;
+    match subset_of(alloc, checked, paths) {
+        Ok(subset) => work_of(alloc, document_text(alloc, &subset)),
+        Err(stop) => Work::Stop(stop),
+    }
+}
+
+fn object_in(alloc: Global, prepared: Prepared) -> Work
+    requires main { IsSome prepared.checked.main }
+    ensures value { spec.ObjectWork prepared.checked prepared.paths prepared.given result }
+    ensures paths { HasPaths result }
+{
+    let Prepared {
+        checked,
+        paths,
+        given,
+    } = prepared;
+    match subset_of(alloc, checked, paths) {
+        Ok(_) => work_of(alloc, object_line(alloc, &given)),
+        Err(stop) => Work::Stop(stop),
+    }
+}
+
+/// The CWL document of the main workflow of the document at a path.
+fn document<F: Shelf>(alloc: Global, file: &Text, shelf: &mut F) -> Work
+    ensures value { spec.WritesDocument (F.tells shelf.old) (F.refuses shelf.old) (Rose (F.faults shelf.old) (F.faults shelf.new)) file.now result }
+    ensures paths { HasPaths result }
+{
+    match main_of(alloc, file, shelf) {
+        Ok(located) => document_in(alloc, located),
+        Err(stop) => Work::Stop(stop),
+    }
+}
+
+/// The CWL input object of the inputs of a file, for the main workflow of the document at a path.
+fn object<F: Shelf>(alloc: Global, file: &Text, inputs: &Option<Text>, shelf: &mut F) -> Work
+    ensures value { spec.WritesObject (F.tells shelf.old) (F.refuses shelf.old) (Rose (F.faults shelf.old) (F.faults shelf.new)) file.now inputs.now result }
+    ensures paths { HasPaths result }
+{
+    match start_of(alloc, file, inputs, shelf) {
+        Ok(prepared) => object_in(alloc, prepared),
+        Err(stop) => Work::Stop(stop),
+    }
+}
+
+/// The CWL document of the main workflow of the document at a path; or, where the file of inputs is named, the CWL input
+/// object of these.
+pub fn cwl<F: Shelf>(alloc: Global, file: &Text, inputs: &Option<Text>, shelf: &mut F) -> Work
+    ensures value { spec.Translates (F.tells shelf.old) (F.refuses shelf.old) (Rose (F.faults shelf.old) (F.faults shelf.new)) file.now inputs.now result }
+    ensures paths { HasPaths result }
+{
+    match inputs {
+        None => document(alloc, file, shelf),
+        Some(_) => object(alloc, file, inputs, shelf),
+    }
+}

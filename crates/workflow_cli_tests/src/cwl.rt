@@ -1,0 +1,246 @@
+use std::test::Fail;
+use workflow_cases::first_mistake;
+
+/// Workflows of the subset, and their documents.
+const DOCUMENTS: &str =
+    r#"version task copy { input { File f } command <<<cat ~{f} > out.txt>>> output { File o = "out.txt" } } workflow s { input { Array[File] fs } scatter (f in fs) { call copy { input: f } } output { Array[File] os = copy.o } }
+file part.wdl
+version import "part.wdl" workflow w { input { Array[File] fs } call part.s { input: fs } output { Array[File] os = s.os } }
+file m.wdl
+$ cwl m.wdl
+> 0 0
+> {"class":"Workflow","cwlVersion":"v1.2","inputs":[{"id":"fs","type":{"items":"File","type":"array"}}],"outputs":[{"id":"os","outputSource":"s/os","type":{"items":"File","type":"array"}}],"requirements":[{"class":"ScatterFeatureRequirement"},{"class":"SubworkflowFeatureRequirement"}],"steps":[{"id":"s","in":[{"id":"fs","source":"fs"}],"out":["os"],"run":{"class":"Workflow","inputs":[{"id":"fs","type":{"items":"File","type":"array"}}],"outputs":[{"id":"os","outputSource":"scatter-0/copy-o","type":{"items":"File","type":"array"}}],"requirements":[{"class":"ScatterFeatureRequirement"},{"class":"SubworkflowFeatureRequirement"}],"steps":[{"id":"scatter-0","in":[{"id":"f","source":"fs"}],"out":["copy-o"],"run":{"class":"Workflow","inputs":[{"id":"f","type":"File"}],"outputs":[{"id":"copy-o","outputSource":"copy/o","type":"File"}],"requirements":[{"class":"ScatterFeatureRequirement"},{"class":"SubworkflowFeatureRequirement"}],"steps":[{"id":"copy","in":[{"id":"f","source":"f"}],"out":["o"],"run":{"arguments":["cat $(inputs.f.path) > out.txt"],"baseCommand":["sh","-c"],"class":"CommandLineTool","inputs":[{"id":"f","type":"File"}],"outputs":[{"id":"o","outputBinding":{"glob":"out.txt"},"type":"File"}],"stdout":"_stdout"}}]},"scatter":"f"}]}}]}
+
+version task copy { input { File f } command <<<cat ~{f} > out.txt>>> output { File o = "out.txt" } } workflow w { input { Boolean c File f } if (c) { call copy { input: f } } output { File? o = copy.o } }
+file w.wdl
+$ cwl w.wdl
+> 0 0
+> {"class":"Workflow","cwlVersion":"v1.2","inputs":[{"id":"c","type":"boolean"},{"id":"f","type":"File"}],"outputs":[{"id":"o","outputSource":"if-0/copy-o","type":["null","File"]}],"requirements":[{"class":"ScatterFeatureRequirement"},{"class":"SubworkflowFeatureRequirement"}],"steps":[{"id":"if-0","in":[{"id":"_when","source":"c"},{"id":"f","source":"f"}],"out":["copy-o"],"run":{"class":"Workflow","inputs":[{"id":"_when","type":"boolean"},{"id":"f","type":"File"}],"outputs":[{"id":"copy-o","outputSource":"copy/o","type":"File"}],"requirements":[{"class":"ScatterFeatureRequirement"},{"class":"SubworkflowFeatureRequirement"}],"steps":[{"id":"copy","in":[{"id":"f","source":"f"}],"out":["o"],"run":{"arguments":["cat $(inputs.f.path) > out.txt"],"baseCommand":["sh","-c"],"class":"CommandLineTool","inputs":[{"id":"f","type":"File"}],"outputs":[{"id":"o","outputBinding":{"glob":"out.txt"},"type":"File"}],"stdout":"_stdout"}}]},"when":"$(inputs._when)"}]}
+
+version task copy { input { File f } command <<<cat ~{f} > out.txt>>> output { File o = "out.txt" } } workflow w { input { File f } call copy { input: f } call copy as d { input: f = copy.o } output { File o = d.o } }
+file w.wdl
+$ cwl w.wdl
+> 0 0
+> {"class":"Workflow","cwlVersion":"v1.2","inputs":[{"id":"f","type":"File"}],"outputs":[{"id":"o","outputSource":"d/o","type":"File"}],"requirements":[{"class":"ScatterFeatureRequirement"},{"class":"SubworkflowFeatureRequirement"}],"steps":[{"id":"copy","in":[{"id":"f","source":"f"}],"out":["o"],"run":{"arguments":["cat $(inputs.f.path) > out.txt"],"baseCommand":["sh","-c"],"class":"CommandLineTool","inputs":[{"id":"f","type":"File"}],"outputs":[{"id":"o","outputBinding":{"glob":"out.txt"},"type":"File"}],"stdout":"_stdout"}},{"id":"d","in":[{"id":"f","source":"copy/o"}],"out":["o"],"run":{"arguments":["cat $(inputs.f.path) > out.txt"],"baseCommand":["sh","-c"],"class":"CommandLineTool","inputs":[{"id":"f","type":"File"}],"outputs":[{"id":"o","outputBinding":{"glob":"out.txt"},"type":"File"}],"stdout":"_stdout"}}]}
+
+version task copy { input { File f } command <<<cat ~{f} > out.txt>>> output { File o = "out.txt" } runtime { returnCodes: [3, 0, 3] } } workflow w { input { File f } call copy { input: f } call copy as d { input: f = copy.o } output { File o = d.o } }
+file w.wdl
+$ cwl w.wdl
+> 0 0
+> {"class":"Workflow","cwlVersion":"v1.2","inputs":[{"id":"f","type":"File"}],"outputs":[{"id":"o","outputSource":"d/o","type":"File"}],"requirements":[{"class":"ScatterFeatureRequirement"},{"class":"SubworkflowFeatureRequirement"}],"steps":[{"id":"copy","in":[{"id":"f","source":"f"}],"out":["o"],"run":{"arguments":["cat $(inputs.f.path) > out.txt"],"baseCommand":["sh","-c"],"class":"CommandLineTool","inputs":[{"id":"f","type":"File"}],"outputs":[{"id":"o","outputBinding":{"glob":"out.txt"},"type":"File"}],"stdout":"_stdout","successCodes":[0,3]}},{"id":"d","in":[{"id":"f","source":"copy/o"}],"out":["o"],"run":{"arguments":["cat $(inputs.f.path) > out.txt"],"baseCommand":["sh","-c"],"class":"CommandLineTool","inputs":[{"id":"f","type":"File"}],"outputs":[{"id":"o","outputBinding":{"glob":"out.txt"},"type":"File"}],"stdout":"_stdout","successCodes":[0,3]}}]}
+
+version task copy { input { File f } command <<<cat ~{f} > out.txt>>> output { File o = "out.txt" } } workflow w { input { Boolean c Array[File] fs } scatter (f in fs) { if (c) { call copy { input: f } } } output { Array[File?] os = copy.o } }
+file w.wdl
+$ cwl w.wdl
+> 0 0
+> {"class":"Workflow","cwlVersion":"v1.2","inputs":[{"id":"c","type":"boolean"},{"id":"fs","type":{"items":"File","type":"array"}}],"outputs":[{"id":"os","outputSource":"scatter-0/copy-o","type":{"items":["null","File"],"type":"array"}}],"requirements":[{"class":"ScatterFeatureRequirement"},{"class":"SubworkflowFeatureRequirement"}],"steps":[{"id":"scatter-0","in":[{"id":"f","source":"fs"},{"id":"c","source":"c"}],"out":["copy-o"],"run":{"class":"Workflow","inputs":[{"id":"f","type":"File"},{"id":"c","type":"boolean"}],"outputs":[{"id":"copy-o","outputSource":"if-0/copy-o","type":["null","File"]}],"requirements":[{"class":"ScatterFeatureRequirement"},{"class":"SubworkflowFeatureRequirement"}],"steps":[{"id":"if-0","in":[{"id":"_when","source":"c"},{"id":"f","source":"f"}],"out":["copy-o"],"run":{"class":"Workflow","inputs":[{"id":"_when","type":"boolean"},{"id":"f","type":"File"}],"outputs":[{"id":"copy-o","outputSource":"copy/o","type":"File"}],"requirements":[{"class":"ScatterFeatureRequirement"},{"class":"SubworkflowFeatureRequirement"}],"steps":[{"id":"copy","in":[{"id":"f","source":"f"}],"out":["o"],"run":{"arguments":["cat $(inputs.f.path) > out.txt"],"baseCommand":["sh","-c"],"class":"CommandLineTool","inputs":[{"id":"f","type":"File"}],"outputs":[{"id":"o","outputBinding":{"glob":"out.txt"},"type":"File"}],"stdout":"_stdout"}}]},"when":"$(inputs._when)"}]},"scatter":"f"}]}"#;
+
+/// Documents that break a rule, and structs, which have no CWL form.
+const OUTSIDE: &str = r#"say
+text workflow w { call say { input: s = "hi" } output { String r = say.r } }
+file w.wdl
+$ cwl w.wdl
+> 8 0
+> ! not in the subset: 601 at w.wdl:139..167
+
+version task copy { input { File f } command <<<date $(date)>>> output { File o = "out.txt" } } workflow w { input { File f } call copy { input: f } output { File o = copy.o } }
+file w.wdl
+$ cwl w.wdl
+> 8 0
+> ! not in the subset: 610 at w.wdl:12..99
+
+version task t { input { Boolean flag } command <<<~{flag}>>> } workflow w { input { Boolean flag } call t { input: flag } }
+file w.wdl
+$ cwl w.wdl
+> 8 0
+> ! not in the subset: 610 at w.wdl:12..67
+
+version task copy { input { File f } command <<<cat ~{f} > out.txt>>> output { File o = "out.txt" } runtime { returnCodes: [3] } } workflow w { input { File f } call copy { input: f } output { File o = copy.o } }
+file w.wdl
+$ cwl w.wdl
+> 8 0
+> ! not in the subset: 613 at w.wdl:12..134
+
+version task copy { input { File f } command <<<cat ~{f} > out.txt>>> output { File o = "out.txt" } runtime { maxRetries: 1 } } workflow w { input { File f } call copy { input: f } output { File o = copy.o } }
+file w.wdl
+$ cwl w.wdl
+> 8 0
+> ! not in the subset: 613 at w.wdl:12..131
+
+version struct S { File f String tag } task copy { input { File f } command <<<cat ~{f} > out.txt>>> output { File o = "out.txt" } } workflow w { input { Array[S] ss } scatter (s in ss) { call copy { input: f = s.f } } }
+file w.wdl
+$ cwl w.wdl
+> 8 0
+> ! not in the subset: 601 at w.wdl:192..220
+
+version struct S { File f String tag } task copy { input { File f } command <<<cat ~{f} > out.txt>>> output { File o = "out.txt" } } workflow w { input { S s } }
+file w.wdl
+$ cwl w.wdl
+> 8 0
+> ! not in the subset: 605 at w.wdl:158..161"#;
+
+/// A document for each other rule, one with several, of which the lowest is named, and one whose import breaks it.
+const RULES: &str = r#"version workflow w { Int x = 1 }
+file w.wdl
+$ cwl w.wdl
+> 8 0
+> ! not in the subset: 602 at w.wdl:25..34
+
+version task tag { input { String s } command <<<echo ~{s}>>> output { File o = stdout() } } workflow w { input { String s } if (true) { call tag { input: s } } }
+file w.wdl
+$ cwl w.wdl
+> 8 0
+> ! not in the subset: 603 at w.wdl:129..164
+
+version task tag { input { String s } command <<<echo ~{s}>>> output { File o = stdout() } } workflow w { input { String s } call tag { input: s } call tag as b after tag { input: s } }
+file w.wdl
+$ cwl w.wdl
+> 8 0
+> ! not in the subset: 604 at w.wdl:151..187
+
+version workflow w { input { Map[String, Int] m } }
+file w.wdl
+$ cwl w.wdl
+> 8 0
+> ! not in the subset: 605 at w.wdl:33..51
+
+version workflow w { input { String s = 1 } }
+file w.wdl
+$ cwl w.wdl
+> 8 0
+> ! not in the subset: 606 at w.wdl:33..45
+
+version workflow w { input { Int x = 1 + 1 } }
+file w.wdl
+$ cwl w.wdl
+> 8 0
+> ! not in the subset: 607 at w.wdl:33..46
+
+version task t { input { File f } Int x = 1 command <<<head -n ~{x} ~{f}>>> } workflow w { input { File f } call t { input: f } }
+file w.wdl
+$ cwl w.wdl
+> 8 0
+> ! not in the subset: 608 at w.wdl:38..47
+
+version task t { input { Array[String] s } command <<<echo ~{sep=" " s}>>> } workflow w { input { Array[String] s } call t { input: s } }
+file w.wdl
+$ cwl w.wdl
+> 8 0
+> ! not in the subset: 609 at w.wdl:12..80
+
+version task t { command <<<date>>> output { String s = read_string(stdout()) } } workflow w { call t }
+file w.wdl
+$ cwl w.wdl
+> 8 0
+> ! not in the subset: 611 at w.wdl:49..81
+
+version workflow w { input { Int x } output { Int y = x } }
+file w.wdl
+$ cwl w.wdl
+> 8 0
+> ! not in the subset: 612 at w.wdl:50..59
+
+version task tag { input { String s } command <<<echo ~{s}>>> output { File o = stdout() } } workflow w { input { Int n } call tag { input: s = n } }
+file w.wdl
+$ cwl w.wdl
+> 8 0
+> ! not in the subset: 601 at w.wdl:126..151
+
+version task tag { input { String s } command <<<echo ~{s}>>> output { File o = stdout() } } workflow w { input { Map[String, Int] m } call tag { input: s = "a" } Int x = 1 }
+file w.wdl
+$ cwl w.wdl
+> 8 0
+> ! not in the subset: 601 at w.wdl:139..166
+
+version workflow v { Int x = 1 }
+file part.wdl
+version import "part.wdl" workflow w { call part.v }
+file w.wdl
+$ cwl w.wdl
+> 8 0
+> ! not in the subset: 602 at part.wdl:25..34"#;
+
+/// Inputs, and the order of the refusals.
+const INPUTS: &str =
+    r#"version task tag { input { String s } command <<<echo ~{s}>>> output { File o = stdout() } } workflow w { input { String s Array[File]? fs Int? n } call tag { input: s } output { File o = tag.o } }
+file w.wdl
+inputs {"w.s":"a b","w.fs":["/d/1","/d/2"],"w.n":null}
+$ cwl --inputs i.json w.wdl
+> 0 0
+> {"fs":[{"class":"File","path":"/d/1"},{"class":"File","path":"/d/2"}],"n":null,"s":"a b"}
+
+version task tag { input { String s } command <<<echo ~{s}>>> output { File o = stdout() } } workflow w { input { String s Array[File]? fs Int? n } call tag { input: s } output { File o = tag.o } }
+file w.wdl
+inputs {"w.s":"a"}
+$ cwl --inputs=i.json w.wdl
+> 0 0
+> {"s":"a"}
+
+version workflow w { }
+file w.wdl
+inputs {}
+$ cwl --inputs i.json w.wdl
+> 0 0
+> {}
+
+version workflow w { input { Int x = 1 } Int y = x }
+file w.wdl
+inputs {"w.x":"a"}
+$ cwl --inputs i.json w.wdl
+> 4 0
+> ! inputs: 405 DoesNotFit w.x
+
+version workflow w { input { Int x = 1 } Int y = x }
+file w.wdl
+inputs {}
+$ cwl --inputs i.json w.wdl
+> 8 0
+> ! not in the subset: 602 at w.wdl:45..54
+
+version workflow w { input { Int x = 1 } Int y = x }
+file w.wdl
+$ cwl --inputs i.json w.wdl
+> 5 0
+> ! cannot read i.json
+
+version 
+file w.wdl
+$ cwl w.wdl
+> 3 0
+> ! w.wdl:0..0: 327 NoWorkflow
+
+version workflow w { Int x = y }
+file w.wdl
+$ cwl w.wdl
+> 3 0
+> ! w.wdl:33..34: 301 UnknownName
+
+version workflow w { }
+file w.wdl
+$ cwl w.wdl
+> 0 0
+> {"class":"Workflow","cwlVersion":"v1.2","inputs":[],"outputs":[],"requirements":[{"class":"ScatterFeatureRequirement"},{"class":"SubworkflowFeatureRequirement"}],"steps":[]}"#;
+
+#[test]
+fn workflows_of_the_subset_have_their_documents(rt: HostRuntime) -> Result<(), Fail> {
+    assert_eq!(rt; first_mistake(rt.alloc(), DOCUMENTS)?.as_str(), "");
+    Ok(())
+}
+
+#[test]
+fn what_has_no_cwl_form_is_refused(rt: HostRuntime) -> Result<(), Fail> {
+    assert_eq!(rt; first_mistake(rt.alloc(), OUTSIDE)?.as_str(), "");
+    Ok(())
+}
+
+#[test]
+fn the_lowest_rule_is_named(rt: HostRuntime) -> Result<(), Fail> {
+    assert_eq!(rt; first_mistake(rt.alloc(), RULES)?.as_str(), "");
+    Ok(())
+}
+
+#[test]
+fn inputs_are_read_before_the_subset_is_tested(rt: HostRuntime) -> Result<(), Fail> {
+    assert_eq!(rt; first_mistake(rt.alloc(), INPUTS)?.as_str(), "");
+    Ok(())
+}
