@@ -22,11 +22,11 @@ use Rattle.wdl_links.specs.declared.fault.LinkFault.{LinkFault}
 use Rattle.wdl_links.specs.declared.fault.LinkFault.TheVariants as fault
 use Rattle.wdl_links.specs.Circles.{IsCircle}
 use Rattle.wdl_links.specs.Circles as circles
-use Rattle.wdl_structs.specs.Faults.{bare, AreSameDocs, HasUnknown, ImportUnknown, HasNameFault, AreNamed, AreUnnamed}
+use Rattle.wdl_structs.specs.Faults.{bare, AreSameDocs, HasUnknown, ImportUnknown, HasNameFault, AreNamed, AreUnnamed, AreStood}
 use Rattle.wdl_structs.specs.Faults as names
 use Rattle.wdl_structs.proofs.IdentityLaws.{contained}
 use Rattle.wdl_structs.proofs.SameLaws.{same_linked, same_circle, same_tokens}
-use Rattle.wdl_structs.proofs.UniqueLaws.{same_get, same_length, one_stood, AreStood}
+use Rattle.wdl_structs.proofs.UniqueLaws.{same_get, same_length, one_stood}
 use Rattle.wdl_structs.proofs.OneLaws.{one_structs}
 use Rattle.wdl_sources.specs.declared.source.Source.{Source}
 use Rattle.wdl_sources.specs.declared.fault.ImportFault.{ImportFault}

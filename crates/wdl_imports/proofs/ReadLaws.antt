@@ -17,7 +17,7 @@ use Rattle.wdl_library.specs.Links.{is_countable, tokens_in, is_at, is_link, are
 use Rattle.wdl_paths.specs.Resolve.{resolve}
 use Rattle.wdl_links.specs.declared.want.Want.{Want}
 use Rattle.wdl_links.specs.Wants.{and_then, want_of, wants_of}
-use Rattle.wdl_structs.specs.Faults.{AreReached}
+use Rattle.wdl_links.specs.Circles.{AreReached}
 use Rattle.wdl_sources.specs.declared.source.Source.{Source}
 use Rattle.wdl_sources.specs.declared.walk.Step.{Step}
 use Rattle.wdl_sources.specs.Reading.{IsRead}

@@ -10,7 +10,8 @@ use Rattle.wdl_library.specs.Names.{knows_aliases}
 use Rattle.wdl_library.specs.Structs.{HasStructs}
 use Rattle.wdl_links.specs.declared.fault.LinkFault.{LinkFault}
 use Rattle.wdl_links.specs.declared.fault.LinkFault.TheVariants as fault
-use Rattle.wdl_structs.specs.Faults.{AreSameDocs, AreReached}
+use Rattle.wdl_links.specs.Circles.{AreReached}
+use Rattle.wdl_structs.specs.Faults.{AreSameDocs}
 use Rattle.wdl_sources.specs.declared.source.Source.{Source}
 use Rattle.wdl_sources.specs.declared.fault.ImportFault.{ImportFault}
 use Rattle.wdl_sources.specs.declared.fault.ImportFault.TheVariants as import

@@ -14,7 +14,7 @@ use Rattle.wdl_library.specs.Imports.{namespace_of, uri_of}
 use Rattle.wdl_library.specs.Sections.{imports_of}
 use Rattle.wdl_library.specs.Links.{is_at, are_links, has_links, links_in, links_at, ends_within, each_ends, has_no_circle}
 use Rattle.wdl_paths.specs.Resolve.{resolve}
-use Rattle.wdl_links.specs.Circles.{is_set, is_marked, all_marked, marked, unmarked, is_next, AreEnds, places, places_of, LeadsAt, IsChain, Leads, IsCircle, HasMarks, IsNextOpen, open_link}
+use Rattle.wdl_links.specs.Circles.{is_set, is_marked, all_marked, marked, unmarked, is_next, AreEnds, places, places_of, LeadsAt, IsChain, Leads, IsCircle, AreReached, AreBeingRead, first_endless, HasMarks, IsNextOpen, open_link}
 use Rattle.wdl_links.specs.Wants.{span_of}
 
 some_same : {A : Type 0} (x y : A) → Some x ≡ Some y → x ≡ y
@@ -49,10 +49,17 @@ marked-most [] = omega arith
 marked-most (true ∷ bs) = let r = marked-most bs in omega (arith, r)
 marked-most (false ∷ bs) = let r = marked-most bs in omega (arith, r)
 
-all_set : (marks : List Bool) (k : ℕ) → list_all (λ b. b) marks ≡ true → k < length marks → is_marked marks k ≡ true
-all_set [] k h below = absurd (omega arith)
-all_set (b ∷ bs) zero h below = (and_parts b (list_all (λ b. b) bs) h).0
-all_set (b ∷ bs) (suc k) h below = all_set bs k (and_parts b (list_all (λ b. b) bs) h).1 (omega arith)
+set_there : (marks : List Bool) (k : ℕ) → k < length marks → is_marked (slice_set marks k true) k ≡ true
+set_there [] k below = absurd (omega arith)
+set_there (b ∷ bs) zero below = refl
+set_there (b ∷ bs) (suc k) below = set_there bs k (omega arith)
+
+set_keeps : (marks : List Bool) (k j : ℕ) → is_marked marks j ≡ true → is_marked (slice_set marks k true) j ≡ true
+set_keeps [] k j h = h
+set_keeps (b ∷ bs) zero zero h = refl
+set_keeps (b ∷ bs) zero (suc j) h = h
+set_keeps (b ∷ bs) (suc k) zero h = h
+set_keeps (b ∷ bs) (suc k) (suc j) h = set_keeps bs k j h
 
 pub is_marked-push : (marks : List Bool) → ((k : ℕ) → is_marked marks k ≡ false) → (k : ℕ) → is_marked (marks ++ false ∷ []) k ≡ false
 is_marked-push [] h zero = refl
@@ -101,13 +108,30 @@ all_ends docs marks e ends k m =
     let i : length docs - marked marks + marked marks ≡ length docs = omega (arith, most, e) in
     subst (λ n. ends_within n docs k ≡ true) i r
 
-each_marked : (n : ℕ) (docs : List Doc) (marks : List Bool) (k : ℕ) → k ≤ length marks → list_all (λ b. b) marks ≡ true → AreEnds n docs marks → each_ends n docs k ≡ true
-each_marked n docs marks zero below h ends = refl
-each_marked n docs marks (suc k) below h ends =
-    and_from (ends_within n docs k) (each_ends n docs k) (ends k (all_set marks k h (omega arith))) (each_marked n docs marks k (omega arith) h ends)
+each_from : (n : ℕ) (docs : List Doc) (k : ℕ) → ((j : ℕ) → j < k → ends_within n docs j ≡ true) → each_ends n docs k ≡ true
+each_from n docs zero h = refl
+each_from n docs (suc k) h = and_from (ends_within n docs k) (each_ends n docs k) (h k (omega arith)) (each_from n docs k (λ j b. h j (omega (arith, b))))
 
-pub no_circle : (docs : List Doc) (marks : List Bool) → length marks ≡ length docs → list_all (λ b. b) marks ≡ true → AreEnds (length docs) docs marks → has_no_circle docs ≡ true
-no_circle docs marks e h ends = each_marked (length docs) docs marks (length docs) (omega (arith, e)) h ends
+-- What document 0 leads to ends where its walks end.
+leads_end : (n : ℕ) (docs : List Doc) (j k : ℕ) (l : Link) → Contains (links_at docs j) l → l.doc ≡ k → ends_within n docs j ≡ true → ends_within n docs k ≡ true
+leads_end zero docs j k l c e h = absurd (false≢true h)
+leads_end (suc n) docs j k l c e h =
+    ends_longer n docs k (subst (λ x. ends_within n docs x ≡ true) e (all_contained (λ (y : Link). ends_within n docs y.doc) (links_at docs j) l c h))
+  where
+    all_contained : (p : Link → Bool) (xs : List Link) (x : Link) → Contains xs x → list_all p xs ≡ true → p x ≡ true
+    all_contained p [] x (q, below, at) a = absurd (omega (arith, below))
+    all_contained p (y ∷ ys) x (zero, below, at) a = subst (λ z. p z ≡ true) at (and_parts (p y) (list_all p ys) a).0
+    all_contained p (y ∷ ys) x (suc q, below, at) a = all_contained p ys x (q, omega (arith, below), at) (and_parts (p y) (list_all p ys) a).1
+
+reached_end : (n : ℕ) (docs : List Doc) → AreReached docs → ends_within n docs 0 ≡ true → (b k : ℕ) → k < b → k < length docs → ends_within n docs k ≡ true
+reached_end n docs r h zero k below within = absurd (omega (arith, below))
+reached_end n docs r h (suc b) zero below within = h
+reached_end n docs r h (suc b) (suc k) below within =
+    let p = r (suc k) (omega arith) within in
+    leads_end n docs p.0 (suc k) p.2.0 p.2.1 p.2.2 (reached_end n docs r h b p.0 (omega (arith, below, p.1)) (omega (arith, within, p.1)))
+
+pub no_circle : (docs : List Doc) (marks : List Bool) → AreReached docs → is_marked marks 0 ≡ true → AreEnds (length docs) docs marks → has_no_circle docs ≡ true
+no_circle docs marks r m ends = each_from (length docs) docs (length docs) (λ k b. reached_end (length docs) docs r (ends 0 m) (length docs) k b b)
 
 -- ---- what is found in lists
 
@@ -219,16 +243,6 @@ get_marked (b ∷ bs) (suc j) below h = get_marked bs j (omega arith) h
 pub marked_get : (marks : List Bool) (j : ℕ) → slice_get marks j ≡ Some false → is_marked marks j ≡ false
 marked_get marks j h = ap is_set h
 
-pub next_open : (docs : List Doc) (marks : List Bool) (k : ℕ) (d : Doc) (x : ℕ × Span) → HasMarks docs marks → slice_get docs k ≡ Some d
-    → open_link marks (imports_of d.document) d.imports ≡ Some x → IsNextOpen docs marks k x
-next_open docs marks k d x h at o =
-    let p = open_place marks (imports_of d.document) d.imports x o in
-    let within = place_within docs d.path (imports_of d.document) d.imports p.1.0 x (all_at (has_links docs) docs k d h.linked at) p.1.1 p.1.2 in
-    record {
-      leads = subst (λ (l : Option Doc). Contains (places_of l) x) (sym at) p.1;
-      unmarked = get_marked marks x.0 (omega (arith, within, h.len)) p.0;
-    }
-
 not_and : (a b : Bool) → a ≡ false → not a && b ≡ false → b ≡ false
 not_and true b e h = absurd (true≢false e)
 not_and false b e h = h
@@ -241,18 +255,120 @@ some_open docs marks k d h at m o =
     let e = open_none docs d.path marks (imports_of d.document) d.imports o (all_at (has_links docs) docs k d h.linked at) in
     false≢true (sym n ∙ ap (λ l. all_marked marks (links_in l)) at ∙ e)
 
+-- ---- walks from documents without a mark go on for ever
+
+no_and : (a b : Bool) → b ≡ false → a && b ≡ false
+no_and true b h = h
+no_and false b h = refl
+
+-- The test fails for the links, where it does for the one that is found.
+open_stops : (test : ℕ → Bool) (marks : List Bool) (is : List Import) (ls : List Link) (x : ℕ × Span) → open_link marks is ls ≡ Some x → test x.0 ≡ false
+    → list_all (λ (l : Link). test l.doc) ls ≡ false
+open_stops test marks [] ls x h f = absurd (none_some x h)
+open_stops test marks (i ∷ is) [] x h f = absurd (none_some x h)
+open_stops test marks (i ∷ is) (l ∷ ls) x h f =
+    elim (open_from (is_marked marks l.doc) (open_link marks is ls) (Some (l.doc, span_of i)) x h) as (λ c. list_all (λ (y : Link). test y.doc) (l ∷ ls) ≡ false) [
+      | inl p ↦ no_and (test l.doc) (list_all (λ (y : Link). test y.doc) ls) (open_stops test marks is ls x p.1 f)
+      | inr p ↦ ap (λ b. b && list_all (λ (y : Link). test y.doc) ls) (ap (λ (y : ℕ × Span). test y.0) (some_same (l.doc, span_of i) x p.1) ∙ f)
+    ]
+
+open_next : (docs : List Doc) (marks : List Bool) (k : ℕ) (d : Doc) (x : ℕ × Span) → HasMarks docs marks → slice_get docs k ≡ Some d
+    → open_link marks (imports_of d.document) d.imports ≡ Some x → slice_get marks x.0 ≡ Some false
+open_next docs marks k d x h at o =
+    let p = open_place marks (imports_of d.document) d.imports x o in
+    let within = place_within docs d.path (imports_of d.document) d.imports p.1.0 x (all_at (has_links docs) docs k d h.linked at) p.1.1 p.1.2 in
+    get_marked marks x.0 (omega (arith, within, h.len)) p.0
+
+doc_at : (docs : List Doc) (k : ℕ) → k < length docs → (d : Doc) × (slice_get docs k ≡ Some d)
+doc_at [] k below = absurd (omega (arith, below))
+doc_at (d ∷ ds) zero below = (d, refl)
+doc_at (d ∷ ds) (suc k) below = doc_at ds k (omega (arith, below))
+
+endless : (docs : List Doc) (marks : List Bool) → HasMarks docs marks → (n k : ℕ) → k < length docs → slice_get marks k ≡ Some false → ends_within n docs k ≡ false
+endless docs marks h zero k below m = refl
+endless docs marks h (suc n) k below m =
+    let d = doc_at docs k below in
+    ap (λ o. list_all (λ (l : Link). ends_within n docs l.doc) (links_in o)) d.1
+    ∙ by_link (endless docs marks h n) d.0 d.1 (open_link marks (imports_of d.0.document) d.0.imports) refl
+  where
+    by_link : ((j : ℕ) → j < length docs → slice_get marks j ≡ Some false → ends_within n docs j ≡ false) → (d : Doc) → slice_get docs k ≡ Some d → (o : Option (ℕ × Span)) → open_link marks (imports_of d.document) d.imports ≡ o
+        → list_all (λ (l : Link). ends_within n docs l.doc) d.imports ≡ false
+    by_link shorter d at None e = absurd (some_open docs marks k d h at m e)
+    by_link shorter d at (Some x) e =
+        let u = open_next docs marks k d x h at e in
+        let within = slice_get_within marks x.0 false u in
+        open_stops (ends_within n docs) marks (imports_of d.document) d.imports x e (shorter x.0 (omega (arith, within, h.len)) u)
+
+-- The marks are those of the documents whose walks end.
+mark_is_end : (docs : List Doc) (marks : List Bool) → HasMarks docs marks → (k : ℕ) → k < length docs → is_marked marks k ≡ ends_within (length docs) docs k
+mark_is_end docs marks h k below = on (is_marked marks k) refl
+  where
+    on : (b : Bool) → is_marked marks k ≡ b → is_marked marks k ≡ ends_within (length docs) docs k
+    on true e = e ∙ sym (h.ends k e)
+    on false e = e ∙ sym (endless docs marks h (length docs) k below (get_marked marks k (omega (arith, below, h.len)) e))
+
+link_within : (docs : List Doc) (l : Link) (p : Option (List ℕ)) → is_at (slice_get docs l.doc) p ≡ true → l.doc < length docs
+link_within docs l p h = get_within docs l.doc (at_some (slice_get docs l.doc) p h)
+
+open_is_first : (docs : List Doc) (base : List ℕ) (marks : List Bool) → HasMarks docs marks → (is : List Import) (ls : List Link) (x : ℕ × Span) → are_links docs base is ls ≡ true
+    → open_link marks is ls ≡ Some x → first_endless docs (places is ls) ≡ Some x
+open_is_first docs base marks h [] ls x k o = absurd (none_some x o)
+open_is_first docs base marks h (i ∷ is) [] x k o = absurd (none_some x o)
+open_is_first docs base marks h (i ∷ is) (l ∷ ls) x k o =
+    let p = and_parts (bytes_eq l.namespace (namespace_of i) && is_at (slice_get docs l.doc) (resolve base (uri_of i))) (are_links docs base is ls) k in
+    let q = and_parts (bytes_eq l.namespace (namespace_of i)) (is_at (slice_get docs l.doc) (resolve base (uri_of i))) p.0 in
+    let same = mark_is_end docs marks h l.doc (link_within docs l (resolve base (uri_of i)) q.1) in
+    subst (λ b. (if b then first_endless docs (places is ls) else Some (l.doc, span_of i)) ≡ Some x) same
+    (on (is_marked marks l.doc) (open_link marks is ls) (first_endless docs (places is ls)) o (λ e. open_is_first docs base marks h is ls x p.1 e))
+  where
+    on : (b : Bool) (u v : Option (ℕ × Span)) → (if b then u else Some (l.doc, span_of i)) ≡ Some x → (u ≡ Some x → v ≡ Some x) → (if b then v else Some (l.doc, span_of i)) ≡ Some x
+    on true u v e f = f e
+    on false u v e f = e
+
+pub next_open : (docs : List Doc) (marks : List Bool) (k : ℕ) (d : Doc) (x : ℕ × Span) → HasMarks docs marks → slice_get docs k ≡ Some d
+    → open_link marks (imports_of d.document) d.imports ≡ Some x → IsNextOpen docs marks k x
+next_open docs marks k d x h at o =
+    let p = open_place marks (imports_of d.document) d.imports x o in
+    record {
+      leads = subst (λ (l : Option Doc). Contains (places_of l) x) (sym at) p.1;
+      first = ap (λ (l : Option Doc). first_endless docs (places_of l)) at ∙ open_is_first docs d.path marks h (imports_of d.document) d.imports x (all_at (has_links docs) docs k d h.linked at) o;
+      unmarked = open_next docs marks k d x h at o;
+    }
+
 -- ---- what the walk along open links has seen
+
+contains_first : (k : ℕ) (ks : List ℕ) (v : ℕ) → v ≡ k → Contains (k ∷ ks) v
+contains_first k ks v e = (0, omega arith, sym e)
+
+contains_or : (k : ℕ) (ks : List ℕ) (v : ℕ) → Contains (k ∷ ks) v → (v ≡ k) ⊎ Contains ks v
+contains_or k ks v (zero, below, e) = inl (sym e)
+contains_or k ks v (suc q, below, e) = inr (q, omega (arith, below), e)
 
 pub record HasSeen (docs : List Doc) (marks seen : List Bool) (at : ℕ) : Type 0 where
   pub len : length seen ≡ length docs
   pub unmarked_at : slice_get marks at ≡ Some false
   pub fresh : is_marked seen at ≡ false
   pub leads : (v : ℕ) → is_marked seen v ≡ true → Leads docs v at
+  pub outer : List ℕ
+  pub reading : AreBeingRead docs (at ∷ outer)
+  pub seen_are : (v : ℕ) → is_marked seen v ≡ true → Contains outer v
+  pub are_seen : (v : ℕ) → Contains outer v → is_marked seen v ≡ true
 
-pub seen_first : (docs : List Doc) (marks seen : List Bool) (first : ℕ) → length seen ≡ length docs → ((k : ℕ) → is_marked seen k ≡ false)
-    → slice_get marks first ≡ Some false → HasSeen docs marks seen first
-seen_first docs marks seen first len none at =
-    record { len = len; unmarked_at = at; fresh = none first; leads = λ v h. absurd (true≢false (sym h ∙ none v)) }
+pub seen_first : (docs : List Doc) (marks seen : List Bool) → length seen ≡ length docs → ((k : ℕ) → is_marked seen k ≡ false)
+    → slice_get marks 0 ≡ Some false → HasSeen docs marks seen 0
+seen_first docs marks seen len none at = record {
+  len = len;
+  unmarked_at = at;
+  fresh = none 0;
+  leads = λ v h. absurd (true≢false (sym h ∙ none v));
+  outer = [];
+  reading = refl;
+  seen_are = λ v h. absurd (true≢false (sym h ∙ none v));
+  are_seen = λ v h. absurd (nothing_in v h);
+}
+  where
+    nothing_in : (v : ℕ) → Contains [] v → ⊥
+    nothing_in v h = omega (arith, h.1)
 
 -- all that was seen leads to where the walk stands
 pub seen_leads : (docs : List Doc) (marks seen : List Bool) (at : ℕ) → HasSeen docs marks seen at
@@ -260,19 +376,52 @@ pub seen_leads : (docs : List Doc) (marks seen : List Bool) (at : ℕ) → HasSe
 seen_leads docs marks seen at h v m =
     elim (is_marked-set seen at v m) as (λ s. Leads docs v at) [ inl e ↦ ([], e) | inr old ↦ h.leads v old ]
 
-pub seen_more : (docs : List Doc) (marks seen : List Bool) (at : ℕ) (x : ℕ × Span) → HasSeen docs marks seen at → IsNextOpen docs marks at x
+-- and is being read
+seen_again : (docs : List Doc) (marks seen : List Bool) (at : ℕ) (h : HasSeen docs marks seen at)
+    → (v : ℕ) → is_marked (slice_set seen at true) v ≡ true → Contains (at ∷ h.outer) v
+seen_again docs marks seen at h v m =
+    elim (is_marked-set seen at v m) as (λ s. Contains (at ∷ h.outer) v) [
+      | inl e ↦ contains_first at h.outer v e
+      | inr old ↦ contains_later v at h.outer (h.seen_are v old)
+    ]
+
+pub at_within : (docs : List Doc) (marks seen : List Bool) (at : ℕ) → length marks ≡ length docs → HasSeen docs marks seen at → at < length docs
+at_within docs marks seen at e h = let r = slice_get_within marks at false h.unmarked_at in omega (arith, r, e)
+
+again_seen : (docs : List Doc) (marks seen : List Bool) (at : ℕ) (h : HasSeen docs marks seen at) → length marks ≡ length docs
+    → (v : ℕ) → Contains (at ∷ h.outer) v → is_marked (slice_set seen at true) v ≡ true
+again_seen docs marks seen at h len v c =
+    let within = at_within docs marks seen at len h in
+    elim (contains_or at h.outer v c) as (λ s. is_marked (slice_set seen at true) v ≡ true) [
+      | inl e ↦ subst (λ x. is_marked (slice_set seen at true) x ≡ true) (sym e) (set_there seen at (omega (arith, within, h.len)))
+      | inr old ↦ set_keeps seen at v (h.are_seen v old)
+    ]
+
+pub seen_more : (docs : List Doc) (marks seen : List Bool) (at : ℕ) (x : ℕ × Span) → length marks ≡ length docs → HasSeen docs marks seen at → IsNextOpen docs marks at x
     → is_marked (slice_set seen at true) x.0 ≡ false → HasSeen docs marks (slice_set seen at true) x.0
-seen_more docs marks seen at x h n fresh = record {
+seen_more docs marks seen at x len h n fresh = record {
   len = length-set seen at true ∙ h.len;
   unmarked_at = n.unmarked;
   fresh = fresh;
   leads = λ v m. leads_more docs v at x.0 x.1 (seen_leads docs marks seen at h v m) n.leads;
+  outer = at ∷ h.outer;
+  reading = ((x.1, n.first), (λ c. true≢false (sym (again_seen docs marks seen at h len x.0 c) ∙ fresh)), h.reading);
+  seen_are = seen_again docs marks seen at h;
+  are_seen = again_seen docs marks seen at h len;
 }
 
 pub closes : (docs : List Doc) (marks seen : List Bool) (at : ℕ) (x : ℕ × Span) → HasSeen docs marks seen at → IsNextOpen docs marks at x
     → is_marked (slice_set seen at true) x.0 ≡ true → IsCircle docs x.1
-closes docs marks seen at x h n m =
-    record { importing = at; imported = x.0; leads_there = n.leads; leads_back = seen_leads docs marks seen at h x.0 m }
+closes docs marks seen at x h n m = record {
+  importing = at;
+  imported = x.0;
+  outer = h.outer;
+  reading = h.reading;
+  next = n.first;
+  again = seen_again docs marks seen at h x.0 m;
+  leads_there = n.leads;
+  leads_back = seen_leads docs marks seen at h x.0 m;
+}
 
-pub at_within : (docs : List Doc) (marks seen : List Bool) (at : ℕ) → length marks ≡ length docs → HasSeen docs marks seen at → at < length docs
-at_within docs marks seen at e h = let r = slice_get_within marks at false h.unmarked_at in omega (arith, r, e)
+pub marked_none : (docs : List Doc) (marks : List Bool) → length marks ≡ length docs → 0 < length docs → is_marked marks 0 ≡ false → slice_get marks 0 ≡ Some false
+marked_none docs marks len some h = get_marked marks 0 (omega (arith, len, some)) h

@@ -68,10 +68,38 @@ IsChain docs j (x ∷ xs) k = ((s : Span) × LeadsAt docs j s x) × IsChain docs
 abbrev pub Leads : List Doc → ℕ → ℕ → Type 0
 Leads docs j k = (xs : List ℕ) × IsChain docs j xs k
 
--- The import at the place leads to a document that is being read: one that leads to the importing document, or is itself that.
+-- ---- reading, depth first
+
+-- every document but the first is imported by one before it
+abbrev pub AreReached : List Doc → Type 0
+AreReached docs = (k : ℕ) → 0 < k → k < length docs → (j : ℕ) × (j < k) × ((l : Link) × Contains (links_at docs j) l × (l.doc ≡ k))
+
+-- the first of these places whose document is not read to its end: some walk from it goes on for ever
+abbrev pub first_endless : List Doc → List (ℕ × Span) → Option (ℕ × Span)
+first_endless docs [] = None
+first_endless docs (p ∷ ps) = if ends_within (length docs) docs p.0 then first_endless docs ps else Some p
+
+-- Document j has its imports read in their order, each with all that it leads to. Those before the import at this place are read to
+-- their ends, and this one, which is not, leads to document k.
+abbrev pub ReadsNext : List Doc → ℕ → ℕ → Span → Type 0
+ReadsNext docs j k s = first_endless docs (places_at docs j) ≡ Some (k, s)
+
+-- The documents that are being read, each while the one behind it in the list is: from the innermost to document 0. They differ.
+abbrev pub AreBeingRead : List Doc → List ℕ → Type 0
+AreBeingRead docs [] = ⊥
+AreBeingRead docs (k ∷ []) = k ≡ 0
+AreBeingRead docs (k ∷ j ∷ js) = ((s : Span) × ReadsNext docs j k s) × (Contains (j ∷ js) k → ⊥) × AreBeingRead docs (j ∷ js)
+
+-- Documents are read depth first, in the order of their imports, and the import at the place is the first that leads to a document which
+-- is being read. Of the imports of a circle it is the one that closes it. The imported document leads back to the importing one, or is
+-- itself that.
 pub record IsCircle (docs : List Doc) (s : Span) : Type 0 where
   pub importing : ℕ
   pub imported : ℕ
+  pub outer : List ℕ
+  pub reading : AreBeingRead docs (importing ∷ outer)
+  pub next : ReadsNext docs importing imported s
+  pub again : Contains (importing ∷ outer) imported
   pub leads_there : LeadsAt docs importing s imported
   pub leads_back : Leads docs imported importing
 
@@ -90,9 +118,11 @@ open_link marks is ls = None
 pub record HasMarks (docs : List Doc) (marks : List Bool) : Type 0 where
   pub len : length marks ≡ length docs
   pub linked : list_all (has_links docs) docs ≡ true
+  pub ends : AreEnds (length docs) docs marks
   pub none : NoneIsNext docs marks
 
--- the import of document k at that place leads to a document without a mark
+-- the import of document k at that place is the first that leads to a document without a mark
 pub record IsNextOpen (docs : List Doc) (marks : List Bool) (k : ℕ) (x : ℕ × Span) : Type 0 where
   pub leads : LeadsAt docs k x.1 x.0
+  pub first : ReadsNext docs k x.0 x.1
   pub unmarked : slice_get marks x.0 ≡ Some false

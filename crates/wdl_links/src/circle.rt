@@ -72,19 +72,6 @@ fn marks_of(alloc: Global, docs: &[Doc]) -> Result<Items<bool>, NoMemory>
     Ok(marks)
 }
 
-/// The first document without a mark.
-fn first_open(marks: &[bool]) -> Option<usize>
-    ensures some { IfSome result (λ k. slice_get marks.now k ≡ Some false) }
-    ensures none { IfNone result (list_all (λ b. b) marks.now ≡ true) }
-{
-    for (k, mark) in marks.iter().enumerate() {
-        if !*mark {
-            return Some(k);
-        }
-    }
-    None
-}
-
 /// The first import that leads to a document without a mark: the number of that document, and where the import stands.
 fn open_link(marks: &[bool], sections: &[Section], links: &[Link]) -> Option<(u32, Span)>
     ensures { result ≡ spec.open_link marks.now (imports_in sections.now) links.now }
@@ -124,14 +111,14 @@ fn next_open(docs: &[Doc], marks: &[bool], at: usize) -> (u32, Span)
     }
 }
 
-/// Where the imports from a document without a mark, each the first to another such, close a circle.
-fn closing(alloc: Global, docs: &[Doc], marks: &[bool], first: usize) -> Result<Span, NoMemory>
+/// Where the imports from document 0, each the first that leads to a document without a mark, lead to a document for the second time.
+fn closing(alloc: Global, docs: &[Doc], marks: &[bool]) -> Result<Span, NoMemory>
     requires marks { spec.HasMarks docs.now marks.now }
-    requires here { slice_get marks.now first ≡ Some false }
+    requires here { slice_get marks.now 0 ≡ Some false }
     ensures { IfOk result (spec.IsCircle docs.now) }
 {
     let mut seen = unmarked(alloc, docs.len())?;
-    let mut at = first;
+    let mut at = 0;
     'walk: loop {
         seen.set(at, true);
         let (next, span) = next_open(docs, marks, at);
@@ -142,18 +129,21 @@ fn closing(alloc: Global, docs: &[Doc], marks: &[bool], first: usize) -> Result<
     }
 }
 
-/// Tests that the links form no circle. 202 is answered at an import that leads to a document that is being read: one that leads to
-/// the importing one, or is itself that. The time grows with the square of the number of documents, of which there are at most 64.
+/// Tests that the links form no circle. Documents are read depth first, in the order of the imports: 202 is answered at the first import
+/// that leads to a document that is being read. The time grows with the square of the number of documents, of which there are at most
+/// 64.
 pub fn no_circle(alloc: Global, docs: &[Doc]) -> Result<(), LinkFault>
-    requires { list_all (has_links docs.now) docs.now ≡ true }
+    requires some { 0 < length docs.now }
+    requires linked { list_all (has_links docs.now) docs.now ≡ true }
+    requires reached { spec.AreReached docs.now }
     ensures { spec.IsAnswer docs.now result }
 {
     let marks = marks_of(alloc, docs)?;
-    match first_open(marks.as_slice()) {
-        None => Ok(()),
-        Some(first) => Err(LinkFault::Bad {
-            code: 202,
-            span: closing(alloc, docs, marks.as_slice(), first)?,
-        }),
+    if is_marked(marks.as_slice(), 0) {
+        return Ok(());
     }
+    Err(LinkFault::Bad {
+        code: 202,
+        span: closing(alloc, docs, marks.as_slice())?,
+    })
 }

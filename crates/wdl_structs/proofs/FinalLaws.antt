@@ -21,9 +21,10 @@ use Rattle.wdl_library.specs.Names.{own_names, are_known, names_in, structs_of, 
 use Rattle.wdl_library.specs.Structs.{Labels, agrees, IsSameStruct, stand_in, stand_at, members_of, members_at, AreSections, HaveSections, AreAlike, HasStructs}
 use Rattle.wdl_links.specs.declared.fault.LinkFault.{LinkFault}
 use Rattle.wdl_links.specs.declared.fault.LinkFault.TheVariants as fault
+use Rattle.wdl_links.specs.Circles.{AreReached}
 use Rattle.wdl_structs.specs.Ready.{IsFull, HasStructsBy, stood_by}
 use Rattle.wdl_structs.specs.Classes.{Marks, root, IsLow}
-use Rattle.wdl_structs.specs.Faults.{bare, AreSameDocs, AreReached, HasUnknown, ImportUnknown, DocUnknown, IsUnknownAlias, IsSection, AreUnlike, AreNamed, AreUnnamed, IsAnswer}
+use Rattle.wdl_structs.specs.Faults.{bare, AreSameDocs, AreStood, HasUnknown, ImportUnknown, DocUnknown, IsUnknownAlias, IsSection, AreUnlike, AreNamed, AreUnnamed, IsAnswer}
 use Rattle.wdl_structs.specs.Tables.{Names, NamesAt, names_of, seen_by, AreSeen, knows_by, all_know}
 use Rattle.wdl_structs.specs.Nodes.{start, total, label_by, stands_from, from_by, all_among, AreClasses, all_stands, with_stands, mark_of, LeadFirst}
 use Rattle.wdl_structs.specs.Kept.{Kept, Has, LeadsTo, Keeps, KeepsFrom, DiffersIn, DiffersFrom, KeepsAll, AreDefs, AreFull, AreNamedBy}
@@ -33,7 +34,7 @@ use Rattle.wdl_structs.proofs.NodeLaws.{label_at, some_same, none_some, no_names
 use Rattle.wdl_structs.proofs.SeenLaws.{get_some, get_within, all_at}
 use Rattle.wdl_structs.proofs.StandLaws.{known_is, seen_own, stands_length, with_bare}
 use Rattle.wdl_structs.proofs.IdentityLaws.{tables_distinct, are_given, all_seen, get_get, get_below, one_class, lead_first, named, names_named, stand_named, bare_named, structs_named, named_is, names_with, agrees_named, agreeing, first_named, joined_named, seen_named}
-use Rattle.wdl_structs.proofs.UniqueLaws.{same_get, same_length, one_names, one_stood, AreStood, distinct_at}
+use Rattle.wdl_structs.proofs.UniqueLaws.{same_get, same_length, one_names, one_stood, distinct_at}
 use Rattle.wdl_structs.proofs.SameLaws.{none_left, heads, same_linked, same_circle, same_reached}
 use Rattle.wdl_structs.proofs.KeptLaws.{has_one}
 use Rattle.wdl_structs.proofs.StructLaws.{is_declared, defs_at, defs_names, have_section}
@@ -404,7 +405,7 @@ module _ (docs : List Doc) (tables : List Names) (starts parents : List ℕ) (li
 
       fault_is : AreUnlike whole span
       fault_is = record {
-        named = stood.named;
+        stood = stood;
         first_number = a.0.number;
         first = a.0.section;
         is_first = record { doc = a.0.doc; at = a.0.at; declared = contains_at (sections_of a.0.doc.document) a.0.place a.0.section a.0.there };

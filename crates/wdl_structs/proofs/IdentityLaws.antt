@@ -19,7 +19,8 @@ use Rattle.wdl_library.specs.Names.{names_eq, once, or_itself, aliases_for, give
 use Rattle.wdl_library.specs.Structs.{Labels, all_have, agrees_on, agrees_from, agrees, IsSameStruct, stand_in, stand_at, are_first}
 use Rattle.wdl_paths.specs.Resolve.{resolve}
 use Rattle.wdl_structs.specs.Classes.{parent, root, Marks, Follows, IsLow}
-use Rattle.wdl_structs.specs.Faults.{bare, AreReached}
+use Rattle.wdl_links.specs.Circles.{AreReached}
+use Rattle.wdl_structs.specs.Faults.{bare}
 use Rattle.wdl_structs.specs.Tables.{Names, NamesAt, names_or, names_of, with_name, with_names, imported_by, seen_by, AreSeen}
 use Rattle.wdl_structs.specs.Nodes.{start, total, label_from, label_by, stands_from, import_by, along_by, from_by, all_among, AreClasses, all_stands, with_stands, mark_of, LeadFirst}
 use Rattle.wdl_structs.proofs.ClassLaws.{root_low, root_top, root_itself, root_follows, by_roots}
@@ -75,7 +76,7 @@ given_at names k (suc j) (c ∷ ds) d a h =
     ap (λ m. all_among (names m) (imported_by names (imports_of d.document) d.imports)) e ∙ given_at names (suc k) j ds d a.1 h
 
 -- what one import gives
-given_by : (names : NamesAt) (ns : Names) (is : List Import) (ls : List Link) (q : ℕ) (i : Import) (l : Link) → all_among ns (imported_by names is ls) ≡ true
+pub given_by : (names : NamesAt) (ns : Names) (is : List Import) (ls : List Link) (q : ℕ) (i : Import) (l : Link) → all_among ns (imported_by names is ls) ≡ true
     → slice_get is q ≡ Some i → slice_get ls q ≡ Some l → all_among ns (given i.aliases (names l.doc)) ≡ true
 given_by names ns [] ls q i l a h k = absurd (none_some i h)
 given_by names ns (x ∷ is) [] q i l a h k = absurd (none_some l k)

@@ -11,7 +11,8 @@ use Rattle.wdl_library.specs.Imports.{uri_of, namespace_of}
 use Rattle.wdl_library.specs.Sections.{imports_of}
 use Rattle.wdl_library.specs.Links.{tokens_in, is_path, is_at, is_link, are_links, has_links, links_in, links_at, ends_within, each_ends, has_no_circle}
 use Rattle.wdl_paths.specs.Resolve.{resolve}
-use Rattle.wdl_structs.specs.Faults.{bare, AreSameDocs, AreReached}
+use Rattle.wdl_links.specs.Circles.{AreReached}
+use Rattle.wdl_structs.specs.Faults.{bare, AreSameDocs}
 use Rattle.wdl_structs.proofs.UniqueLaws.{same_length}
 
 pub none_left : {A : Type 0} (x : A) (xs : List A) → [] ≡ x ∷ xs → ⊥

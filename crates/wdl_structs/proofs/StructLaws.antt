@@ -21,7 +21,8 @@ use Rattle.wdl_library.specs.Links.{has_links, links_in, links_at, ends_within, 
 use Rattle.wdl_library.specs.Names.{once, given, given_for, own_names, names_in, structs_of, structs_at, names_at, has_names}
 use Rattle.wdl_library.specs.Structs.{Labels, all_have, agrees_on, agrees, IsSameStruct, stand_in, stand_at, members_of, members_at, AreSections, HaveSections, AreAlike, HasStructs}
 use Rattle.wdl_structs.specs.Classes.{root}
-use Rattle.wdl_structs.specs.Faults.{AreSameDocs, AreReached}
+use Rattle.wdl_links.specs.Circles.{AreReached}
+use Rattle.wdl_structs.specs.Faults.{AreSameDocs}
 use Rattle.wdl_structs.specs.Tables.{Names, NamesAt, imported_by, seen_by}
 use Rattle.wdl_structs.specs.Nodes.{import_by, along_by, from_by}
 use Rattle.wdl_structs.specs.Kept.{Kept, Has, LeadsTo, AreDefs}
@@ -46,7 +47,7 @@ among_filter n m (k ∷ ks) h = on (λ q. among_filter n m ks q) (bytes_eq k m) 
       | inr e ↦ or_right (bytes_eq k n) (is_among n ks) (more e)
     ]
 
-once_among : (n : List ℕ) (ns : Names) → is_among n (once ns) ≡ true → is_among n ns ≡ true
+pub once_among : (n : List ℕ) (ns : Names) → is_among n (once ns) ≡ true → is_among n ns ≡ true
 once_among n [] h = h
 once_among n (m ∷ ms) h = elim (or_cases (bytes_eq m n) (is_among n (filter (λ k. not (bytes_eq k m)) (once ms))) h) as (λ c. is_among n (m ∷ ms) ≡ true) [
   | inl e ↦ or_left (bytes_eq m n) (is_among n ms) e
@@ -54,7 +55,7 @@ once_among n (m ∷ ms) h = elim (or_cases (bytes_eq m n) (is_among n (filter (�
 ]
 
 -- the section of an own name
-own_section : (ss : List StructSection) (n : List ℕ) → is_among n (map (λ s. s.name.name) ss) ≡ true → (q : ℕ) × (t : StructSection) × (slice_get ss q ≡ Some t) × (t.name.name ≡ n)
+pub own_section : (ss : List StructSection) (n : List ℕ) → is_among n (map (λ s. s.name.name) ss) ≡ true → (q : ℕ) × (t : StructSection) × (slice_get ss q ≡ Some t) × (t.name.name ≡ n)
 own_section [] n h = absurd (false≢true h)
 own_section (t ∷ ts) n h = elim (or_cases (bytes_eq t.name.name n) (is_among n (map (λ s. s.name.name) ts)) h) as (λ c. (q : ℕ) × (u : StructSection) × (slice_get (t ∷ ts) q ≡ Some u) × (u.name.name ≡ n)) [
   | inl e ↦ (0, t, refl, (bytes_eq-Decides t.name.name n).0 e)
@@ -70,7 +71,7 @@ given_name aliases (m ∷ ms) n h = elim (or_cases (is_among n (given_for aliase
       | inr e ↦ let r = given_name aliases ms n e in (r.0, or_right (bytes_eq m r.0) (is_among r.0 ms) r.1, r.2)
     ]
 
-imported_name : (names : NamesAt) (is : List Import) (ls : List Link) (n : List ℕ) → is_among n (imported_by names is ls) ≡ true
+pub imported_name : (names : NamesAt) (is : List Import) (ls : List Link) (n : List ℕ) → is_among n (imported_by names is ls) ≡ true
     → (q : ℕ) × (i : Import) × (l : Link) × (m : List ℕ) × (slice_get is q ≡ Some i) × (slice_get ls q ≡ Some l) × (is_among m (names l.doc) ≡ true) × (is_among n (given_for i.aliases m) ≡ true)
 imported_name names [] ls n h = absurd (false≢true h)
 imported_name names (i ∷ is) [] n h = absurd (false≢true h)
@@ -81,7 +82,7 @@ imported_name names (i ∷ is) (l ∷ ls) n h =
       | inr e ↦ let r = imported_name names is ls n e in (suc r.0, r.1, r.2, r.3, r.4, r.5, r.6, r.7)
     ]
 
-have_at : (label : List ℕ → List ℕ) (x : List ℕ) (ns : Names) (n : List ℕ) → all_have label x ns ≡ true → is_among n ns ≡ true → label n ≡ x
+pub have_at : (label : List ℕ → List ℕ) (x : List ℕ) (ns : Names) (n : List ℕ) → all_have label x ns ≡ true → is_among n ns ≡ true → label n ≡ x
 have_at label x [] n h a = absurd (false≢true a)
 have_at label x (m ∷ ms) n h a =
     let p = and_parts (bytes_eq (label m) x) (all_have label x ms) h in

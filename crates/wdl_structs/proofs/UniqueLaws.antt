@@ -20,7 +20,8 @@ use Rattle.wdl_library.specs.Sections.{imports_of, sections_of}
 use Rattle.wdl_library.specs.Links.{has_links, links_in, links_at, ends_within, each_ends, has_no_circle}
 use Rattle.wdl_library.specs.Names.{names_eq, once, given, given_for, own_names, names_in, structs_of, structs_at, names_at, imported, seen, has_names}
 use Rattle.wdl_library.specs.Structs.{Labels, all_have, agrees_on, agrees_from, agrees, IsSameStruct, stand_in, stand_at, are_first, members_of, members_at, AreSections, HaveSections, AreAlike, HasStructs}
-use Rattle.wdl_structs.specs.Faults.{bare, AreSameDocs, AreReached}
+use Rattle.wdl_structs.specs.Faults.{bare, AreSameDocs, AreStood}
+use Rattle.wdl_links.specs.Circles.{AreReached}
 use Rattle.wdl_structs.specs.Tables.{Names, NamesAt, imported_by, seen_by}
 use Rattle.wdl_structs.specs.Nodes.{import_by, along_by, from_by, all_among}
 use Rattle.wdl_structs.proofs.NameLaws.{among_at, among_place, among_append, eq_itself, same_among, one_place}
@@ -223,13 +224,6 @@ docs_same (x ∷ xs) (y ∷ ys) e h =
   where
     parts : bare x ∷ map bare xs ≡ bare y ∷ map bare ys → (bare x ≡ bare y) × (map bare xs ≡ map bare ys)
     parts q = ((cc), (cc))
-
--- what is known of documents with their struct names
-pub record AreStood (docs : List Doc) : Type 0 where
-  pub named : list_all (has_names docs) docs ≡ true
-  pub agreeing : agrees (stand_at docs) docs ≡ true
-  pub first : are_first [] (structs_at docs 0) ≡ true
-  pub joined : (n : List ℕ) → IsSameStruct docs 0 n 0 (stand_at docs 0 n)
 
 pub distinct_at : (docs : List Doc) (k : ℕ) → list_all (has_names docs) docs ≡ true → are_distinct (names_at docs k) ≡ true
 distinct_at docs k h = elim (within_or docs k) as (λ c. are_distinct (names_at docs k) ≡ true) [

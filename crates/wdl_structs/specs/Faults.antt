@@ -1,5 +1,5 @@
 -- What is said of documents whose struct names are found, and why there are none.
-use Rattle.std.specs.Prelude.{◌≡◌, ◌≢◌, ◌⊎◌, ℕ, ◌<◌, true, false, List, [], ◌∷◌, map, length, slice_get, Option, Some, None, Result, Ok, Err, Contains}
+use Rattle.std.specs.Prelude.{◌≡◌, ◌≢◌, ◌⊎◌, ℕ, true, false, List, [], ◌∷◌, map, slice_get, Option, Some, None, Result, Ok, Err, Contains}
 use Rattle.std.specs.List.{list_all}
 use Rattle.wdl_base.specs.declared.span.Span.{Span}
 use Rattle.wdl_base.specs.Names.{is_among}
@@ -10,9 +10,8 @@ use Rattle.wdl_ast.specs.declared.document.StructSection.{StructSection}
 use Rattle.wdl_library.specs.declared.doc.Doc.{Doc}
 use Rattle.wdl_library.specs.declared.doc.Link.{Link}
 use Rattle.wdl_library.specs.Sections.{imports_of, sections_of}
-use Rattle.wdl_library.specs.Names.{names_at, has_names, knows_aliases}
-use Rattle.wdl_library.specs.Links.{links_at}
-use Rattle.wdl_library.specs.Structs.{IsSameStruct, HasStructs, members_of, stand_in, stand_at}
+use Rattle.wdl_library.specs.Names.{names_at, structs_at, has_names, knows_aliases}
+use Rattle.wdl_library.specs.Structs.{agrees, are_first, IsSameStruct, HasStructs, members_of, stand_at}
 use Rattle.wdl_links.specs.declared.fault.LinkFault.{LinkFault}
 use Rattle.wdl_links.specs.declared.fault.LinkFault.TheVariants as fault
 
@@ -24,10 +23,6 @@ bare d = record d { structs = [] }
 -- the same documents, but for their struct names
 abbrev pub AreSameDocs : List Doc → List Doc → Type 0
 AreSameDocs docs others = map bare docs ≡ map bare others
-
--- every document but the first is imported by one before it
-abbrev pub AreReached : List Doc → Type 0
-AreReached docs = (k : ℕ) → 0 < k → k < length docs → (j : ℕ) × (j < k) × ((l : Link) × Contains (links_at docs j) l × (l.doc ≡ k))
 
 -- ---- an alias of a struct that the imported document does not see
 
@@ -57,10 +52,18 @@ pub record IsSection (docs : List Doc) (number : ℕ) (section : StructSection) 
   pub at : slice_get docs number ≡ Some doc
   pub declared : Contains (sections_of doc.document) section
 
--- Where the names of the documents stand for their structs, two sections declare one struct and their members differ. The span is that
--- of the name of the second.
-pub record AreUnlike (docs : List Doc) (s : Span) : Type 0 where
+-- The documents have the names that they see, each standing for its struct as it does in a library of these documents, or would if there
+-- were one: names that imports join stand for one name of document 0, the first of theirs.
+pub record AreStood (docs : List Doc) : Type 0 where
   pub named : list_all (has_names docs) docs ≡ true
+  pub agreeing : agrees (stand_at docs) docs ≡ true
+  pub first : are_first [] (structs_at docs 0) ≡ true
+  pub joined : (n : List ℕ) → IsSameStruct docs 0 n 0 (stand_at docs 0 n)
+
+-- Two sections declare one struct, and their members differ, where types are equal up to what their names of structs stand for. The span
+-- is that of the name of the second.
+pub record AreUnlike (docs : List Doc) (s : Span) : Type 0 where
+  pub stood : AreStood docs
   pub first_number : ℕ
   pub first : StructSection
   pub is_first : IsSection docs first_number first

@@ -6,7 +6,7 @@ use Rattle.wdl_library.specs.Links.{has_links, has_no_circle}
 use Rattle.wdl_value.specs.declared.ty.Member.{Member}
 use Rattle.wdl_value.specs.declared.ty.StructDef.{StructDef}
 use Rattle.wdl_links.specs.declared.fault.LinkFault.{LinkFault}
-use Rattle.wdl_structs.specs.Faults.{AreReached}
+use Rattle.wdl_links.specs.Circles.{AreReached}
 use Rattle.wdl_structs.specs.Kept.{Kept, Has, KeepsFrom, DiffersFrom, KeepsAll, AreFull, AreDefs}
 use Rattle.wdl_structs.specs.Nodes.{all_stands, with_stands, mark_of}
 use Rattle.wdl_structs.specs.Tables.{Names, names_of, AreSeen, all_know}

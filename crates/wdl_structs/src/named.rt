@@ -3,6 +3,7 @@
 ghost use Rattle.std.specs.Prelude.{◌≡◌, true, length, IfOk};
 ghost use Rattle.std.specs.List.{list_all};
 ghost use Rattle.wdl_library.specs.Links.{has_links, has_no_circle};
+ghost use Rattle.wdl_links.specs.Circles.{AreReached};
 ghost use Rattle.wdl_structs.specs.Faults as spec;
 ghost use Rattle.wdl_structs.specs.Classes.{IsLow};
 ghost use Rattle.wdl_structs.specs.Kept.{AreNamedBy};
@@ -76,7 +77,7 @@ fn identified(
 pub fn name_structs(alloc: Global, docs: Items<Doc>) -> Result<(Items<Doc>, Structs), LinkFault>
     requires linked { list_all (has_links docs) docs ≡ true }
     requires ends { has_no_circle docs ≡ true }
-    requires reached { spec.AreReached docs }
+    requires reached { AreReached docs }
     ensures { spec.IsAnswer docs result }
 {
     let tables = tables_of(alloc, docs.as_slice())?;

@@ -19,4 +19,4 @@ pub walk-preserved : goal.walk-preserved
 walk-preserved c =
     let l = c.walk in
     subst (λ m. HasSeen c.args.docs.now c.args.marks.now m c.next_open-next.result.0) (sym c.set.ensures)
-    (seen_more c.args.docs.now c.args.marks.now l.seen l.at c.next_open-next.result l.invariant (search rules) (search rules))
+    (seen_more c.args.docs.now c.args.marks.now l.seen l.at c.next_open-next.result c.requires.marks.len l.invariant (search rules) (search rules))
