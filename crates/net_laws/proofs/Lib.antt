@@ -1,0 +1,16 @@
+pub mod Lookups
+pub mod Local
+pub mod Shown
+pub mod Whole
+pub mod Flows
+pub mod Prices
+pub mod Sums
+pub mod Grown
+pub mod Kept
+pub mod Numbered
+pub mod Sets
+pub mod Joints
+pub mod Settles
+pub mod Naming
+pub mod Leaves
+pub mod Finished
