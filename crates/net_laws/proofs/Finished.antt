@@ -1,11 +1,9 @@
 -- Where no step that is left is ready, what grows is planned: it shows the flow from scratch, and what it says is done is what has
 -- no fault and waits for nothing.
-use Rattle.std.proofs.Common.{◌≡◌, ℕ, zero, suc, ◌+◌, Bool, true, false, ◌&&◌, List, [], ◌∷◌, ◌++◌, map, length, Option, Some, None, option_and_then, Ok, Err, slice_get, codes, sym, ap, ◌∙◌, subst, refl}
+use Rattle.std.proofs.Common.{◌≡◌, ℕ, Bool, true, false, ◌&&◌, List, [], ◌∷◌, ◌++◌, map, length, Option, Some, None, option_and_then, codes, sym, ap, ◌∙◌, subst, refl}
 use Rattle.std.specs.List.{list_all}
 use Rattle.std.proofs.lemmas.Bool.{and_from, and_parts}
 use Rattle.std.proofs.lemmas.List.Folds.{list_all-append, list_all-map}
-use Rattle.wdl_base.specs.declared.fault.EvalCode.{EvalCode}
-use Rattle.wdl_base.specs.declared.fault.Fault.{Fault}
 use Rattle.wdl_base.specs.declared.name.Key.{Key}
 use Rattle.wdl_base.specs.declared.place.Segment.{Segment}
 use Rattle.wdl_base.specs.declared.place.Segment.TheVariants as segment
@@ -13,33 +11,30 @@ use Rattle.wdl_value.specs.declared.env.Bind.{Bind}
 use Rattle.wdl_value.specs.declared.value.Value.{Value}
 use Rattle.wdl_value.specs.declared.value.Value.TheVariants as v
 use Rattle.wdl_value.specs.Tables.{Row}
-use Rattle.wdl_typed.specs.declared.expr.TExpr.{TExpr}
 use Rattle.wdl_typed.specs.declared.flow.FlowDef.{FlowDef}
 use Rattle.wdl_typed.specs.declared.flow.Statement.{Statement}
 use Rattle.wdl_typed.specs.declared.flow.Statement.TheVariants as stmt
 use Rattle.wdl_typed.specs.declared.flow.TCall.{TCall}
-use Rattle.wdl_typed.specs.declared.flow.TIf.{TIf}
-use Rattle.wdl_typed.specs.declared.flow.TScatter.{TScatter}
-use Rattle.wdl_typed.specs.declared.flow.Target.TheVariants as target
 use Rattle.wdl_typed.specs.declared.task.TDecl.{TDecl}
 use Rattle.wdl_typed.specs.declared.task.TInput.{TInput}
 use Rattle.wdl_typed.specs.Bodies.{Library}
 use Rattle.wdl_typed.specs.Declarations.{plain_key}
-use Rattle.wdl_typed.specs.Flow.{Callee, Ended, Flowing, Known, Names, Run, Runner, Sight, all_values, beginning, declaration, each_call, each_key, env_of, fault_at, flow, flow_at, flow_ended, flow_run, giving, input_of, inputs, missing, output_of, outputs, with_fault}
+use Rattle.wdl_typed.specs.Flow.{Callee, Ended, Flowing, Known, Names, Run, Runner, all_values, beginning, declaration, each_call, each_key, fault_at, flow, flow_at, flow_ended, flow_run, giving, input_of, inputs, missing, output_of, outputs, with_fault}
 use Rattle.wdl_typed.specs.Journal.{keys_distinct}
 use Rattle.wdl_typed.specs.KnownTypes.{is_some}
-use Rattle.wdl_typed.specs.Scope.{lookup, names_of}
+use Rattle.wdl_typed.specs.Scope.{lookup}
 use Rattle.flow_laws.specs.Laws.{run_with}
-use Rattle.net_laws.specs.Net.{Cells, Given, Mark, Scope, Shows, Slot, Work, all_works, beyond, both_given, both_works, ended_in, find, find_call, flowing_of, inward, item_scope, known_in, no_work, sight_of, slot_keys}
-use Rattle.net_laws.specs.Planned.{ArgsMet, Planned, all as planned_all, call_names, counted, each as planned_each, names_in, one as planned_one, planned_call, planned_decl, planned_end, planned_failed, planned_false, planned_fault, planned_flow, planned_idle, planned_item, planned_items, planned_next, planned_none, planned_true, planned_untold}
-use Rattle.net_laws.specs.Rules.{AllEnded, AllGathered as RuleGathered, Follows, Instance, KeysAre, call_in, cell_in, head, work_in}
-use Rattle.net_laws.specs.Growing.{AllEnding, AllGathered, Copied, Ending, EndsAt, Form, Growing, HasCells, IsNamed, IsOutside, Item, KeepsCells, MarksCopied, OutputsCopied, Rule, SlotsCopied, State, absent_input, all, all_dones, are_set, body_given, default_input, each, each_scatter, failed_if, failed_scatter, false_if, flow_whole, given_input, is_set, item_next, left_call, left_decl, left_if, left_scatter, mark_cell, next, no_input, no_item, no_output, none_left, nothing_given, one, only, output_next, run_call, slot_cell, start, takes, tells, told_call, told_decl, true_if, whole}
-use Rattle.net_laws.proofs.Flows.{FlowNet, flow_shows, flow_work, shows_absent, shows_default, shows_given}
-use Rattle.net_laws.proofs.Joints.{AllStuck, copied_is, ending_is, gathered_is, gathered_set}
+use Rattle.net_laws.specs.Net.{Cells, Given, Mark, Scope, Shows, Slot, Work, all_works, beyond, both_given, both_works, ended_in, find, find_call, flowing_of, item_scope, known_in, no_work, slot_keys}
+use Rattle.net_laws.specs.Planned.{Planned, all as planned_all, call_names, counted, each as planned_each, names_in, one as planned_one, planned_call, planned_decl, planned_end, planned_failed, planned_false, planned_fault, planned_flow, planned_idle, planned_item, planned_items, planned_next, planned_none, planned_true, planned_untold}
+use Rattle.net_laws.specs.Rules.{AllEnded, AllGathered as RuleGathered, Instance, KeysAre, call_in, cell_in, work_in}
+use Rattle.net_laws.specs.Growing.{AllEnding, AllStuck, AllGathered, Ending, EndsAt, Form, Growing, IsOutside, Item, KeepsCells, MarksCopied, OutputsCopied, Rule, SlotsCopied, State, absent_input, all, all_dones, are_set, body_given, default_input, each, each_scatter, failed_if, failed_scatter, false_if, flow_whole, given_input, is_set, item_next, left_call, left_decl, left_if, left_scatter, mark_cell, next, no_input, no_item, no_output, none_left, nothing_given, one, only, output_next, run_call, slot_cell, start, takes, tells, told_call, told_decl, true_if, whole}
+use Rattle.net_laws.specs.Works.{faulty, told_work, work_of}
+use Rattle.net_laws.proofs.Flows.{FlowNet, flow_shows, shows_absent, shows_default, shows_given}
+use Rattle.net_laws.proofs.Joints.{copied_is, ending_is, gathered_is, gathered_set}
 use Rattle.net_laws.proofs.Kept.{stuck_call, stuck_declaration, stuck_head}
-use Rattle.net_laws.proofs.Leaves.{Told, both_settle, call_absurd, call_not_ready, call_ready, clean_both, declared, kept_unset, needs_absurd, needs_known, needs_lack, unset_not}
+use Rattle.net_laws.proofs.Leaves.{both_settle, call_absurd, call_not_ready, call_ready, clean_both, declared, kept_unset, needs_absurd, needs_known, needs_lack, unset_not}
 use Rattle.net_laws.proofs.Lookups.{looked_up, value_at}
-use Rattle.net_laws.proofs.Naming.{Named, given_same, named}
+use Rattle.net_laws.proofs.Naming.{given_same, named}
 use Rattle.net_laws.proofs.Sets.{AllGiven, AllKnown, and_true, find_call_set, find_set, known_beyond, marks_both, marks_set, missing_is, slots_both, slots_set}
 use Rattle.net_laws.proofs.Settles.{all_ended, all_valued, call_gives, call_settles, clean, declaration_settles, valued_is}
 use Rattle.net_laws.proofs.Shown.{shows_declaration, shows_next, shows_none}
@@ -62,14 +57,12 @@ module _ (lib : Library) (site : List ℕ) (table : List Row) (desc : ℕ → Ru
 
   -- ---- what each form comes to
 
-  pub record OneEnds (depth : ℕ) (x : Statement) (s : Scope) (g : Given) (d : ℕ) : Type 0 where
-    pub work : Work
+  pub record OneEnds (depth : ℕ) (x : Statement) (s : Scope) (g : Given) (d : ℕ) (work : Work) : Type 0 where
     pub planned : Planned st.cells lib site table (callee depth) (planned_one x s g work)
     pub settles : AllKnown st.cells s → is_set st d ≡ clean work
     pub gives : is_set st d ≡ true → AllGiven st.cells g
 
-  pub record AllEnds (depth : ℕ) (xs : List Statement) (s : Scope) (g : Given) (ds : List ℕ) : Type 0 where
-    pub work : Work
+  pub record AllEnds (depth : ℕ) (xs : List Statement) (s : Scope) (g : Given) (ds : List ℕ) (work : Work) : Type 0 where
     pub planned : Planned st.cells lib site table (callee depth) (planned_all xs s g work)
     pub settles : AllKnown st.cells s → are_set st ds ≡ clean work
     pub gives : are_set st ds ≡ true → AllGiven st.cells g
@@ -85,33 +78,35 @@ module _ (lib : Library) (site : List ℕ) (table : List Row) (desc : ℕ → Ru
   ItemsGiven [] = Unit {0}
   ItemsGiven (q ∷ qs) = AllGiven st.cells q.given × ItemsGiven qs
 
-  pub record EachEnds (depth : ℕ) (xs : List Statement) (s : Scope) (k : ℕ) (item : List ℕ) (i : ℕ) (ys : List Value) (qs : List Item) : Type 0 where
+  pub record EachEnds (depth : ℕ) (xs : List Statement) (s : Scope) (k : ℕ) (item : List ℕ) (i : ℕ) (ys : List Value) (qs : List Item) (work : Work) : Type 0 where
     pub instances : List Instance
+    pub works : all_works (map work_in instances) ≡ work
     pub planned : Planned st.cells lib site table (callee depth) (planned_each xs s k item i ys instances)
     pub keys : KeysAre (body_given lib xs).keys instances
     pub match_ : Match qs instances
-    pub settles : AllKnown st.cells s → are_set st (all_dones lib site table desc st qs) ≡ clean (all_works (map work_in instances))
+    pub settles : AllKnown st.cells s → are_set st (all_dones lib site table desc st qs) ≡ clean work
     pub gives : are_set st (all_dones lib site table desc st qs) ≡ true → ItemsGiven qs
 
-  pub record RunEnds (f : Runner) (s : Scope) (g : Given) : Type 0 where
-    pub work : Work
+  pub record RunEnds (f : Runner) (s : Scope) (g : Given) (work : Work) : Type 0 where
     pub shows : Shows st.cells s f g work
     pub settles : AllKnown st.cells s → slots_set st.cells g.names ≡ clean work
     pub calls : g.calls ≡ []
 
-  pub record WholeEnds (depth : ℕ) (f : FlowDef) (given : List Bind) (place : List Segment) (g : Given) (ds : List ℕ) : Type 0 where
-    pub work : Work
+  pub record WholeEnds (depth : ℕ) (f : FlowDef) (given : List Bind) (place : List Segment) (g : Given) (ds : List ℕ) (work : Work) : Type 0 where
     pub shows : flow_run run (callee depth) f given (beginning place) ≡ flowing_of st.cells g work
     pub settles : are_set st ds ≡ clean work
     pub gives : are_set st ds ≡ true → slots_set st.cells g.names ≡ true
 
-  abbrev pub Ends : ℕ → Form → Type 0
-  Ends depth (one x s g d) = OneEnds depth x s g d
-  Ends depth (all xs s g ds) = AllEnds depth xs s g ds
-  Ends depth (each xs s k item i ys qs) = EachEnds depth xs s k item i ys qs
-  Ends depth (takes given is s g) = RunEnds (inputs given is) s g
-  Ends depth (tells ds s g) = RunEnds (outputs ds) s g
-  Ends depth (whole f given place g ds) = WholeEnds depth f given place g ds
+  abbrev pub Ends : ℕ → Form → Work → Type 0
+  Ends depth (one x s g d) w = OneEnds depth x s g d w
+  Ends depth (all xs s g ds) w = AllEnds depth xs s g ds w
+  Ends depth (each xs s k item i ys qs) w = EachEnds depth xs s k item i ys qs w
+  Ends depth (takes given is s g) w = RunEnds (inputs given is) s g w
+  Ends depth (tells ds s g) w = RunEnds (outputs ds) s g w
+  Ends depth (whole f given place g ds) w = WholeEnds depth f given place g ds w
+
+  abbrev pub work : {depth : ℕ} {f : Form} → Growing lib site table desc st depth f → Work
+  work p = work_of lib site table desc st p
 
   -- ---- names of bodies
 
@@ -122,14 +117,11 @@ module _ (lib : Library) (site : List ℕ) (table : List Row) (desc : ℕ → Ru
   outside_missing depth t xs g d o k =
       ap missing (given_same lib site table (callee depth) xs) ∙ missing_is cells (body_given lib xs) g o.named (kept_unset st t (map slot_cell g.names) k.names) (kept_unset st t (map mark_cell g.calls) k.calls)
 
-  abbrev faulty : Fault → Work
-  faulty f = record { jobs = []; faults = f ∷ []; waits = []; count = 0 }
-
   module _ (stuck : AllStuck lib site table desc st) where
     -- ---- a statement that is left
 
-    idle : (depth : ℕ) (x : Statement) (s : Scope) (g : Given) (d : ℕ) → Planned cells lib site table (callee depth) (planned_one x s g no_work) → (AllKnown cells s → ⊥) → cells d ≡ None → OneEnds depth x s g d
-    idle depth x s g d p unknown unset = record { work = no_work; planned = p; settles = λ k. absurd (unknown k); gives = λ h. absurd (unset_not (cells d) unset h) }
+    idle : (depth : ℕ) (x : Statement) (s : Scope) (g : Given) (d : ℕ) → Planned cells lib site table (callee depth) (planned_one x s g no_work) → (AllKnown cells s → ⊥) → cells d ≡ None → OneEnds depth x s g d no_work
+    idle depth x s g d p unknown unset = record { planned = p; settles = λ k. absurd (unknown k); gives = λ h. absurd (unset_not (cells d) unset h) }
 
     -- ---- gathered names
 
@@ -255,16 +247,16 @@ module _ (lib : Library) (site : List ℕ) (table : List Row) (desc : ℕ → Ru
         and_from (is_set st s.cell) (slots_set cells ss) (ap is_some (copied_is lib site table desc st stuck h.1.0 s.cell h.1.2) ∙ find_set cells names a (plain_key x.name) h.1.0 h.1.1)
         (outputs_given call names a xs ss h.2)
 
-    called : (depth : ℕ) (x : TCall) (g h : Given) (d : ℕ) (ds : List ℕ) (f : FlowDef) (args : List Bind) (place : List Segment) → EndsAt x g d → keys_distinct (slot_keys h.names) ≡ true
-        → OutputsCopied lib site table desc st x.name f.outputs h.names g.names → Ending lib site table desc st ds d → (w : WholeEnds depth f args place h ds)
-        → flow_ended x.name f.outputs (flowing_of cells h w.work) ≡ flowing_of cells g w.work
-    called depth x g h d ds f args place ends distinct copied ended w =
-        ap (λ (ks : List Known). make ks ((let e : Ended = record { call = x.name; ended = clean w.work } in e) ∷ [])) (outputs_are x.name h.names distinct f.outputs g.names copied)
-        ∙ ap (λ (b : Bool). make (map (known_in cells) g.names) ((let e : Ended = record { call = x.name; ended = b } in e) ∷ [])) (sym (ending_is lib site table desc st stuck ds d ended ∙ w.settles))
+    called : (depth : ℕ) (x : TCall) (g h : Given) (d : ℕ) (ds : List ℕ) (f : FlowDef) (args : List Bind) (place : List Segment) (w : Work) → EndsAt x g d → keys_distinct (slot_keys h.names) ≡ true
+        → OutputsCopied lib site table desc st x.name f.outputs h.names g.names → Ending lib site table desc st ds d → WholeEnds depth f args place h ds w
+        → flow_ended x.name f.outputs (flowing_of cells h w) ≡ flowing_of cells g w
+    called depth x g h d ds f args place w ends distinct copied ended a =
+        ap (λ (ks : List Known). make ks ((let e : Ended = record { call = x.name; ended = clean w } in e) ∷ [])) (outputs_are x.name h.names distinct f.outputs g.names copied)
+        ∙ ap (λ (b : Bool). make (map (known_in cells) g.names) ((let e : Ended = record { call = x.name; ended = b } in e) ∷ [])) (sym (ending_is lib site table desc st stuck ds d ended ∙ a.settles))
         ∙ ap (λ (ms : List Mark). make (map (known_in cells) g.names) (map (ended_in cells) ms)) (sym ends)
       where
         make : List Known → List Ended → Flowing
-        make ks es = record { names = ks; calls = es; jobs = w.work.jobs; faults = w.work.faults; waits = w.work.waits; count = w.work.count }
+        make ks es = record { names = ks; calls = es; jobs = w.jobs; faults = w.faults; waits = w.waits; count = w.count }
 
     -- ---- what is passed over, items, inputs and outputs
 
@@ -296,22 +288,22 @@ module _ (lib : Library) (site : List ℕ) (table : List Row) (desc : ℕ → Ru
     both_assoc true b c = refl
     both_assoc false b c = refl
 
-    whole_ends : (depth : ℕ) (f : FlowDef) (given : List Bind) (place : List Segment) (i b o : Given) (ds : List ℕ) → RunEnds (inputs given f.inputs) (start place) i → AllEnds depth f.body (beyond (start place) i) b ds
-        → RunEnds (outputs f.outputs) (beyond (beyond (start place) i) b) o → WholeEnds depth f given place (both_given i (both_given b (both_given o nothing_given))) (map slot_cell i.names ++ ds ++ map slot_cell o.names)
-    whole_ends depth f given place i b o ds p q r =
+    whole_ends : (depth : ℕ) (f : FlowDef) (given : List Bind) (place : List Segment) (i b o : Given) (ds : List ℕ) (u v w : Work) → RunEnds (inputs given f.inputs) (start place) i u → AllEnds depth f.body (beyond (start place) i) b ds v
+        → RunEnds (outputs f.outputs) (beyond (beyond (start place) i) b) o w → WholeEnds depth f given place (both_given i (both_given b (both_given o nothing_given))) (map slot_cell i.names ++ ds ++ map slot_cell o.names)
+        (both_works u (both_works (counted (length f.body) v) (both_works w no_work)))
+    whole_ends depth f given place i b o ds u v w p q r =
         record {
-          work = flow_work cells lib site table (callee depth) net;
           shows = flow_shows cells lib site table (callee depth) f given place net;
-          settles = parts ∙ both_settle (slots_set cells i.names) (are_set st ds && slots_set cells o.names) (clean p.work) (clean q.work && clean r.work) (p.settles start_known)
-              (λ e. both_settle (are_set st ds) (slots_set cells o.names) (clean q.work) (clean r.work) (q.settles (body_known e)) (λ d. r.settles (known_beyond cells (beyond (start place) i) b (body_known e) (q.gives d)))) ∙ works;
+          settles = parts ∙ both_settle (slots_set cells i.names) (are_set st ds && slots_set cells o.names) (clean u) (clean v && clean w) (p.settles start_known)
+              (λ e. both_settle (are_set st ds) (slots_set cells o.names) (clean v) (clean w) (q.settles (body_known e)) (λ d. r.settles (known_beyond cells (beyond (start place) i) b (body_known e) (q.gives d)))) ∙ works;
           gives = λ e.
               let t = and_parts (slots_set cells i.names) (are_set st ds && slots_set cells o.names) (sym parts ∙ e) in
-              let u = and_parts (are_set st ds) (slots_set cells o.names) t.1 in
-              slots_both cells i.names (b.names ++ (o.names ++ [])) t.0 (slots_both cells b.names (o.names ++ []) (q.gives u.0).names (slots_both cells o.names [] u.1 refl));
+              let rest = and_parts (are_set st ds) (slots_set cells o.names) t.1 in
+              slots_both cells i.names (b.names ++ (o.names ++ [])) t.0 (slots_both cells b.names (o.names ++ []) (q.gives rest.0).names (slots_both cells o.names [] rest.1 refl));
         }
       where
         net : FlowNet cells lib site table (callee depth) f given place
-        net = record { taken = i; taking_ = p.work; inputs_show = p.shows; made = b; making = q.work; body = q.planned; told = o; telling = r.work; outputs_show = r.shows }
+        net = record { taken = i; taking_ = u; inputs_show = p.shows; made = b; making = v; body = q.planned; told = o; telling = w; outputs_show = r.shows }
 
         start_known : AllKnown cells (start place)
         start_known = record { names = refl; calls = refl }
@@ -327,23 +319,22 @@ module _ (lib : Library) (site : List ℕ) (table : List Row) (desc : ℕ → Ru
             ∙ ap (λ (t : Bool). t && (are_set st ds && are_set st (map slot_cell o.names))) (list_all-map (is_set st) slot_cell i.names)
             ∙ ap (λ (t : Bool). slots_set cells i.names && (are_set st ds && t)) (list_all-map (is_set st) slot_cell o.names)
 
-        works : clean p.work && (clean q.work && clean r.work) ≡ clean (both_works p.work (both_works (counted (length f.body) q.work) (both_works r.work no_work)))
+        works : clean u && (clean v && clean w) ≡ clean (both_works u (both_works (counted (length f.body) v) (both_works w no_work)))
         works =
-            sym (clean_both p.work (both_works (counted (length f.body) q.work) (both_works r.work no_work))
-            ∙ ap (λ (t : Bool). clean p.work && t) (clean_both (counted (length f.body) q.work) (both_works r.work no_work))
-            ∙ ap (λ (t : Bool). clean p.work && (clean q.work && t)) (clean_both r.work no_work ∙ and_true (clean r.work)))
+            sym (clean_both u (both_works (counted (length f.body) v) (both_works w no_work))
+            ∙ ap (λ (t : Bool). clean u && t) (clean_both (counted (length f.body) v) (both_works w no_work))
+            ∙ ap (λ (t : Bool). clean u && (clean v && t)) (clean_both w no_work ∙ and_true (clean w)))
 
     -- ---- what grows, form by form
 
-    pub finished : {depth : ℕ} {f : Form} → Growing lib site table desc st depth f → Ends depth f
-    finished (none_left depth s) = record { work = no_work; planned = planned_none s; settles = λ k. refl; gives = λ h. record { names = refl; calls = refl } }
+    pub finished : {depth : ℕ} {f : Form} (p : Growing lib site table desc st depth f) → Ends depth f (work p)
+    finished (none_left depth s) = record { planned = planned_none s; settles = λ k. refl; gives = λ h. record { names = refl; calls = refl } }
     finished (next depth x xs s g h d ds p q) =
         let a = finished p in
         let b = finished q in
         record {
-          work = both_works a.work b.work;
-          planned = planned_next x xs s g h a.work b.work a.planned b.planned;
-          settles = λ k. both_settle (is_set st d) (are_set st ds) (clean a.work) (clean b.work) (a.settles k) (λ e. b.settles (known_beyond cells s g k (a.gives e))) ∙ sym (clean_both a.work b.work);
+          planned = planned_next x xs s g h (work p) (work q) a.planned b.planned;
+          settles = λ k. both_settle (is_set st d) (are_set st ds) (clean (work p)) (clean (work q)) (a.settles k) (λ e. b.settles (known_beyond cells s g k (a.gives e))) ∙ sym (clean_both (work p) (work q));
           gives = λ e.
               let t = and_parts (is_set st d) (are_set st ds) e in
               let i = a.gives t.0 in
@@ -377,14 +368,12 @@ module _ (lib : Library) (site : List ℕ) (table : List Row) (desc : ℕ → Ru
         k.done.1
     finished (told_decl depth x s c t w taken n set own follows) =
         record {
-          work = w;
           planned = planned_decl x s n.slots (only x.name c) w n.distinct n.needs follows;
           settles = λ k. declaration_settles cells s.place x.name x.value n.slots c w (needs_known st t s x.value n set) follows;
           gives = λ h. record { names = and_true (is_set st c) ∙ h; calls = refl };
         }
     finished (told_call depth x s g d t w taken n set is ends own plain follows) =
         record {
-          work = w;
           planned = planned_call x s n.slots n.marks g w n.distinct n.needs follows;
           settles = λ k. call_settles cells lib site table (callee depth) x s.place n.slots n.marks g d w (call_ready st t s x n set) plain follows ends;
           gives = call_gives cells lib site table (callee depth) x s.place n.slots n.marks g d w (call_ready st t s x n set) plain follows ends;
@@ -393,9 +382,8 @@ module _ (lib : Library) (site : List ℕ) (table : List Row) (desc : ℕ → Ru
         let w = finished p in
         let done : is_set st d ≡ are_set st ds = ending_is lib site table desc st stuck ds d ended in
         record {
-          work = w.work;
-          planned = planned_flow x s n.slots n.marks g h w.work n.distinct n.needs k is f found args met (ap (λ (o : Option FlowDef). flow_at run (callee depth) o args (s.place ++ segment.Call x.name ∷ [])) found ∙ w.shows)
-              (called depth x g h d ds f args (s.place ++ segment.Call x.name ∷ []) ends distinct copied ended w);
+          planned = planned_flow x s n.slots n.marks g h (work p) n.distinct n.needs k is f found args met (ap (λ (o : Option FlowDef). flow_at run (callee depth) o args (s.place ++ segment.Call x.name ∷ [])) found ∙ w.shows)
+              (called depth x g h d ds f args (s.place ++ segment.Call x.name ∷ []) (work p) ends distinct copied ended w);
           settles = λ j. done ∙ w.settles;
           gives = λ e. record {
             names = outputs_given x.name h.names (w.gives (sym done ∙ e)) f.outputs g.names copied;
@@ -404,7 +392,6 @@ module _ (lib : Library) (site : List ℕ) (table : List Row) (desc : ℕ → Ru
         }
     finished (failed_scatter depth x s g d t c taken n set e outside k) =
         record {
-          work = faulty (fault_at (s.place ++ segment.Scatter x.number ∷ []) x.item c);
           planned = planned_fault x s n.slots g (faulty (fault_at (s.place ++ segment.Scatter x.number ∷ []) x.item c)) c n.distinct (outside_keys depth x.body g outside) n.needs e
               (ap (with_fault (fault_at (s.place ++ segment.Scatter x.number ∷ []) x.item c)) (outside_missing depth t x.body g d outside k));
           settles = λ j. ap is_some k.done.1;
@@ -415,10 +402,9 @@ module _ (lib : Library) (site : List ℕ) (table : List Row) (desc : ℕ → Ru
         let same = given_same lib site table (callee depth) x.body in
         let done : is_set st d ≡ are_set st (all_dones lib site table desc st qs) = ending_is lib site table desc st stuck (all_dones lib site table desc st qs) d ended in
         record {
-          work = all_works (map work_in a.instances);
-          planned = planned_items x s n.slots g y a.instances n.distinct (outside_keys depth x.body g outside) n.needs e a.planned (subst (λ (m : Names). KeysAre m.keys a.instances) (sym same) a.keys)
+          planned = subst (λ (w : Work). Planned cells lib site table (callee depth) (planned_one (stmt.Scatter x) s g w)) a.works (planned_items x s n.slots g y a.instances n.distinct (outside_keys depth x.body g outside) n.needs e a.planned (subst (λ (m : Names). KeysAre m.keys a.instances) (sym same) a.keys)
               (subst (λ (m : Names). RuleGathered cells a.instances m.keys g.names) (sym same) (gathers_are qs a.instances a.match_ (body_given lib x.body).keys g.names names))
-              (subst (λ (m : Names). AllEnded cells a.instances m.calls g.calls) (sym same) (ends_are qs a.instances a.match_ (body_given lib x.body).calls g.calls calls));
+              (subst (λ (m : Names). AllEnded cells a.instances m.calls g.calls) (sym same) (ends_are qs a.instances a.match_ (body_given lib x.body).calls g.calls calls)));
           settles = λ k. done ∙ a.settles k;
           gives = λ h.
               let i = a.gives (sym done ∙ h) in
@@ -426,7 +412,6 @@ module _ (lib : Library) (site : List ℕ) (table : List Row) (desc : ℕ → Ru
         }
     finished (failed_if depth x s g d t c taken n set e outside k) =
         record {
-          work = faulty (fault_at (s.place ++ segment.If x.number ∷ []) (codes "if") c);
           planned = planned_failed x s n.slots g (faulty (fault_at (s.place ++ segment.If x.number ∷ []) (codes "if") c)) c n.distinct n.needs e
               (ap (with_fault (fault_at (s.place ++ segment.If x.number ∷ []) (codes "if") c)) (outside_missing depth t x.body g d outside k));
           settles = λ j. ap is_some k.done.1;
@@ -434,7 +419,6 @@ module _ (lib : Library) (site : List ℕ) (table : List Row) (desc : ℕ → Ru
         }
     finished (false_if depth x s g d t y taken n set e off outside own same done) =
         record {
-          work = no_work;
           planned = planned_false x s n.slots g y n.distinct n.needs e off (ap (giving (Some v.Absent) true) (given_same lib site table (callee depth) x.body) ∙ same);
           settles = λ j. done;
           gives = λ h. record {
@@ -448,65 +432,61 @@ module _ (lib : Library) (site : List ℕ) (table : List Row) (desc : ℕ → Ru
         let ks = slots_copied h.names g.names names in
         let es = marks_copied h.calls g.calls calls in
         record {
-          work = counted (length x.body) a.work;
-          planned = planned_true x s n.slots g h y a.work n.distinct n.needs e on a.planned (ks, es);
+          planned = planned_true x s n.slots g h y (work p) n.distinct n.needs e on a.planned (ks, es);
           settles = λ k. done ∙ a.settles (record { names = k.names; calls = k.calls });
           gives = λ j. copied_given h g (a.gives (sym done ∙ j)) ks es;
         }
-    finished (no_item depth xs s k item i) = record { instances = []; planned = planned_end xs s k item i; keys = tt; match_ = tt; settles = λ j. refl; gives = λ h. tt }
+    finished (no_item depth xs s k item i) = record { instances = []; works = refl; planned = planned_end xs s k item i; keys = tt; match_ = tt; settles = λ j. refl; gives = λ h. tt }
     finished (item_next depth xs s k item i cell y ys g ds qs is p q) =
         let a = finished p in
         let b = finished q in
         let rest = all_dones lib site table desc st qs in
         let splits : are_set st (ds ++ rest) ≡ are_set st ds && are_set st rest = list_all-append (is_set st) ds rest in
         record {
-          instances = record { item = cell; given = g; work = counted (length xs) a.work } ∷ b.instances;
-          planned = planned_item xs s k item i cell y ys g a.work b.instances is a.planned b.planned;
+          instances = record { item = cell; given = g; work = counted (length xs) (work p) } ∷ b.instances;
+          works = ap (both_works (counted (length xs) (work p))) b.works;
+          planned = planned_item xs s k item i cell y ys g (work p) b.instances is a.planned b.planned;
           keys = ((named lib site table (callee depth) desc st p).keys, b.keys);
           match_ = (refl, b.match_);
           settles = λ j.
               splits
               ∙ ap (λ (t : Bool). t && are_set st rest) (a.settles (item_known s k item i cell y is j))
-              ∙ ap (λ (t : Bool). clean a.work && t) (b.settles j)
-              ∙ sym (clean_both (counted (length xs) a.work) (all_works (map work_in b.instances)));
+              ∙ ap (λ (t : Bool). clean (work p) && t) (b.settles j)
+              ∙ sym (clean_both (counted (length xs) (work p)) (work q));
           gives = λ h. let t = and_parts (are_set st ds) (are_set st rest) (sym splits ∙ h) in (a.gives t.0, b.gives t.1);
         }
-    finished (no_input depth given s) = record { work = no_work; shows = shows_none cells s; settles = λ k. refl; calls = refl }
+    finished (no_input depth given s) = record { shows = shows_none cells s; settles = λ k. refl; calls = refl }
     finished (given_input depth given i is s h c y e found p) =
         let a = finished p in
         record {
-          work = both_works no_work a.work;
-          shows = shows_next cells s (taking given i) (map (taking given) is) (only i.name c) h no_work a.work (shows_given cells s given i y c e found) a.shows;
-          settles = λ k. one_more c i.name s h no_work a.work k (ap is_some found) a.settles;
+          shows = shows_next cells s (taking given i) (map (taking given) is) (only i.name c) h no_work (work p) (shows_given cells s given i y c e found) a.shows;
+          settles = λ k. one_more c i.name s h no_work (work p) k (ap is_some found) a.settles;
           calls = a.calls;
         }
     finished (absent_input depth given i is s h c e lacking found p) =
         let a = finished p in
         record {
-          work = both_works no_work a.work;
-          shows = shows_next cells s (taking given i) (map (taking given) is) (only i.name c) h no_work a.work (shows_absent cells s given i c e lacking found) a.shows;
-          settles = λ k. one_more c i.name s h no_work a.work k (ap is_some found) a.settles;
+          shows = shows_next cells s (taking given i) (map (taking given) is) (only i.name c) h no_work (work p) (shows_absent cells s given i c e lacking found) a.shows;
+          settles = λ k. one_more c i.name s h no_work (work p) k (ap is_some found) a.settles;
           calls = a.calls;
         }
     finished (default_input depth given i is s h c e lacking some d p) =
         let a = finished p in
         let t = declared lib site table desc st stuck i.name e s c d in
         record {
-          work = both_works t.work a.work;
-          shows = shows_next cells s (taking given i) (map (taking given) is) (only i.name c) h t.work a.work
-              (shows_default cells s given i e t.needed.slots (only i.name c) t.work lacking some t.needed.distinct t.needed.needs t.follows) a.shows;
-          settles = λ k. one_more c i.name s h t.work a.work k (t.settles k) a.settles;
+          shows = shows_next cells s (taking given i) (map (taking given) is) (only i.name c) h (told_work lib site table desc st i.name e s c d) (work p)
+              (shows_default cells s given i e t.needed.slots (only i.name c) (told_work lib site table desc st i.name e s c d) lacking some t.needed.distinct t.needed.needs t.follows) a.shows;
+          settles = λ k. one_more c i.name s h (told_work lib site table desc st i.name e s c d) (work p) k (t.settles k) a.settles;
           calls = a.calls;
         }
-    finished (no_output depth s) = record { work = no_work; shows = shows_none cells s; settles = λ k. refl; calls = refl }
+    finished (no_output depth s) = record { shows = shows_none cells s; settles = λ k. refl; calls = refl }
     finished (output_next depth x xs s h c d p) =
         let a = finished p in
         let t = declared lib site table desc st stuck x.name x.value s c d in
         record {
-          work = both_works t.work a.work;
-          shows = shows_next cells s (telling x) (map telling xs) (only x.name c) h t.work a.work
-              (shows_declaration cells s t.needed.distinct x.name x.value t.needed.slots t.needed.needs (only x.name c) t.work t.follows) a.shows;
-          settles = λ k. one_more c x.name s h t.work a.work k (t.settles k) a.settles;
+          shows = shows_next cells s (telling x) (map telling xs) (only x.name c) h (told_work lib site table desc st x.name x.value s c d) (work p)
+              (shows_declaration cells s t.needed.distinct x.name x.value t.needed.slots t.needed.needs (only x.name c) (told_work lib site table desc st x.name x.value s c d) t.follows) a.shows;
+          settles = λ k. one_more c x.name s h (told_work lib site table desc st x.name x.value s c d) (work p) k (t.settles k) a.settles;
           calls = a.calls;
         }
-    finished (flow_whole depth f given place i b o ds p q r) = whole_ends depth f given place i b o ds (finished p) (finished q) (finished r)
+    finished (flow_whole depth f given place i b o ds p q r) = whole_ends depth f given place i b o ds (work p) (work q) (work r) (finished p) (finished q) (finished r)

@@ -1,5 +1,5 @@
 -- What is left or evaluated, as the definitions have it: a step that is left misses a need.
-use Rattle.std.proofs.Common.{◌≡◌, ℕ, Bool, true, false, ◌&&◌, ◌⊎◌, inl, inr, List, [], ◌∷◌, ◌++◌, All, map, Option, Some, None, Err, sym, ap, ◌∙◌, subst, refl}
+use Rattle.std.proofs.Common.{◌≡◌, ℕ, Bool, true, false, ◌&&◌, ◌⊎◌, inl, inr, List, [], ◌∷◌, ◌++◌, All, map, Option, None, sym, ap, ◌∙◌, refl}
 use Rattle.std.specs.List.{list_all}
 use Rattle.std.proofs.lemmas.Bool.{and_cases, and_from, and_left, and_parts, and_right, both_ways, false≢true}
 use Rattle.std.proofs.lemmas.List.Folds.{list_all-append, list_all-map}
@@ -13,12 +13,12 @@ use Rattle.wdl_typed.specs.Bodies.{Library}
 use Rattle.wdl_typed.specs.Flow.{Sight, all_known, args_known, declaration, has_ended, is_empty}
 use Rattle.wdl_typed.specs.KnownTypes.{is_some}
 use Rattle.wdl_typed.specs.Scope.{is_among, names_of}
-use Rattle.net_laws.specs.Net.{Cells, Mark, Scope, Slot, Work, both_works, ended_in, known_in, no_work, slot_keys}
+use Rattle.net_laws.specs.Net.{Mark, Scope, Slot, Work, both_works, ended_in, known_in, slot_keys}
 use Rattle.net_laws.specs.Rules.{Follows, arg_keys}
-use Rattle.net_laws.specs.Growing.{CallNeeded, Declared, Keeps, NamesNeeded, Rule, State, are_set, is_set, mark_cell, only, slot_cell}
-use Rattle.net_laws.proofs.Joints.{AllStuck}
+use Rattle.net_laws.specs.Growing.{AllStuck, CallNeeded, Declared, Keeps, NamesNeeded, Rule, State, are_set, is_set, mark_cell, only, slot_cell}
+use Rattle.net_laws.specs.Works.{told_work}
 use Rattle.net_laws.proofs.Kept.{stuck_args, stuck_declaration}
-use Rattle.net_laws.proofs.Sets.{AllKnown, Lacks, LacksMark, all_ended_set, all_known_set, lacks, lacks_mark, marks_resolved_set, marks_set, not_all_ended, resolved_set, slots_set}
+use Rattle.net_laws.proofs.Sets.{AllKnown, Lacks, all_ended_set, all_known_set, lacks, lacks_mark, marks_resolved_set, marks_set, not_all_ended, resolved_set, slots_set}
 use Rattle.net_laws.proofs.Settles.{clean, declaration_settles}
 
 -- ---- bools
@@ -123,21 +123,19 @@ module _ (st : State) where
 
 module _ (lib : Library) (site : List ℕ) (table : List Row) (desc : ℕ → Rule → Type 0) (st : State) (stuck : AllStuck lib site table desc st) where
   -- what a declaration came to: nothing yet, a value or a fault
-  pub record Told (name : List ℕ) (e : TExpr) (s : Scope) (c : ℕ) : Type 0 where
+  pub record Told (name : List ℕ) (e : TExpr) (s : Scope) (c : ℕ) (work : Work) : Type 0 where
     pub step : ℕ
     pub needed : NamesNeeded st step s e
-    pub work : Work
     pub follows : Follows st.cells s.place needed.slots [] (λ (y : Sight). declaration y name e) (only name c) work
     pub settles : AllKnown st.cells s → is_set st c ≡ clean work
 
-  pub declared : (name : List ℕ) (e : TExpr) (s : Scope) (c : ℕ) → Declared lib site table desc st name e s c → Told name e s c
+  pub declared : (name : List ℕ) (e : TExpr) (s : Scope) (c : ℕ) (d : Declared lib site table desc st name e s c) → Told name e s c (told_work lib site table desc st name e s c d)
   declared name e s c (t, n, inl p) =
       let h = stuck t _ p.0 in
       let l = needs_lack st t s e n h in
       record {
         step = t;
         needed = n;
-        work = no_work;
         follows = stuck_declaration st.cells s.names n.slots n.needs.resolved l.slot l.seen l.among l.unset s.place name e c l.used p.1.1;
         settles = λ k. absurd (needs_absurd st t s e n h k);
       }
@@ -145,7 +143,6 @@ module _ (lib : Library) (site : List ℕ) (table : List Row) (desc : ℕ → Ru
       record {
         step = t;
         needed = n;
-        work = p.work;
         follows = p.follows;
         settles = λ k. declaration_settles st.cells s.place name e n.slots c p.work (needs_known st t s e n p.set) p.follows;
       }

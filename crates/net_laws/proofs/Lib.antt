@@ -4,13 +4,14 @@ pub mod Shown
 pub mod Whole
 pub mod Flows
 pub mod Prices
-pub mod Sums
 pub mod Grown
 pub mod Kept
-pub mod Numbered
 pub mod Sets
 pub mod Joints
 pub mod Settles
 pub mod Naming
 pub mod Leaves
 pub mod Finished
+pub mod Spent
+pub mod Calls
+pub mod Moves

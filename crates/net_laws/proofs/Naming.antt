@@ -1,8 +1,6 @@
 -- What grows has the names of its statements.
-use Rattle.std.proofs.Common.{◌≡◌, ℕ, suc, List, [], ◌∷◌, ◌++◌, map, sym, ap, ◌∙◌, subst, refl}
+use Rattle.std.proofs.Common.{◌≡◌, ℕ, List, [], ◌∷◌, ◌++◌, map, sym, ap, ◌∙◌, subst, refl}
 use Rattle.wdl_base.specs.declared.name.Key.{Key}
-use Rattle.wdl_base.specs.declared.place.Segment.{Segment}
-use Rattle.wdl_value.specs.declared.env.Bind.{Bind}
 use Rattle.wdl_value.specs.Tables.{Row}
 use Rattle.wdl_typed.specs.declared.flow.Statement.{Statement, Statement-F, fold_out-Statement, fold-roll-Statement, ind-Statement, map-Statement, out-Statement, roll-Statement}
 use Rattle.wdl_typed.specs.declared.flow.Statement.TheOpen as layer
@@ -12,10 +10,9 @@ use Rattle.wdl_typed.specs.declared.flow.TIf.{TIf}
 use Rattle.wdl_typed.specs.declared.flow.TScatter.{TScatter}
 use Rattle.wdl_typed.specs.declared.task.TDecl.{TDecl}
 use Rattle.wdl_typed.specs.Bodies.{Library}
-use Rattle.wdl_typed.specs.Declarations.{plain_key}
-use Rattle.wdl_typed.specs.Flow.{Callee, Names, Part, Run, all_given, body_names, names_of_part, nothing, statement_step}
+use Rattle.wdl_typed.specs.Flow.{Callee, Names, Part, Run, all_given, names_of_part, nothing, statement_step}
 use Rattle.flow_laws.specs.Laws.{run_with}
-use Rattle.net_laws.specs.Net.{Given, Mark, Scope, Slot, both_given, mark_calls, slot_keys}
+use Rattle.net_laws.specs.Net.{Given, Mark, Slot, both_given, mark_calls, slot_keys}
 use Rattle.net_laws.specs.Planned.{call_names, names_in, part_of}
 use Rattle.net_laws.specs.Growing.{Form, Growing, IsNamed, Rule, State, absent_input, all, body_given, default_input, each, each_scatter, failed_if, failed_scatter, false_if, flow_whole, given_input, item_next, left_call, left_decl, left_if, left_scatter, next, no_input, no_item, no_output, none_left, one, only, output_next, run_call, takes, tells, told_call, told_decl, true_if, whole}
 

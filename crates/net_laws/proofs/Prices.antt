@@ -1,5 +1,5 @@
--- What the steps of a net evaluate is at most what the flow costs.
-use Rattle.std.proofs.Common.{◌≡◌, ◌≤◌, ℕ, ◌+◌, Bool, true, false, cond, ◌&&◌, List, [], ◌∷◌, ◌++◌, map, length, Option, Some, Ok, Err, arith, sym, ap, ◌∙◌, subst, refl}
+-- What statements cost in the flow, by what their steps need.
+use Rattle.std.proofs.Common.{◌≡◌, ◌≤◌, ℕ, ◌+◌, Bool, true, false, cond, ◌&&◌, List, [], ◌∷◌, ◌++◌, map, length, Option, arith, sym, ap, ◌∙◌, subst, refl}
 use Rattle.std.specs.List.{list_all}
 use Rattle.std.proofs.lemmas.Bool.{and_parts}
 use Rattle.wdl_base.specs.declared.place.Segment.{Segment}
@@ -18,7 +18,7 @@ use Rattle.wdl_typed.specs.declared.flow.TCall.{TCall}
 use Rattle.wdl_typed.specs.declared.flow.TIf.{TIf}
 use Rattle.wdl_typed.specs.declared.flow.TScatter.{TScatter}
 use Rattle.wdl_typed.specs.Bodies.{Library}
-use Rattle.wdl_typed.specs.Flow.{Callee, Ended, Known, Part, Run, Sight, all_known, args_known, args_met, env_of, has_ended, item_sight, run_of_part, seeing, statement_step}
+use Rattle.wdl_typed.specs.Flow.{Callee, Ended, Known, Part, Run, Sight, all_known, args_known, args_met, env_of, has_ended, run_of_part, seeing, statement_step}
 use Rattle.wdl_typed.specs.Journal.{keys_distinct}
 use Rattle.wdl_typed.specs.Requests.{Tried}
 use Rattle.wdl_typed.specs.Scope.{names_of}
@@ -26,11 +26,10 @@ use Rattle.flow_laws.specs.Laws.{run_with}
 use Rattle.net_laws.specs.Net.{Cells, Given, Mark, Scope, Slot, Work, beyond, ended_in, flowing_of, known_in, sight_of, slot_keys}
 use Rattle.net_laws.specs.Rules.{Needs, arg_keys, head}
 use Rattle.net_laws.specs.Cost.{CalleeCost, Cost, Priced, TaskCost, args_cost, called_cost, chosen_cost, cost_in_turn, cost_step, items_cost, met_cost, one_if, part_of as priced_part, priced_step, run_of, value_cost}
-use Rattle.net_laws.specs.Planned.{CallNeeds, Form, Planned, all, each, one, part_of, planned_call, planned_decl, planned_end, planned_failed, planned_false, planned_fault, planned_flow, planned_idle, planned_item, planned_items, planned_next, planned_none, planned_true, planned_untold}
+use Rattle.net_laws.specs.Planned.{CallNeeds, part_of}
 use Rattle.net_laws.proofs.Lookups.{agree, all_ended_needed}
-use Rattle.net_laws.proofs.Local.{args_known_same, args_met_same, known_same}
-use Rattle.net_laws.proofs.Shown.{head_same, item_seen, on_head, sight_beyond}
-use Rattle.net_laws.proofs.Whole.{planned_shows}
+use Rattle.net_laws.proofs.Local.{args_known_same, args_met_same}
+use Rattle.net_laws.proofs.Shown.{head_same, on_head, sight_beyond}
 
 module _ (cells : Cells) (lib : Library) (site : List ℕ) (table : List Row) (callee : Callee) (task : TaskCost) (price : CalleeCost) where
   abbrev pub here : Run
@@ -90,30 +89,8 @@ module _ (cells : Cells) (lib : Library) (site : List ℕ) (table : List Row) (c
   call_spent s c ns ms =
       cond (call_test c (map (known_in cells) ns) (map (ended_in cells) ms)) (length c.args + inner_cost c (s.place ++ segment.Call c.name ∷ []) (map (known_in cells) ns)) 0
 
-  abbrev pub spent : {f : Form} → Planned cells lib site table callee f → ℕ
-  spent (planned_none s) = 0
-  spent (planned_next st ss s g h w x p q) = spent p + spent q
-  spent (planned_decl d s ns g w distinct needs follows) = one_if (all_known (map (known_in cells) ns) d.value)
-  spent (planned_call c s ns ms g w distinct needs follows) = call_spent s c ns ms
-  spent (planned_flow c s ns ms g h w distinct needs k is f found args met inner outer) = call_spent s c ns ms
-  spent (planned_idle b s ns g distinct keys needs e h) = 0
-  spent (planned_fault b s ns g w c distinct keys needs e h) = 1
-  spent (planned_items b s ns g x qs distinct keys needs e p are gathers ends) = 1 + spent p
-  spent (planned_untold b s ns g distinct needs e h) = 0
-  spent (planned_failed b s ns g w c distinct needs e h) = 1
-  spent (planned_false b s ns g x distinct needs e off h) = 1
-  spent (planned_true b s ns g h x w distinct needs e on p copies) = 1 + spent p
-  spent (planned_end ss s k item i) = 0
-  spent (planned_item ss s k item i cell x xs g w qs is p q) = spent p + spent q
-
   abbrev pub bodies : List Statement → Cost
   bodies ss = cost_in_turn (map priced ss)
-
-  -- what the flow counts there
-  abbrev pub price_of : Form → ℕ
-  price_of (one st s g w) = (priced st).cost (sight_of cells s)
-  price_of (all ss s g w) = bodies ss (sight_of cells s)
-  price_of (each ss s k item i xs qs) = items_cost (bodies ss) (sight_of cells s) k item i xs
 
   -- ---- calls
 
@@ -184,39 +161,3 @@ module _ (cells : Cells) (lib : Library) (site : List ℕ) (table : List Row) (c
 
   pub more : (a b : ℕ) → a ≤ b → 1 + a ≤ 1 + b
   more a b h = omega (arith, h)
-
-  pub spent_within : {f : Form} (p : Planned cells lib site table callee f) → spent p ≤ price_of f
-  spent_within (planned_none s) = omega arith
-  spent_within (planned_next st ss s g h w x p q) =
-      sums (spent p) (spent q) ((priced st).cost (sight_of cells s)) (bodies ss (seeing (sight_of cells s) (run_of (priced st) (sight_of cells s)))) (spent_within p)
-      (subst (λ (z : Sight). spent q ≤ bodies ss z) (sym (next_sight st s g w (planned_shows cells lib site table callee p))) (spent_within q))
-  spent_within (planned_decl d s ns g w distinct needs follows) =
-      let e : (priced (stmt.Decl d)).cost (sight_of cells s) ≡ one_if (all_known (map (known_in cells) ns) d.value) =
-      price_is (stmt.Decl d) (layer.Decl d) (stmt.outs-Decl d) (sight_of cells s)
-      ∙ ap one_if (known_same (map (known_in cells) s.names) (map (known_in cells) ns) d.value (agree cells s.names ns distinct needs.resolved (names_of d.value) needs.all)) in
-      omega (arith, e)
-  spent_within (planned_call c s ns ms g w distinct needs follows) = call_within c s ns ms distinct needs
-  spent_within (planned_flow c s ns ms g h w distinct needs k is f found args met inner outer) = call_within c s ns ms distinct needs
-  spent_within (planned_idle b s ns g distinct keys needs e h) = omega arith
-  spent_within (planned_fault b s ns g w c distinct keys needs e h) =
-      at_head (λ (r : Outcome Value). 1 + value_cost (λ x. items_cost (bodies b.body) (sight_of cells s) b.number b.item 0 (items_in x)) r) 1 (head cells ns b.over) (Some (Err c)) ((priced (stmt.Scatter b)).cost (sight_of cells s))
-      (scatter_price b s ns distinct needs) e (omega arith)
-  spent_within (planned_items b s ns g x qs distinct keys needs e p are gathers ends) =
-      at_head (λ (r : Outcome Value). 1 + value_cost (λ y. items_cost (bodies b.body) (sight_of cells s) b.number b.item 0 (items_in y)) r) (1 + spent p) (head cells ns b.over) (Some (Ok x)) ((priced (stmt.Scatter b)).cost (sight_of cells s))
-      (scatter_price b s ns distinct needs) e (more (spent p) (items_cost (bodies b.body) (sight_of cells s) b.number b.item 0 (items_in x)) (spent_within p))
-  spent_within (planned_untold b s ns g distinct needs e h) = omega arith
-  spent_within (planned_failed b s ns g w c distinct needs e h) =
-      at_head (λ (r : Outcome Value). 1 + value_cost (λ x. chosen_cost (bodies b.body) (sight_of cells s) b.number (bool_in x)) r) 1 (head cells ns b.cond) (Some (Err c)) ((priced (stmt.If b)).cost (sight_of cells s))
-      (if_price b s ns distinct needs) e (omega arith)
-  spent_within (planned_false b s ns g x distinct needs e off h) =
-      at_head (λ (r : Outcome Value). 1 + value_cost (λ y. chosen_cost (bodies b.body) (sight_of cells s) b.number (bool_in y)) r) 1 (head cells ns b.cond) (Some (Ok x)) ((priced (stmt.If b)).cost (sight_of cells s))
-      (if_price b s ns distinct needs) e (omega arith)
-  spent_within (planned_true b s ns g h x w distinct needs e on p copies) =
-      at_head (λ (r : Outcome Value). 1 + value_cost (λ y. chosen_cost (bodies b.body) (sight_of cells s) b.number (bool_in y)) r) (1 + spent p) (head cells ns b.cond) (Some (Ok x)) ((priced (stmt.If b)).cost (sight_of cells s))
-      (if_price b s ns distinct needs) e
-      (more (spent p) (chosen_cost (bodies b.body) (sight_of cells s) b.number (bool_in x))
-      (subst (λ (t : Bool). spent p ≤ chosen_cost (bodies b.body) (sight_of cells s) b.number t) (sym on) (spent_within p)))
-  spent_within (planned_end ss s k item i) = omega arith
-  spent_within (planned_item ss s k item i cell x xs g w qs is p q) =
-      sums (spent p) (spent q) (bodies ss (item_sight (sight_of cells s) k item i x)) (items_cost (bodies ss) (sight_of cells s) k item (i + 1) xs)
-      (subst (λ (z : Sight). spent p ≤ bodies ss z) (item_seen cells s k item i cell x is) (spent_within p)) (spent_within q)

@@ -1,8 +1,6 @@
 -- What the steps of a net evaluate is at most what the flow costs, for all that grows once no step is ready: each expression once for
 -- each instance of its statement.
-use Rattle.std.proofs.Common.{◌≡◌, ◌≤◌, ℕ, zero, suc, ◌+◌, Bool, true, false, cond, ◌&&◌, ◌⊎◌, inl, inr, List, [], ◌∷◌, ◌++◌, append_assoc, map, length, Option, Some, None, Ok, Err, slice_get, arith, sym, ap, ◌∙◌, subst, refl}
-use Rattle.std.specs.List.{list_all}
-use Rattle.wdl_base.specs.declared.place.Segment.{Segment}
+use Rattle.std.proofs.Common.{◌≡◌, ◌≤◌, ℕ, suc, ◌+◌, Bool, true, cond, inl, inr, List, [], ◌∷◌, ◌++◌, append_assoc, map, length, Option, Some, Ok, Err, slice_get, arith, sym, ap, ◌∙◌, subst, refl}
 use Rattle.wdl_base.specs.declared.place.Segment.TheVariants as segment
 use Rattle.wdl_value.specs.declared.env.Bind.{Bind}
 use Rattle.wdl_value.specs.declared.value.Value.{Value}
@@ -11,7 +9,7 @@ use Rattle.wdl_value.specs.Parts.{bool_in, items_in}
 use Rattle.wdl_value.specs.Tables.{Row}
 use Rattle.wdl_typed.specs.declared.expr.TExpr.{TExpr}
 use Rattle.wdl_typed.specs.declared.flow.FlowDef.{FlowDef}
-use Rattle.wdl_typed.specs.declared.flow.Statement.{Statement, fold-Statement}
+use Rattle.wdl_typed.specs.declared.flow.Statement.{Statement}
 use Rattle.wdl_typed.specs.declared.flow.Statement.TheOpen as layer
 use Rattle.wdl_typed.specs.declared.flow.Statement.TheVariants as stmt
 use Rattle.wdl_typed.specs.declared.flow.TCall.{TCall}
@@ -20,23 +18,22 @@ use Rattle.wdl_typed.specs.declared.flow.Target.TheVariants as target
 use Rattle.wdl_typed.specs.declared.task.TDecl.{TDecl}
 use Rattle.wdl_typed.specs.declared.task.TInput.{TInput}
 use Rattle.wdl_typed.specs.Bodies.{Library}
-use Rattle.wdl_typed.specs.Declarations.{plain_key}
-use Rattle.wdl_typed.specs.Flow.{Callee, Ended, Flowing, Known, Part, Run, Runner, Sight, all_known, beginning, env_of, flow, in_turn, item_sight, nothing, run_of_part, seeing, together}
+use Rattle.wdl_typed.specs.Flow.{Callee, Ended, Flowing, Known, Part, Run, Runner, Sight, all_known, in_turn, item_sight, run_of_part, seeing, together}
 use Rattle.wdl_typed.specs.Requests.{Tried}
-use Rattle.wdl_typed.specs.Scope.{lookup, names_of}
+use Rattle.wdl_typed.specs.Scope.{names_of}
 use Rattle.flow_laws.specs.Laws.{run_with}
-use Rattle.net_laws.specs.Net.{Given, Scope, Shows, Work, beyond, ended_in, flowing_of, known_in, sight_of}
+use Rattle.net_laws.specs.Net.{Given, Scope, Shows, Work, beyond, known_in, no_work, sight_of}
 use Rattle.net_laws.specs.Rules.{head}
-use Rattle.net_laws.specs.Cost.{CalleeCost, Cost, Priced, TaskCost, called_cost, chosen_cost, cost_in_turn, default_cost, expr_cost, flow_cost, flow_cost_at, items_cost, met_cost, one_if, part_of as priced_part, priced_input, priced_output, run_of, some_cost, value_cost}
+use Rattle.net_laws.specs.Cost.{CalleeCost, Priced, TaskCost, called_cost, chosen_cost, cost_in_turn, default_cost, expr_cost, flow_cost, flow_cost_at, items_cost, met_cost, one_if, priced_input, priced_output, run_of, some_cost, value_cost}
 use Rattle.net_laws.specs.Planned.{part_of}
-use Rattle.net_laws.specs.Growing.{Declared, Form, Growing, NamesNeeded, Rule, State, absent_input, all, default_input, each, each_scatter, failed_if, failed_scatter, false_if, flow_whole, given_input, item_next, left_call, left_decl, left_if, left_scatter, next, no_input, no_item, no_output, none_left, one, only, output_next, run_call, start, takes, tells, told_call, told_decl, true_if, whole}
+use Rattle.net_laws.specs.Growing.{AllStuck, Declared, Form, Growing, NamesNeeded, Rule, State, absent_input, all, default_input, each, each_scatter, failed_if, failed_scatter, false_if, flow_whole, given_input, item_next, left_call, left_decl, left_if, left_scatter, next, no_input, no_item, no_output, none_left, one, only, output_next, run_call, start, takes, tells, told_call, told_decl, true_if, whole}
+use Rattle.net_laws.specs.Works.{evaluated, told_count, told_work, work_of}
 use Rattle.net_laws.proofs.Finished.{callee, finished, taking, telling}
 use Rattle.net_laws.proofs.Flows.{shows_absent, shows_default, shows_given}
-use Rattle.net_laws.proofs.Joints.{AllStuck}
-use Rattle.net_laws.proofs.Leaves.{Told, call_ready, declared, needs_known}
+use Rattle.net_laws.proofs.Leaves.{call_ready, declared, needs_known}
 use Rattle.net_laws.proofs.Local.{known_same}
 use Rattle.net_laws.proofs.Lookups.{agree}
-use Rattle.net_laws.proofs.Prices.{at_head, bodies, call_spent, call_within, if_price, inner_cost, more, next_sight, price_is, priced, same_part, scatter_price, sums}
+use Rattle.net_laws.proofs.Prices.{at_head, bodies, call_spent, call_within, if_price, more, next_sight, price_is, priced, same_part, scatter_price, sums}
 use Rattle.net_laws.proofs.Shown.{item_seen, shows_declaration, sight_beyond}
 use Rattle.net_laws.proofs.Whole.{planned_shows}
 
@@ -86,36 +83,11 @@ module _ (lib : Library) (site : List ℕ) (table : List Row) (desc : ℕ → Ru
   abbrev price : ℕ → CalleeCost
   price depth = flow_cost run task depth
 
-  -- ---- what the taken steps evaluate
+  abbrev told_count_ : (name : List ℕ) (e : TExpr) (s : Scope) (c : ℕ) → Declared lib site table desc st name e s c → ℕ
+  told_count_ = told_count lib site table desc st
 
-  abbrev told_count : (name : List ℕ) (e : TExpr) (s : Scope) (c : ℕ) → Declared lib site table desc st name e s c → ℕ
-  told_count name e s c (t, n, inl p) = 0
-  told_count name e s c (t, n, inr p) = 1
-
-  abbrev pub evaluated : {depth : ℕ} {f : Form} → Growing lib site table desc st depth f → ℕ
-  evaluated (none_left depth s) = 0
-  evaluated (next depth x xs s g h d ds p q) = evaluated p + evaluated q
-  evaluated (left_decl depth x s c t left n k) = 0
-  evaluated (left_call depth x s g d t left n is ends k) = 0
-  evaluated (left_scatter depth x s g d t left n outside k) = 0
-  evaluated (left_if depth x s g d t left n outside k) = 0
-  evaluated (told_decl depth x s c t w taken n set own follows) = 1
-  evaluated (told_call depth x s g d t w taken n set is ends own plain follows) = call_spent st.cells lib site table (at depth) task (price depth) s x n.slots n.marks
-  evaluated (run_call depth x s g h d t ds taken n set k is f found args met names ends distinct p copied ended) = length x.args + evaluated p
-  evaluated (failed_scatter depth x s g d t c taken n set e outside k) = 1
-  evaluated (each_scatter depth x s g d t y qs taken n set e outside p names calls ended) = 1 + evaluated p
-  evaluated (failed_if depth x s g d t c taken n set e outside k) = 1
-  evaluated (false_if depth x s g d t y taken n set e off outside own same done) = 1
-  evaluated (true_if depth x s g h d t ds y taken n set e on outside p names calls ended) = 1 + evaluated p
-  evaluated (no_item depth xs s k item i) = 0
-  evaluated (item_next depth xs s k item i cell y ys g ds qs is p q) = evaluated p + evaluated q
-  evaluated (no_input depth given s) = 0
-  evaluated (given_input depth given i is s h c y e found p) = evaluated p
-  evaluated (absent_input depth given i is s h c e lacking found p) = evaluated p
-  evaluated (default_input depth given i is s h c e lacking some d p) = told_count i.name e s c d + evaluated p
-  evaluated (no_output depth s) = 0
-  evaluated (output_next depth x xs s h c d p) = told_count x.name x.value s c d + evaluated p
-  evaluated (flow_whole depth f given place i b o ds p q r) = evaluated p + (evaluated q + evaluated r)
+  abbrev spends : {depth : ℕ} {f : Form} → Growing lib site table desc st depth f → ℕ
+  spends p = evaluated lib site table desc st task p
 
   -- ---- what the flow counts
 
@@ -128,7 +100,7 @@ module _ (lib : Library) (site : List ℕ) (table : List Row) (desc : ℕ → Ru
   cost_at depth (whole f given place g ds) = flow_cost_at run task (at depth) (price depth) (Some f) given place
 
   module _ (stuck : AllStuck lib site table desc st) where
-    told_within : (name : List ℕ) (e : TExpr) (s : Scope) (c : ℕ) (d : Declared lib site table desc st name e s c) → told_count name e s c d ≤ expr_cost e (sight_of st.cells s)
+    told_within : (name : List ℕ) (e : TExpr) (s : Scope) (c : ℕ) (d : Declared lib site table desc st name e s c) → told_count_ name e s c d ≤ expr_cost e (sight_of st.cells s)
     told_within name e s c (t, n, inl p) = omega arith
     told_within name e s c (t, n, inr p) =
         let i : expr_cost e (sight_of st.cells s) ≡ 1 =
@@ -169,14 +141,14 @@ module _ (lib : Library) (site : List ℕ) (table : List Row) (desc : ℕ → Ru
     call_total : (a b n total : ℕ) → total ≡ n + b → a ≤ b → (c : ℕ) → total ≤ c → n + a ≤ c
     call_total a b n total e h c j = omega (arith, e, h, j)
 
-    pub within : {depth : ℕ} {f : Form} (p : Growing lib site table desc st depth f) → evaluated p ≤ cost_at depth f
+    pub within : {depth : ℕ} {f : Form} (p : Growing lib site table desc st depth f) → spends p ≤ cost_at depth f
     within (none_left depth s) = omega arith
     within (next depth x xs s g h d ds p q) =
         let w = finished lib site table desc st stuck p in
-        sums st.cells lib site table (at depth) task (price depth) (evaluated p) (evaluated q) (cost_at depth (one x s g d))
+        sums st.cells lib site table (at depth) task (price depth) (spends p) (spends q) (cost_at depth (one x s g d))
         (bodies st.cells lib site table (at depth) task (price depth) xs (seeing (sight_of st.cells s) (run_of (priced st.cells lib site table (at depth) task (price depth) x) (sight_of st.cells s)))) (within p)
-        (subst (λ (z : Sight). evaluated q ≤ bodies st.cells lib site table (at depth) task (price depth) xs z)
-        (sym (next_sight st.cells lib site table (at depth) task (price depth) x s g w.work (planned_shows st.cells lib site table (at depth) w.planned))) (within q))
+        (subst (λ (z : Sight). spends q ≤ bodies st.cells lib site table (at depth) task (price depth) xs z)
+        (sym (next_sight st.cells lib site table (at depth) task (price depth) x s g (work_of lib site table desc st p) (planned_shows st.cells lib site table (at depth) w.planned))) (within q))
     within (left_decl depth x s c t left n k) = omega arith
     within (left_call depth x s g d t left n is ends k) = omega arith
     within (left_scatter depth x s g d t left n outside k) = omega arith
@@ -184,7 +156,7 @@ module _ (lib : Library) (site : List ℕ) (table : List Row) (desc : ℕ → Ru
     within (told_decl depth x s c t w taken n set own follows) = one_known depth x s t n (needs_known st t s x.value n set)
     within (told_call depth x s g d t w taken n set is ends own plain follows) = call_within st.cells lib site table (at depth) task (price depth) x s n.slots n.marks n.distinct n.needs
     within (run_call depth x s g h d t ds taken n set k is f found args met names ends distinct p copied ended) =
-        call_total (evaluated p) (cost_at depth (whole f args (s.place ++ segment.Call x.name ∷ []) h ds)) (length x.args)
+        call_total (spends p) (cost_at depth (whole f args (s.place ++ segment.Call x.name ∷ []) h ds)) (length x.args)
         (call_spent st.cells lib site table (at (suc depth)) task (price (suc depth)) s x n.slots n.marks) (called_price depth x s _ _ k f args (call_ready st t s x n set) met.met is found) (within p)
         (cost_at (suc depth) (one (stmt.Call x) s g d)) (call_within st.cells lib site table (at (suc depth)) task (price (suc depth)) x s n.slots n.marks n.distinct n.needs)
     within (failed_scatter depth x s g d t c taken n set e outside k) =
@@ -193,9 +165,9 @@ module _ (lib : Library) (site : List ℕ) (table : List Row) (desc : ℕ → Ru
         (cost_at depth (one (stmt.Scatter x) s g d)) (scatter_price st.cells lib site table (at depth) task (price depth) x s n.slots n.distinct n.needs) e (omega arith)
     within (each_scatter depth x s g d t y qs taken n set e outside p names calls ended) =
         at_head st.cells lib site table (at depth) task (price depth)
-        (λ (r : Outcome Value). 1 + value_cost (λ z. items_cost (bodies st.cells lib site table (at depth) task (price depth) x.body) (sight_of st.cells s) x.number x.item 0 (items_in z)) r) (1 + evaluated p) (head st.cells n.slots x.over)
+        (λ (r : Outcome Value). 1 + value_cost (λ z. items_cost (bodies st.cells lib site table (at depth) task (price depth) x.body) (sight_of st.cells s) x.number x.item 0 (items_in z)) r) (1 + spends p) (head st.cells n.slots x.over)
         (Some (Ok y)) (cost_at depth (one (stmt.Scatter x) s g d)) (scatter_price st.cells lib site table (at depth) task (price depth) x s n.slots n.distinct n.needs) e
-        (more st.cells lib site table (at depth) task (price depth) (evaluated p) (cost_at depth (each x.body s x.number x.item 0 (items_in y) qs)) (within p))
+        (more st.cells lib site table (at depth) task (price depth) (spends p) (cost_at depth (each x.body s x.number x.item 0 (items_in y) qs)) (within p))
     within (failed_if depth x s g d t c taken n set e outside k) =
         at_head st.cells lib site table (at depth) task (price depth)
         (λ (r : Outcome Value). 1 + value_cost (λ y. chosen_cost (bodies st.cells lib site table (at depth) task (price depth) x.body) (sight_of st.cells s) x.number (bool_in y)) r) 1 (head st.cells n.slots x.cond) (Some (Err c))
@@ -206,39 +178,39 @@ module _ (lib : Library) (site : List ℕ) (table : List Row) (desc : ℕ → Ru
         (cost_at depth (one (stmt.If x) s g d)) (if_price st.cells lib site table (at depth) task (price depth) x s n.slots n.distinct n.needs) e (omega arith)
     within (true_if depth x s g h d t ds y taken n set e on outside p names calls ended) =
         at_head st.cells lib site table (at depth) task (price depth)
-        (λ (r : Outcome Value). 1 + value_cost (λ z. chosen_cost (bodies st.cells lib site table (at depth) task (price depth) x.body) (sight_of st.cells s) x.number (bool_in z)) r) (1 + evaluated p) (head st.cells n.slots x.cond) (Some (Ok y))
+        (λ (r : Outcome Value). 1 + value_cost (λ z. chosen_cost (bodies st.cells lib site table (at depth) task (price depth) x.body) (sight_of st.cells s) x.number (bool_in z)) r) (1 + spends p) (head st.cells n.slots x.cond) (Some (Ok y))
         (cost_at depth (one (stmt.If x) s g d)) (if_price st.cells lib site table (at depth) task (price depth) x s n.slots n.distinct n.needs) e
-        (more st.cells lib site table (at depth) task (price depth) (evaluated p) (chosen_cost (bodies st.cells lib site table (at depth) task (price depth) x.body) (sight_of st.cells s) x.number (bool_in y))
-        (subst (λ (b : Bool). evaluated p ≤ chosen_cost (bodies st.cells lib site table (at depth) task (price depth) x.body) (sight_of st.cells s) x.number b) (sym on) (within p)))
+        (more st.cells lib site table (at depth) task (price depth) (spends p) (chosen_cost (bodies st.cells lib site table (at depth) task (price depth) x.body) (sight_of st.cells s) x.number (bool_in y))
+        (subst (λ (b : Bool). spends p ≤ chosen_cost (bodies st.cells lib site table (at depth) task (price depth) x.body) (sight_of st.cells s) x.number b) (sym on) (within p)))
     within (no_item depth xs s k item i) = omega arith
     within (item_next depth xs s k item i cell y ys g ds qs is p q) =
-        sums st.cells lib site table (at depth) task (price depth) (evaluated p) (evaluated q) (bodies st.cells lib site table (at depth) task (price depth) xs (item_sight (sight_of st.cells s) k item i y))
+        sums st.cells lib site table (at depth) task (price depth) (spends p) (spends q) (bodies st.cells lib site table (at depth) task (price depth) xs (item_sight (sight_of st.cells s) k item i y))
         (items_cost (bodies st.cells lib site table (at depth) task (price depth) xs) (sight_of st.cells s) k item (i + 1) ys)
-        (subst (λ (z : Sight). evaluated p ≤ bodies st.cells lib site table (at depth) task (price depth) xs z) (item_seen st.cells s k item i cell y is) (within p)) (within q)
+        (subst (λ (z : Sight). spends p ≤ bodies st.cells lib site table (at depth) task (price depth) xs z) (item_seen st.cells s k item i cell y is) (within p)) (within q)
     within (no_input depth given s) = omega arith
     within (given_input depth given i is s h c y e found p) =
-        behind ((priced_input given i).cost (sight_of st.cells s)) (cost_in_turn (map (priced_input given) is) (seeing (sight_of st.cells s) (run_of (priced_input given i) (sight_of st.cells s)))) (evaluated p)
-        (subst (λ (z : Sight). evaluated p ≤ cost_in_turn (map (priced_input given) is) z)
-        (sym (behind_name s (only i.name c) _ (taking lib site table desc st stuck given i) (shows_given st.cells s given i y c e found))) (within p))
+        behind ((priced_input given i).cost (sight_of st.cells s)) (cost_in_turn (map (priced_input given) is) (seeing (sight_of st.cells s) (run_of (priced_input given i) (sight_of st.cells s)))) (spends p)
+        (subst (λ (z : Sight). spends p ≤ cost_in_turn (map (priced_input given) is) z)
+        (sym (behind_name s (only i.name c) no_work (taking lib site table desc st stuck given i) (shows_given st.cells s given i y c e found))) (within p))
     within (absent_input depth given i is s h c e lacking found p) =
-        behind ((priced_input given i).cost (sight_of st.cells s)) (cost_in_turn (map (priced_input given) is) (seeing (sight_of st.cells s) (run_of (priced_input given i) (sight_of st.cells s)))) (evaluated p)
-        (subst (λ (z : Sight). evaluated p ≤ cost_in_turn (map (priced_input given) is) z)
-        (sym (behind_name s (only i.name c) _ (taking lib site table desc st stuck given i) (shows_absent st.cells s given i c e lacking found))) (within p))
+        behind ((priced_input given i).cost (sight_of st.cells s)) (cost_in_turn (map (priced_input given) is) (seeing (sight_of st.cells s) (run_of (priced_input given i) (sight_of st.cells s)))) (spends p)
+        (subst (λ (z : Sight). spends p ≤ cost_in_turn (map (priced_input given) is) z)
+        (sym (behind_name s (only i.name c) no_work (taking lib site table desc st stuck given i) (shows_absent st.cells s given i c e lacking found))) (within p))
     within (default_input depth given i is s h c e lacking some d p) =
         let t = declared lib site table desc st stuck i.name e s c d in
-        sums st.cells lib site table (at depth) task (price depth) (told_count i.name e s c d) (evaluated p) ((priced_input given i).cost (sight_of st.cells s))
+        sums st.cells lib site table (at depth) task (price depth) (told_count_ i.name e s c d) (spends p) ((priced_input given i).cost (sight_of st.cells s))
         (cost_in_turn (map (priced_input given) is) (seeing (sight_of st.cells s) (run_of (priced_input given i) (sight_of st.cells s))))
-        (subst (λ (n : ℕ). told_count i.name e s c d ≤ n)
+        (subst (λ (n : ℕ). told_count_ i.name e s c d ≤ n)
         (sym (ap (λ (o : Option Value). default_cost i o (sight_of st.cells s)) lacking ∙ ap (λ (o : Option TExpr). some_cost (λ (x : TExpr). expr_cost x (sight_of st.cells s)) o) some)) (told_within i.name e s c d))
-        (subst (λ (z : Sight). evaluated p ≤ cost_in_turn (map (priced_input given) is) z)
-        (sym (behind_name s (only i.name c) t.work (taking lib site table desc st stuck given i) (shows_default st.cells s given i e t.needed.slots (only i.name c) t.work lacking some t.needed.distinct t.needed.needs t.follows))) (within p))
+        (subst (λ (z : Sight). spends p ≤ cost_in_turn (map (priced_input given) is) z)
+        (sym (behind_name s (only i.name c) (told_work lib site table desc st i.name e s c d) (taking lib site table desc st stuck given i) (shows_default st.cells s given i e t.needed.slots (only i.name c) (told_work lib site table desc st i.name e s c d) lacking some t.needed.distinct t.needed.needs t.follows))) (within p))
     within (no_output depth s) = omega arith
     within (output_next depth x xs s h c d p) =
         let t = declared lib site table desc st stuck x.name x.value s c d in
-        sums st.cells lib site table (at depth) task (price depth) (told_count x.name x.value s c d) (evaluated p) ((priced_output x).cost (sight_of st.cells s))
+        sums st.cells lib site table (at depth) task (price depth) (told_count_ x.name x.value s c d) (spends p) ((priced_output x).cost (sight_of st.cells s))
         (cost_in_turn (map priced_output xs) (seeing (sight_of st.cells s) (run_of (priced_output x) (sight_of st.cells s)))) (told_within x.name x.value s c d)
-        (subst (λ (z : Sight). evaluated p ≤ cost_in_turn (map priced_output xs) z)
-        (sym (behind_name s (only x.name c) t.work (telling lib site table desc st stuck x) (shows_declaration st.cells s t.needed.distinct x.name x.value t.needed.slots t.needed.needs (only x.name c) t.work t.follows))) (within p))
+        (subst (λ (z : Sight). spends p ≤ cost_in_turn (map priced_output xs) z)
+        (sym (behind_name s (only x.name c) (told_work lib site table desc st x.name x.value s c d) (telling lib site table desc st stuck x) (shows_declaration st.cells s t.needed.distinct x.name x.value t.needed.slots t.needed.needs (only x.name c) (told_work lib site table desc st x.name x.value s c d) t.follows))) (within p))
     within (flow_whole depth f given place i b o ds p q r) =
         let a = finished lib site table desc st stuck p in
         let w = finished lib site table desc st stuck q in
@@ -247,13 +219,13 @@ module _ (lib : Library) (site : List ℕ) (table : List Row) (desc : ℕ → Ru
         let outs = map priced_output f.outputs in
         let s = start place in
         let seen : after ins (sight_of st.cells s) ≡ sight_of st.cells (beyond s i) =
-        after_is ins (sight_of st.cells s) ∙ ap (λ (fs : List Runner). seeing (sight_of st.cells s) (in_turn fs (sight_of st.cells s))) (inputs_same given f.inputs) ∙ behind_name s i a.work (in_turn (map (taking lib site table desc st stuck given) f.inputs)) a.shows in
+        after_is ins (sight_of st.cells s) ∙ ap (λ (fs : List Runner). seeing (sight_of st.cells s) (in_turn fs (sight_of st.cells s))) (inputs_same given f.inputs) ∙ behind_name s i (work_of lib site table desc st p) (in_turn (map (taking lib site table desc st stuck given) f.inputs)) a.shows in
         let told : after body (sight_of st.cells (beyond s i)) ≡ sight_of st.cells (beyond (beyond s i) b) =
         after_is body (sight_of st.cells (beyond s i))
         ∙ ap (λ (fs : List Runner). seeing (sight_of st.cells (beyond s i)) (in_turn fs (sight_of st.cells (beyond s i)))) (runs_same depth f.body)
-        ∙ behind_name (beyond s i) b w.work (in_turn (map run_of_part (map (part_of run (at depth)) f.body))) (planned_shows st.cells lib site table (at depth) w.planned) in
+        ∙ behind_name (beyond s i) b (work_of lib site table desc st q) (in_turn (map run_of_part (map (part_of run (at depth)) f.body))) (planned_shows st.cells lib site table (at depth) w.planned) in
         let behind_both : after (ins ++ body) (sight_of st.cells s) ≡ sight_of st.cells (beyond (beyond s i) b) = after_append ins body (sight_of st.cells s) ∙ ap (after body) seen ∙ told in
-        three (evaluated p) (evaluated q) (evaluated r) (cost_in_turn ins (sight_of st.cells s)) (cost_in_turn body (sight_of st.cells (beyond s i))) (cost_in_turn outs (sight_of st.cells (beyond (beyond s i) b)))
+        three (spends p) (spends q) (spends r) (cost_in_turn ins (sight_of st.cells s)) (cost_in_turn body (sight_of st.cells (beyond s i))) (cost_in_turn outs (sight_of st.cells (beyond (beyond s i) b)))
         (cost_in_turn (ins ++ body ++ outs) (sight_of st.cells s))
         (cost_append (ins ++ body) outs (sight_of st.cells s)
         ∙ ap (λ (n : ℕ). n + cost_in_turn outs (after (ins ++ body) (sight_of st.cells s))) (cost_append ins body (sight_of st.cells s) ∙ ap (λ (z : Sight). cost_in_turn ins (sight_of st.cells s) + cost_in_turn body z) seen)

@@ -147,6 +147,15 @@ module _ (lib : Library) (site : List ℕ) (table : List Row) (desc : ℕ → Ru
     pub rule : desc t r
     pub left : st.taken t ≡ false
 
+  -- the step has this rule, and was taken
+  pub record IsDone (t : ℕ) (r : Rule) : Type 0 where
+    pub rule : desc t r
+    pub done : st.taken t ≡ true
+
+  -- No step that is left is ready.
+  abbrev pub AllStuck : Type 0
+  AllStuck = (t : ℕ) (r : Rule) → IsLeft t r → are_set st (st.needs t) ≡ false
+
   -- ---- joints
 
   pub record IsJoined (parts : List ℕ) (c : ℕ) : Type 0 where
@@ -169,13 +178,13 @@ module _ (lib : Library) (site : List ℕ) (table : List Row) (desc : ℕ → Ru
     pub needs : st.needs u ≡ parts
 
   abbrev pub Gathered : List ℕ → ℕ → Type 0
-  Gathered parts c = (u : ℕ) × (IsWaiting (gathers parts c) parts c u ⊎ (Owns st u c × IsJoined parts c))
+  Gathered parts c = (u : ℕ) × (IsWaiting (gathers parts c) parts c u ⊎ IsJoined parts c)
 
   abbrev pub Ending : List ℕ → ℕ → Type 0
-  Ending parts c = (u : ℕ) × (IsWaiting (ends parts c) parts c u ⊎ (Owns st u c × IsEnded parts c))
+  Ending parts c = (u : ℕ) × (IsWaiting (ends parts c) parts c u ⊎ IsEnded parts c)
 
   abbrev pub Copied : ℕ → ℕ → Type 0
-  Copied from c = (u : ℕ) × (IsWaiting (copies from c) (from ∷ []) c u ⊎ (Owns st u c × IsCopied from c))
+  Copied from c = (u : ℕ) × (IsWaiting (copies from c) (from ∷ []) c u ⊎ IsCopied from c)
 
   abbrev pub found : List ℕ → List (Option ℕ)
   found cs = map (λ (c : ℕ). Some c) cs
@@ -229,7 +238,7 @@ module _ (lib : Library) (site : List ℕ) (table : List Row) (desc : ℕ → Ru
 
   -- an input's default or an output: its step is left, or it was evaluated
   pub record IsToldOver (name : List ℕ) (e : TExpr) (s : Scope) (c t : ℕ) (n : NamesNeeded st t s e) : Type 0 where
-    pub taken : st.taken t ≡ true
+    pub taken : IsDone t (declares name e s c)
     pub set : are_set st (st.needs t) ≡ true
     pub own : Owns st t c
     pub work : Work
@@ -280,28 +289,28 @@ module _ (lib : Library) (site : List ℕ) (table : List Row) (desc : ℕ → Ru
     left_if : (depth : ℕ) (x : TIf Statement) (s : Scope) (g : Given) (d t : ℕ) → IsLeft t (does (stmt.If x) s g d) → NamesNeeded st t s x.cond → IsOutside x.body g → KeepsCells t g d
         → Growing depth (one (stmt.If x) s g d)
     -- a declaration that was evaluated, and a call that was prepared or has a fault: what the landed definitions say over the needs
-    told_decl : (depth : ℕ) (x : TDecl) (s : Scope) (c t : ℕ) (w : Work) → st.taken t ≡ true → (n : NamesNeeded st t s x.value) → are_set st (st.needs t) ≡ true → Owns st t c
+    told_decl : (depth : ℕ) (x : TDecl) (s : Scope) (c t : ℕ) (w : Work) → IsDone t (does (stmt.Decl x) s (only x.name c) c) → (n : NamesNeeded st t s x.value) → are_set st (st.needs t) ≡ true → Owns st t c
         → Follows st.cells s.place n.slots [] (λ (y : Sight). declaration y x.name x.value) (only x.name c) w → Growing depth (one (stmt.Decl x) s (only x.name c) c)
-    told_call : (depth : ℕ) (x : TCall) (s : Scope) (g : Given) (d t : ℕ) (w : Work) → st.taken t ≡ true → (n : CallNeeded st t s x) → are_set st (st.needs t) ≡ true → IsNamed (call_names lib x) g → EndsAt x g d → HasCells t g d → IsPlain x n.slots
+    told_call : (depth : ℕ) (x : TCall) (s : Scope) (g : Given) (d t : ℕ) (w : Work) → IsDone t (does (stmt.Call x) s g d) → (n : CallNeeded st t s x) → are_set st (st.needs t) ≡ true → IsNamed (call_names lib x) g → EndsAt x g d → HasCells t g d → IsPlain x n.slots
         → Follows st.cells s.place n.slots n.marks (call_of run_here (callee depth) (call_names lib x) x) g w → Growing depth (one (stmt.Call x) s g d)
     -- a call of a workflow, which grows
-    run_call : (depth : ℕ) (x : TCall) (s : Scope) (g h : Given) (d t : ℕ) (ds : List ℕ) → st.taken t ≡ true → (n : CallNeeded st t s x) → are_set st (st.needs t) ≡ true
+    run_call : (depth : ℕ) (x : TCall) (s : Scope) (g h : Given) (d t : ℕ) (ds : List ℕ) → IsDone t (does (stmt.Call x) s g d) → (n : CallNeeded st t s x) → are_set st (st.needs t) ≡ true
         → (k : ℕ) → x.target ≡ target.Flow k → (f : FlowDef) → slice_get lib.flows k ≡ Some f → (args : List Bind) → ArgsMet st.cells x n.slots n.marks args
         → IsNamed (call_names lib x) g → EndsAt x g d → keys_distinct (slot_keys h.names) ≡ true
         → Growing depth (whole f args (s.place ++ segment.Call x.name ∷ []) h ds) → OutputsCopied x.name f.outputs h.names g.names → Ending ds d → Growing (suc depth) (one (stmt.Call x) s g d)
     -- a scatter: one whose collection has a fault, and one with instances
-    failed_scatter : (depth : ℕ) (x : TScatter Statement) (s : Scope) (g : Given) (d t : ℕ) (c : EvalCode) → st.taken t ≡ true → (n : NamesNeeded st t s x.over) → are_set st (st.needs t) ≡ true
+    failed_scatter : (depth : ℕ) (x : TScatter Statement) (s : Scope) (g : Given) (d t : ℕ) (c : EvalCode) → IsDone t (does (stmt.Scatter x) s g d) → (n : NamesNeeded st t s x.over) → are_set st (st.needs t) ≡ true
         → head st.cells n.slots x.over ≡ Some (Err c) → IsOutside x.body g → KeepsCells t g d → Growing depth (one (stmt.Scatter x) s g d)
-    each_scatter : (depth : ℕ) (x : TScatter Statement) (s : Scope) (g : Given) (d t : ℕ) (y : Value) (qs : List Item) → st.taken t ≡ true → (n : NamesNeeded st t s x.over) → are_set st (st.needs t) ≡ true
+    each_scatter : (depth : ℕ) (x : TScatter Statement) (s : Scope) (g : Given) (d t : ℕ) (y : Value) (qs : List Item) → IsDone t (does (stmt.Scatter x) s g d) → (n : NamesNeeded st t s x.over) → are_set st (st.needs t) ≡ true
         → head st.cells n.slots x.over ≡ Some (Ok y) → IsOutside x.body g → Growing depth (each x.body s x.number x.item 0 (items_in y) qs)
         → AllGathered qs (body_given lib x.body).keys g.names → AllEnding qs (body_given lib x.body).calls g.calls → Ending (all_dones qs) d → Growing depth (one (stmt.Scatter x) s g d)
     -- a condition: one that has a fault, one that is false, and one that is true
-    failed_if : (depth : ℕ) (x : TIf Statement) (s : Scope) (g : Given) (d t : ℕ) (c : EvalCode) → st.taken t ≡ true → (n : NamesNeeded st t s x.cond) → are_set st (st.needs t) ≡ true
+    failed_if : (depth : ℕ) (x : TIf Statement) (s : Scope) (g : Given) (d t : ℕ) (c : EvalCode) → IsDone t (does (stmt.If x) s g d) → (n : NamesNeeded st t s x.cond) → are_set st (st.needs t) ≡ true
         → head st.cells n.slots x.cond ≡ Some (Err c) → IsOutside x.body g → KeepsCells t g d → Growing depth (one (stmt.If x) s g d)
-    false_if : (depth : ℕ) (x : TIf Statement) (s : Scope) (g : Given) (d t : ℕ) (y : Value) → st.taken t ≡ true → (n : NamesNeeded st t s x.cond) → are_set st (st.needs t) ≡ true
+    false_if : (depth : ℕ) (x : TIf Statement) (s : Scope) (g : Given) (d t : ℕ) (y : Value) → IsDone t (does (stmt.If x) s g d) → (n : NamesNeeded st t s x.cond) → are_set st (st.needs t) ≡ true
         → head st.cells n.slots x.cond ≡ Some (Ok y) → bool_in y ≡ false → IsOutside x.body g → HasCells t g d
         → giving (Some v.Absent) true (body_given lib x.body) ≡ flowing_of st.cells g no_work → is_set st d ≡ true → Growing depth (one (stmt.If x) s g d)
-    true_if : (depth : ℕ) (x : TIf Statement) (s : Scope) (g h : Given) (d t : ℕ) (ds : List ℕ) (y : Value) → st.taken t ≡ true → (n : NamesNeeded st t s x.cond) → are_set st (st.needs t) ≡ true
+    true_if : (depth : ℕ) (x : TIf Statement) (s : Scope) (g h : Given) (d t : ℕ) (ds : List ℕ) (y : Value) → IsDone t (does (stmt.If x) s g d) → (n : NamesNeeded st t s x.cond) → are_set st (st.needs t) ≡ true
         → head st.cells n.slots x.cond ≡ Some (Ok y) → bool_in y ≡ true → IsOutside x.body g → Growing depth (all x.body (inward s (segment.If x.number)) h ds)
         → SlotsCopied h.names g.names → MarksCopied h.calls g.calls → Ending ds d → Growing depth (one (stmt.If x) s g d)
     -- no item, and one before the others

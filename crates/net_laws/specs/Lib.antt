@@ -4,3 +4,5 @@ pub mod Cost
 pub mod Planned
 pub mod Laws
 pub mod Growing
+pub mod Works
+pub mod Moving

@@ -1,8 +1,4 @@
-use Rattle.net_laws.proofs.Joints.{ending_is}
-use Rattle.net_laws.proofs.Settles.{call_settles}
-use Rattle.net_laws.proofs.Naming.{named}
-use Rattle.net_laws.proofs.Finished.{finished}
-use Rattle.net_laws.proofs.Grown.{call_rows_same}
+use Rattle.net_laws.proofs.Grown.{answer_elsewhere, call_rows_same}
 use Rattle.net_laws.proofs.Whole.{entered, planned_shows}
 use Rattle.net_laws.proofs.laws.net_laws.Goals as goal
 
@@ -11,4 +7,5 @@ returns c =
     record {
       show = λ cells lib site table callee ss s g w p. entered cells lib site table callee ss s g w (planned_shows cells lib site table callee p);
       rows = call_rows_same;
+      elsewhere = answer_elsewhere;
     }
