@@ -9,15 +9,18 @@ fn a_chain_is_done_from_its_first_cell_on(rt: HostRuntime) -> Result<(), Fail> {
     let alloc = rt.alloc();
     let mut net = StepNet::new(alloc);
     for k in 0..MANY + 1 {
-        assert!(rt; net.cell(alloc)? == k);
+        let cell = net.cell(alloc)?;
+        assert!(rt; cell == k);
     }
     for k in 0..MANY {
-        assert!(rt; net.step(&[k])? == k);
+        let step = net.step(&[k])?;
+        assert!(rt; step == k);
     }
     assert!(rt; net.pop()?.is_none());
     net.set(0)?;
     for k in 0..MANY {
-        assert!(rt; net.pop()? == Some(k));
+        let popped = net.pop()?;
+        assert!(rt; popped == Some(k));
         net.set(k + 1)?;
     }
     assert!(rt; net.pop()?.is_none());
@@ -31,7 +34,8 @@ fn a_step_that_needs_many_cells_is_done_after_the_last(rt: HostRuntime) -> Resul
     let mut net = StepNet::new(alloc);
     let mut needs = Vec::new(alloc);
     for k in 0..MANY {
-        needs.push(net.cell(alloc)?)?;
+        let cell = net.cell(alloc)?;
+        needs.push(cell)?;
         assert!(rt; needs.len() == k + 1);
     }
     assert!(rt; net.step(&needs)? == 0);
