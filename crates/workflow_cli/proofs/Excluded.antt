@@ -21,7 +21,7 @@ use Rattle.workflow_cli.specs.declared.ended.Work.{Work}
 use Rattle.workflow_cli.specs.declared.ended.Work.TheVariants as work
 use Rattle.workflow_cli.specs.Documents.{HasMain, Tells}
 use Rattle.workflow_cli.specs.Stages.{IsPrepared}
-use Rattle.workflow_cli.specs.Translating.{document_text, DocumentStops, DocumentWork, GivesAll, IsInSubset, IsLowest, library_of, ObjectStops, ObjectWork, SubsetStops, TextWork, WritesDocument, WritesObject}
+use Rattle.workflow_cli.specs.Translating.{document_text, DocumentStops, DocumentWork, GivesAll, IsInSubset, IsLowest, IsNamed, library_of, ObjectStops, ObjectWork, SubsetStops, TextWork, WritesDocument, WritesObject}
 
 none_of : {A : Type 0} (P : A → Type 0) → Any P [] → ⊥
 none_of P h = omega (arith, h.2)
@@ -35,11 +35,11 @@ pub not_outside : (c : Checked) (number rule : ℕ) (span : Span) → IsLowest c
 not_outside c number rule span h k =
     none_of (λ (s : Span). s ≡ span) (subst (Any (λ (s : Span). s ≡ span)) (no_places rule (broken_in (library_of c) number) k) h.broken)
 
--- a form of the subset is in it
-pub subset_holds : (s : Subset) (c : Checked) → s.checked ≡ c → (number : ℕ) → c.main ≡ Some number → IsInSubset c number
+-- a form of the subset is in it, and its names are NAMEs
+pub subset_holds : (s : Subset) (c : Checked) → s.checked ≡ c → (number : ℕ) → c.main ≡ Some number → IsInSubset c number × IsNamed c
 subset_holds s c e number m =
     let kept = subst (λ (x : Checked). is_kept (library_of x) x.main ≡ true) e s.kept in
-    (and_parts (in_subset (library_of c) number) (names_are_names (library_of c)) (sym (ap (is_kept (library_of c)) m) ∙ kept)).0
+    and_parts (in_subset (library_of c) number) (names_are_names (library_of c)) (sym (ap (is_kept (library_of c)) m) ∙ kept)
 
 -- the process of the main workflow is its image
 pub image_is : (c : Checked) (p : Process) → draft.image_of (draft.library_of c) c.main ≡ Some p → (number : ℕ) → c.main ≡ Some number → p ≡ image (library_of c) number
@@ -52,7 +52,9 @@ pub document_work : (c : Checked) (all : List (List ℕ)) (s : Subset) (r : Resu
     → IfOk r (λ t. (number : ℕ) → s.checked.main ≡ Some number → t ≡ document_text s.checked number) → TextWork r w → DocumentWork c all w
 document_work c all s (Ok t) w e h k =
     subst (DocumentWork c all) (sym k)
-    (λ number m. (subset_holds s c e number m, h number (ap (λ (x : Checked). x.main) e ∙ m) ∙ ap (λ (x : Checked). document_text x number) e))
+    (λ number m.
+    let k = subset_holds s c e number m in
+    (k.0, k.1, h number (ap (λ (x : Checked). x.main) e ∙ m) ∙ ap (λ (x : Checked). document_text x number) e))
 document_work c all s (Err x) (work.Stop stop) e h k = subst (λ st. SubsetStops c all st stop.paths) (sym k) tt
 document_work c all s (Err x) (work.Text text) e h k = absurd k
 
@@ -78,7 +80,7 @@ module _ (tells : Tells) (refused : List ℕ → Type 0) (rose : Type 0) (file :
 
   pub writes_document : (w : Work) → Mains → DocumentWork c all w → WritesDocument tells refused rose file w
   writes_document (work.Text text) m h =
-      let d = h m.0 m.2.numbered in record { checked = c; number = m.0; flow = m.1; paths = all; source = m.2; in_subset = d.0; says = d.1 }
+      let d = h m.0 m.2.numbered in record { checked = c; number = m.0; flow = m.1; paths = all; source = m.2; in_subset = d.0; named = d.1; says = d.2 }
   writes_document (work.Stop stop) m h = document_stops m stop.status stop.paths h
 
   -- ---- the input object
@@ -119,7 +121,8 @@ module _ (tells : Tells) (refused : List ℕ → Type 0) (rose : Type 0) (file :
           is_read = p.fits.is_text;
           given = given;
           reads = p.fits.reads;
-          in_subset = h.0 m.0 m.2.numbered;
+          in_subset = (h.0 m.0 m.2.numbered).0;
+          named = (h.0 m.0 m.2.numbered).1;
           says = h.1;
         }
     writes_object (work.Stop stop) h = object_stops stop.status stop.paths h

@@ -8,3 +8,4 @@ mod Joined
 mod Given
 mod Forms
 mod Started
+mod Simulated

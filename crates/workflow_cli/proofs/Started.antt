@@ -97,19 +97,19 @@ module _ (tells : Tells) (refused : List ℕ → Type 0) (rose : Type 0) (file :
     pub given_before : (given : List Bind) → HasGiven told inputs c given → HasGiven tells inputs c given
     given_before given h = record { flow = h.flow; main = h.main; text = h.text; is_text = text_before inputs h.text h.is_text; reads = h.reads; fit = h.fit }
 
-    pub stops_before : (refuses : List ℕ → Type 0) (rises : Type 0) → ((p : List ℕ) → refuses p → refused p) → (rises → rose)
+    pub stops_before : (f : FlowDef) → main_of c.flows c.main ≡ Some f → (refuses : List ℕ → Type 0) (rises : Type 0) → ((p : List ℕ) → refuses p → refused p) → (rises → rose)
         → (s : Status) (paths : List (List ℕ)) → GiveInStops told refuses rises inputs c s → PrepareStops tells refused rose file inputs s paths
-    stops_before refuses rises back up (status.Inputs code name) paths h =
+    stops_before f main refuses rises back up (status.Inputs code name) paths h =
         record { checked = c; has = has; none = record { flow = h.flow; main = h.main; text = h.text; is_text = text_before inputs h.text h.is_text; refused = h.refused } }
-    stops_before refuses rises back up (status.Read path) paths h = inr (record { checked = c; has = has; named = h.0; refusal = back path h.1; counted = up h.2 })
-    stops_before refuses rises back up status.NoMemory paths h = tt
-    stops_before refuses rises back up status.Ok paths h = absurd h
-    stops_before refuses rises back up (status.Failed fault) paths h = absurd h
-    stops_before refuses rises back up status.Usage paths h = absurd h
-    stops_before refuses rises back up (status.Document code span) paths h = absurd h
-    stops_before refuses rises back up status.Write paths h = absurd h
-    stops_before refuses rises back up (status.NotInSubset rule span) paths h = absurd h
-    stops_before refuses rises back up (status.Launch place) paths h = absurd h
-    stops_before refuses rises back up status.Keep paths h = absurd h
-    stops_before refuses rises back up status.TooMany paths h = absurd h
-    stops_before refuses rises back up status.NotBuilt paths h = absurd h
+    stops_before f main refuses rises back up (status.Read path) paths h = inr (record { checked = c; has = has; flow = f; main = main; named = h.0; refusal = back path h.1; counted = up h.2 })
+    stops_before f main refuses rises back up status.NoMemory paths h = tt
+    stops_before f main refuses rises back up status.Ok paths h = absurd h
+    stops_before f main refuses rises back up (status.Failed fault) paths h = absurd h
+    stops_before f main refuses rises back up status.Usage paths h = absurd h
+    stops_before f main refuses rises back up (status.Document code span) paths h = absurd h
+    stops_before f main refuses rises back up status.Write paths h = absurd h
+    stops_before f main refuses rises back up (status.NotInSubset rule span) paths h = absurd h
+    stops_before f main refuses rises back up (status.Launch place) paths h = absurd h
+    stops_before f main refuses rises back up status.Keep paths h = absurd h
+    stops_before f main refuses rises back up status.TooMany paths h = absurd h
+    stops_before f main refuses rises back up status.NotBuilt paths h = absurd h

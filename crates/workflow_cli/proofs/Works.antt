@@ -92,7 +92,7 @@ module _ (tells : Tells) (refused : List ℕ → Type 0) (rose : Type 0) (gives 
       → PrepareStops tells refused rose file inputs s paths → Said s paths
   prepare_stops idle file inputs asks (status.Read path) paths (inl h) = (idle, inl (record { file = file; named = inr (inputs, for_main words file inputs asks); unread = h }))
   prepare_stops idle file inputs asks (status.Read path) paths (inr h) =
-      (idle, inr (record { file = file; asked = subst (IsForInputs words file) h.named asks; checked = h.checked; has = h.has; refusal = h.refusal; counted = h.counted }))
+      (idle, inr (record { file = file; asked = subst (IsForInputs words file) h.named asks; checked = h.checked; has = h.has; flow = h.flow; main = h.main; refusal = h.refusal; counted = h.counted }))
   prepare_stops idle file inputs asks (status.Document code span) paths (inl h) = (idle, inl (record { file = file; named = inr (inputs, for_main words file inputs asks); refused = h }))
   prepare_stops idle file inputs asks (status.Document code span) paths (inr h) = (idle, inr (record { file = file; inputs = inputs; asked = for_main words file inputs asks; mainless = h }))
   prepare_stops idle file inputs asks (status.Inputs code name) paths h = (

@@ -4,6 +4,7 @@ pub mod Running
 pub mod Causes
 pub mod Stages
 pub mod Translating
+pub mod Meaning
 pub mod Writing
 pub mod Complete
 pub mod Counting

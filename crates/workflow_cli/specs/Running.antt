@@ -90,12 +90,14 @@ module _ (tells : Tells) (words : Words) where
     pub is_text : IsInputsText tells inputs text
     pub refused : inputs_in checked.structs flow text ≡ Err (Bad code name)
 
-  -- the shelf refuses the inputs file, and its count of faults rose
+  -- the document has a main workflow, the shelf refuses the inputs file, and its count of faults rose
   pub record IsUnreadInputs (refused : List ℕ → Type 0) (rose : Type 0) (path : List ℕ) : Type 0 where
     pub file : List ℕ
     pub asked : IsForInputs words file (Some path)
     pub checked : Checked
     pub has : HasChecked tells file checked
+    pub flow : FlowDef
+    pub main : main_of checked.flows checked.main ≡ Some flow
     pub refusal : refused path
     pub counted : rose
 

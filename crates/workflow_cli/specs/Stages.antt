@@ -98,10 +98,12 @@ pub record HasBadInputs (tells : Tells) (file : List ℕ) (inputs : Option (List
   pub has : HasChecked tells file checked
   pub none : HasNoGiven tells inputs checked code name
 
--- the inputs file is refused
+-- the inputs file is refused, of a document with a main workflow
 pub record HasUnreadInputs (tells : Tells) (refused : List ℕ → Type 0) (rose : Type 0) (file : List ℕ) (inputs : Option (List ℕ)) (path : List ℕ) : Type 0 where
   pub checked : Checked
   pub has : HasChecked tells file checked
+  pub flow : FlowDef
+  pub main : main_of checked.flows checked.main ≡ Some flow
   pub named : inputs ≡ Some path
   pub refusal : refused path
   pub counted : rose

@@ -12,6 +12,7 @@ use Rattle.wdl_typed.specs.declared.flow.FlowDef.{FlowDef}
 use Rattle.wdl_typed.specs.Bodies as bodies
 use Rattle.wdl_json.specs.Inputs.{inputs_in}
 use Rattle.cwl_image.specs.Image.{image}
+use Rattle.cwl_image.specs.Named.{names_are_names}
 use Rattle.cwl_image.specs.Subset as rules
 use Rattle.cwl_emit.specs.Objects.{object_text}
 use Rattle.cwl_emit.specs.Writing.{process_json}
@@ -35,6 +36,10 @@ pub record ArePaths (all : List (List ℕ)) (number : ℕ) (paths : List (List �
 -- no rule of the subset is broken
 abbrev pub IsInSubset : Checked → ℕ → Type 0
 IsInSubset c number = rules.in_subset (library_of c) number ≡ true
+
+-- each name is a NAME
+abbrev pub IsNamed : Checked → Type 0
+IsNamed c = names_are_names (library_of c) ≡ true
 
 -- The rule is broken at the span, and no lower rule is broken.
 pub record IsLowest (c : Checked) (number rule : ℕ) (span : Span) : Type 0 where
@@ -61,6 +66,7 @@ pub record IsDocumentOf (tells : Tells) (file text : List ℕ) : Type 0 where
   pub paths : List (List ℕ)
   pub source : HasMain tells file checked number flow paths
   pub in_subset : IsInSubset checked number
+  pub named : IsNamed checked
   pub says : text ≡ document_text checked number
 
 -- the CWL input object of the inputs that a text gives, and a newline
@@ -75,6 +81,7 @@ pub record IsObjectOf (tells : Tells) (file : List ℕ) (inputs : Option (List �
   pub given : List Bind
   pub reads : inputs_in checked.structs flow read ≡ Ok given
   pub in_subset : IsInSubset checked number
+  pub named : IsNamed checked
   pub says : text ≡ object_text given ++ codes "\n"
 
 abbrev pub IsCwlText : Tells → List ℕ → Option (List ℕ) → List ℕ → Type 0
@@ -138,11 +145,11 @@ TextWork (Err e) (work.Stop stop) = stop.status ≡ status.NoMemory
 TextWork (Err e) (work.Text text) = ⊥
 
 abbrev pub DocumentWork : Checked → List (List ℕ) → Work → Type 0
-DocumentWork c all (work.Text text) = (number : ℕ) → c.main ≡ Some number → IsInSubset c number × (text ≡ document_text c number)
+DocumentWork c all (work.Text text) = (number : ℕ) → c.main ≡ Some number → IsInSubset c number × IsNamed c × (text ≡ document_text c number)
 DocumentWork c all (work.Stop stop) = SubsetStops c all stop.status stop.paths
 
 abbrev pub ObjectWork : Checked → List (List ℕ) → List Bind → Work → Type 0
-ObjectWork c all given (work.Text text) = ((number : ℕ) → c.main ≡ Some number → IsInSubset c number) × (text ≡ object_text given ++ codes "\n")
+ObjectWork c all given (work.Text text) = ((number : ℕ) → c.main ≡ Some number → IsInSubset c number × IsNamed c) × (text ≡ object_text given ++ codes "\n")
 ObjectWork c all given (work.Stop stop) = SubsetStops c all stop.status stop.paths
 
 -- ---- by the words

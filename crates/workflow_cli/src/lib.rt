@@ -9,6 +9,7 @@ mod ended;
 mod file_shelf;
 mod finish;
 mod inputs;
+mod laws;
 mod prepare;
 mod run;
 mod stream_sink;
@@ -18,5 +19,6 @@ mod writing;
 
 pub use ended::Ended;
 pub use file_shelf::FileShelf;
+pub use laws::documents_mean;
 pub use stream_sink::StreamSink;
 pub use top::workflow;

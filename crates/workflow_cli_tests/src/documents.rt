@@ -197,7 +197,19 @@ say
 file w.wdl
 $ run w.wdl
 > 3 0
-> ! w.wdl:0..0: 327 NoWorkflow"#;
+> ! w.wdl:0..0: 327 NoWorkflow
+
+version 
+file w.wdl
+$ run --inputs i.json w.wdl
+> 3 0
+> ! w.wdl:0..0: 327 NoWorkflow
+
+version workflow w { }
+file w.wdl
+$ run --inputs i.json w.wdl
+> 5 0
+> ! cannot read i.json"#;
 
 #[test]
 fn imports_are_read(rt: HostRuntime) -> Result<(), Fail> {

@@ -26,7 +26,7 @@ returns-in-Err-given_in-clause-outcome g c =
     let l = c.in-Ok.located in
     rw c.stop.ensures.status
     (stops_before (g.F.Shelf.tells c.args.shelf.now) (g.F.Shelf.refuses c.args.shelf.now) (Rose (g.F.Shelf.faults c.args.shelf.now) (g.F.Shelf.faults c.given_in.new.shelf))
-    c.args.file.now c.args.inputs.now l.checked (checked_in _ _ l.checked l.paths m.2.located) (g.F.Shelf.tells c.main_of.new.shelf) c.main_of.ensures.same_files
+    c.args.file.now c.args.inputs.now l.checked (checked_in _ _ l.checked l.paths m.2.located) (g.F.Shelf.tells c.main_of.new.shelf) c.main_of.ensures.same_files m.1 m.2.main
     (g.F.Shelf.refuses c.main_of.new.shelf) (Rose (g.F.Shelf.faults c.main_of.new.shelf) (g.F.Shelf.faults c.given_in.new.shelf))
     (λ p h. (c.main_of.ensures.same_refusals p).0 h) (rose_later _ _ _ c.main_of.ensures.later)
     c.in-Err-given_in.status c.stop.result.paths (c.in-Err-given_in.ensures.value m.1 m.2.main))

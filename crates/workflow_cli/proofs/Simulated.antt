@@ -1,0 +1,29 @@
+-- The documents that are written mean what the flow gives.
+use Rattle.std.proofs.Common.{◌≡◌, ℕ, true, List, Option, Some, Ok, sym, ap, ◌∙◌}
+use Rattle.wdl_value.specs.declared.env.Bind.{Bind}
+use Rattle.wdl_value.specs.Tables.{Row}
+use Rattle.wdl_typed.specs.declared.checked.Checked.{Checked}
+use Rattle.wdl_typed.specs.declared.flow.FlowDef.{FlowDef}
+use Rattle.wdl_typed.specs.Journal.{inputs_fit}
+use Rattle.wdl_typed.specs.Kept.{is_checked}
+use Rattle.wdl_json.specs.Inputs.{main_of}
+use Rattle.wdl_json.proofs.InputsFit.{answer_fits}
+use Rattle.cwl_laws.specs.Tools.{AreStatuses}
+use Rattle.cwl_laws.proofs.Whole.{simulates}
+use Rattle.workflow_cli.specs.Documents.{HasMain, Tells}
+use Rattle.workflow_cli.specs.Meaning.{DocumentsMean, MeansFlow, ObjectsMean}
+use Rattle.workflow_cli.specs.Translating.{IsInSubset, IsNamed, library_of}
+
+means_flow : (tells : Tells) (file : List ℕ) (c : Checked) (number : ℕ) (f : FlowDef) (paths : List (List ℕ)) → HasMain tells file c number f paths → IsInSubset c number → IsNamed c
+    → (given : List Bind) (site : List ℕ) (table : List Row) → inputs_fit c.structs f.inputs given ≡ true → AreStatuses table → MeansFlow c number f given site table
+means_flow tells file c number f paths m subset named given site table fit small =
+    simulates (library_of c) number f given site table (sym (ap (is_checked (library_of c)) m.numbered) ∙ c.kept) subset named (sym (ap (main_of c.flows) m.numbered) ∙ m.main) fit small
+
+pub documents_mean : DocumentsMean
+documents_mean tells file text d given site table fit small =
+    means_flow tells file d.checked d.number d.flow d.paths d.source d.in_subset d.named given site table fit small
+
+pub objects_mean : ObjectsMean
+objects_mean tells file inputs text o site table small =
+    means_flow tells file o.checked o.number o.flow o.paths o.source o.in_subset o.named o.given site table
+    (answer_fits (library_of o.checked) o.checked.main o.flow o.flow o.read (Ok o.given) o.checked.kept o.source.main o.source.main o.reads) small

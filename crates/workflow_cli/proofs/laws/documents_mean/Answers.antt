@@ -1,0 +1,5 @@
+use Rattle.workflow_cli.proofs.Simulated.{documents_mean, objects_mean}
+use Rattle.workflow_cli.proofs.laws.documents_mean.Goals as goal
+
+pub returns : goal.returns
+returns c = record { documents = documents_mean; objects = objects_mean }

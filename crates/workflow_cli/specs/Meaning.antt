@@ -1,0 +1,33 @@
+-- What the documents mean that are written.
+use Rattle.std.specs.Prelude.{◌≡◌, ℕ, true, List, [], Option}
+use Rattle.wdl_value.specs.declared.env.Bind.{Bind}
+use Rattle.wdl_value.specs.Tables.{Row}
+use Rattle.wdl_typed.specs.declared.checked.Checked.{Checked}
+use Rattle.wdl_typed.specs.declared.flow.FlowDef.{FlowDef}
+use Rattle.wdl_typed.specs.Flow.{whole}
+use Rattle.wdl_typed.specs.Journal.{inputs_fit}
+use Rattle.cwl_model.specs.Means.{means}
+use Rattle.cwl_image.specs.Image.{image}
+use Rattle.cwl_laws.specs.Simulation.{IsMeant, object_of}
+use Rattle.cwl_laws.specs.Tools.{AreStatuses}
+use Rattle.workflow_cli.specs.Documents.{Tells}
+use Rattle.workflow_cli.specs.Translating.{IsDocumentOf, IsObjectOf, library_of}
+
+-- The flow of the main workflow for these inputs is as the meaning of its process, with the object of the inputs.
+abbrev pub MeansFlow : Checked → ℕ → FlowDef → List Bind → List ℕ → List Row → Type 0
+MeansFlow c number flow given site table =
+    IsMeant flow (whole (record { library = library_of c; site = site; table = table }) number given)
+    (means (record { site = site; table = table }) (image (library_of c) number) (object_of given) [])
+
+-- The process that is written means what the flow of the main workflow gives, for all inputs that fit, all sites and all
+-- tables of answers with the statuses of processes.
+abbrev pub DocumentsMean : Type 0
+DocumentsMean =
+    (tells : Tells) (file text : List ℕ) (d : IsDocumentOf tells file text) (given : List Bind) (site : List ℕ) (table : List Row)
+    → inputs_fit d.checked.structs d.flow.inputs given ≡ true → AreStatuses table → MeansFlow d.checked d.number d.flow given site table
+
+-- the same for the inputs whose object is written
+abbrev pub ObjectsMean : Type 0
+ObjectsMean =
+    (tells : Tells) (file : List ℕ) (inputs : Option (List ℕ)) (text : List ℕ) (o : IsObjectOf tells file inputs text) (site : List ℕ) (table : List Row)
+    → AreStatuses table → MeansFlow o.checked o.number o.flow o.given site table
