@@ -1,0 +1,6 @@
+//! That the process of a checked form is one whose JSON stands for it.
+#![tactic(auto)]
+
+mod laws;
+
+pub use laws::images_stand;
