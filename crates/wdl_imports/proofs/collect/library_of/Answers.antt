@@ -44,3 +44,6 @@ returns c =
     c.as_slice-in-Err-name_structs.ensures ∙ c.in_ok-paths.ensures ∙ ap (λ (ds : List Doc). map (λ (d : Doc). d.path) ds) c.as_slice.ensures in
     names_made docs f c.placed-in-Err-name_structs.result c.in-Err-name_structs.ensures
     (subst (λ (x : List (List ℕ)). IsPlacedFault x f c.placed-in-Err-name_structs.result) ps c.placed-in-Err-name_structs.ensures)
+
+pub no_circle-requires-clause-reached : goal.no_circle-requires-clause-reached
+no_circle-requires-clause-reached c = subst (λ (ds : List Doc). circles.AreReached ds) (sym c.as_slice-2.ensures) c.requires.reached

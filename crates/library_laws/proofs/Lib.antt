@@ -1,0 +1,4 @@
+pub mod OneClosing
+pub mod TypesByNames
+pub mod SeenSections
+pub mod OneStructs

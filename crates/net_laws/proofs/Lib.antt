@@ -1,0 +1,17 @@
+pub mod Lookups
+pub mod Local
+pub mod Shown
+pub mod Whole
+pub mod Flows
+pub mod Prices
+pub mod Grown
+pub mod Kept
+pub mod Sets
+pub mod Joints
+pub mod Settles
+pub mod Naming
+pub mod Leaves
+pub mod Finished
+pub mod Spent
+pub mod Calls
+pub mod Moves

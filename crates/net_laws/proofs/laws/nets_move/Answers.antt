@@ -1,0 +1,10 @@
+use Rattle.net_laws.specs.Laws.{ruled}
+use Rattle.net_laws.proofs.Moves.{moved, weighed}
+use Rattle.net_laws.proofs.laws.nets_move.Goals as goal
+
+pub returns : goal.returns
+returns c lib site rows later rules more a b t grows others turn depth f p =
+    record {
+      grown = moved lib site rows later (ruled rules) (ruled more) a b t grows others turn p;
+      weighs = λ weight is_weight old new adds. weighed lib site rows later (ruled rules) (ruled more) a b t grows others turn weight is_weight old new adds p;
+    }
