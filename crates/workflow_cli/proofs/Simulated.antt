@@ -27,12 +27,12 @@ means_flow tells file c number f paths m subset named given site table fit small
     simulates (library_of c) number f given site table (checked_is tells file c number f paths m) subset named (sym (ap (main_of c.flows) m.numbered) ∙ m.main) fit small
 
 pub documents_read : DocumentsRead
-documents_read tells file text d plain =
+documents_read tells file text d =
     let lib = library_of d.checked in
     record {
       json = process_json (image lib d.number) true;
-      reads = formed_processes_stand true (image lib d.number) (images_are_formed lib d.number (checked_is tells file d.checked d.number d.flow d.paths d.source) d.in_subset d.named plain);
-      says = d.says;
+      reads = formed_processes_stand true (image lib d.number) (images_are_formed lib d.number (checked_is tells file d.checked d.number d.flow d.paths d.source) d.in_subset d.named d.says.plain);
+      says = d.says.written;
     }
 
 pub documents_mean : DocumentsMean

@@ -12,7 +12,6 @@ use Rattle.cwl_model.specs.declared.process.Process.{Process}
 use Rattle.cwl_model.specs.Means.{means}
 use Rattle.cwl_image.specs.Image.{image}
 use Rattle.cwl_emit.specs.Reading.{cwl_of}
-use Rattle.cwl_formed.specs.Plain.{texts_are_plain}
 use Rattle.cwl_laws.specs.Simulation.{IsMeant, object_of}
 use Rattle.cwl_laws.specs.Tools.{AreStatuses}
 use Rattle.workflow_cli.specs.Documents.{Tells}
@@ -24,10 +23,10 @@ pub record IsProcessText (p : Process) (text : List ℕ) : Type 0 where
   pub reads : cwl_of true json ≡ Some p
   pub says : text ≡ compact_text json ++ codes "\n"
 
--- What is written reads as the process, whose texts hold no NUL.
+-- What is written reads as the process.
 abbrev pub DocumentsRead : Type 0
 DocumentsRead =
-    (tells : Tells) (file text : List ℕ) (d : IsDocumentOf tells file text) → texts_are_plain (image (library_of d.checked) d.number) ≡ true
+    (tells : Tells) (file text : List ℕ) (d : IsDocumentOf tells file text)
     → IsProcessText (image (library_of d.checked) d.number) text
 
 -- The flow of the main workflow for these inputs is as the meaning of its process, with the object of the inputs.
