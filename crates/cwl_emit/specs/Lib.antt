@@ -3,4 +3,3 @@ pub mod Writing
 pub mod Formed
 pub mod Laws
 pub mod Objects
-pub mod Plain

@@ -5,11 +5,9 @@ mod laws;
 mod object;
 mod part;
 mod process;
-mod texts;
 mod tool;
 mod workflow;
 
 pub use laws::{formed_processes_stand, processes_are_written};
 pub use object::object_text;
 pub use process::{process_text, process_value};
-pub use texts::see_texts;

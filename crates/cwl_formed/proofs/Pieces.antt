@@ -23,7 +23,7 @@ use Rattle.cwl_image.specs.Expressions.{are_allowed}
 use Rattle.cwl_image.specs.Image.{argument, chars_before, hole_by, hole_piece, is_file, reference, type_at}
 use Rattle.cwl_image.specs.Subset.{are_input_holes, command_marks, is_input_hole, is_plain_choice, is_scalar_name, is_verbatim, opens as marks_open, some_scalar}
 use Rattle.cwl_emit.specs.Formed.{is_plain}
-use Rattle.cwl_emit.specs.Plain.{piece_plain}
+use Rattle.cwl_formed.specs.Plain.{piece_plain}
 use Rattle.cwl_formed.proofs.Lists.{negated}
 
 abbrev shown : List ℕ → List (Option ℕ)

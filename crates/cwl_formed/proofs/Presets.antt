@@ -12,7 +12,7 @@ use Rattle.wdl_value.specs.Fits.{Structs, fits}
 use Rattle.wdl_value.proofs.FitsForms.{a_bool, a_list, a_str, all_fit, an_int}
 use Rattle.cwl_image.specs.Expressions.{default_step, takes_default}
 use Rattle.cwl_emit.specs.Formed.{value_formed, value_formed_at}
-use Rattle.cwl_emit.specs.Plain.{value_plain, value_plain_at}
+use Rattle.cwl_formed.specs.Plain.{value_plain, value_plain_at}
 
 module _ (structs : Structs) where
   abbrev Formed : Ty → Type 0

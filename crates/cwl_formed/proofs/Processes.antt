@@ -18,7 +18,7 @@ use Rattle.cwl_image.specs.Image.{Draft, Linkage, Scope, empty, flow_process, li
 use Rattle.cwl_laws.specs.Premises.{WiresBy}
 use Rattle.cwl_emit.specs.Formed.{flow_out_formed, input_formed, is_formed, is_plain, lacks, link_formed, mode_formed, process_formed_at, step_formed, tool_formed, wire_formed}
 use Rattle.cwl_emit.specs.Reading.{flow}
-use Rattle.cwl_emit.specs.Plain.{flow_out_plain, input_plain, link_plain, plain_step, process_plain_at, step_plain, texts_are_plain, tool_plain, wire_plain}
+use Rattle.cwl_formed.specs.Plain.{flow_out_plain, input_plain, link_plain, plain_step, process_plain_at, step_plain, texts_are_plain, tool_plain, wire_plain}
 use Rattle.cwl_formed.proofs.Lists.{all_kept, map_takes}
 use Rattle.wdl_typed.specs.Scope.{same_key}
 

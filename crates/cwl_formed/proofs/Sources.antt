@@ -38,7 +38,7 @@ use Rattle.cwl_laws.proofs.Splits.{split}
 use Rattle.cwl_laws.proofs.Tools.{both_empty, rule_holds}
 use Rattle.cwl_laws.proofs.Uses.{HasType, statement_wires, uses_typed}
 use Rattle.cwl_emit.specs.Formed.{input_formed, lacks}
-use Rattle.cwl_emit.specs.Plain.{input_plain}
+use Rattle.cwl_formed.specs.Plain.{input_plain}
 use Rattle.cwl_formed.proofs.Lists.{all_at, either_side, first_or_rest, map_takes}
 use Rattle.cwl_formed.proofs.Processes.{AreClear, Forms, IsClear, StepForms, flow_kept, step_kept}
 use Rattle.cwl_formed.proofs.Slashes.{if_lacks, name_lacks, output_lacks, scatter_lacks}

@@ -26,7 +26,7 @@ use Rattle.cwl_laws.proofs.Elements.{map_has}
 use Rattle.cwl_laws.proofs.Tools.{both_empty, rule_holds, rules_of, task_inputs}
 use Rattle.cwl_laws.proofs.Uses.{HasType}
 use Rattle.cwl_emit.specs.Formed.{codes_formed, input_formed, is_plain, lacks, preset_formed, tool_formed, tool_out_formed}
-use Rattle.cwl_emit.specs.Plain.{input_plain, piece_plain, preset_plain, tool_plain}
+use Rattle.cwl_formed.specs.Plain.{input_plain, piece_plain, preset_plain, tool_plain}
 use Rattle.cwl_formed.proofs.Ascending.{codes_kept}
 use Rattle.cwl_formed.proofs.Lists.{all_at, all_before, all_kept, first_or_rest, map_takes}
 use Rattle.cwl_formed.proofs.Pieces.{argument_joined}

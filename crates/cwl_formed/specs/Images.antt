@@ -8,7 +8,7 @@ use Rattle.cwl_image.specs.Subset.{in_subset}
 use Rattle.cwl_emit.specs.Formed.{is_formed}
 use Rattle.cwl_emit.specs.Reading.{cwl_of}
 use Rattle.cwl_emit.specs.Writing.{process_json}
-use Rattle.cwl_emit.specs.Plain.{texts_are_plain}
+use Rattle.cwl_formed.specs.Plain.{texts_are_plain}
 
 abbrev pub ImagesAreFormed : Type 0
 ImagesAreFormed =

@@ -15,7 +15,7 @@ use Rattle.cwl_image.specs.Image.{image}
 use Rattle.cwl_image.specs.Named.{names_are_names}
 use Rattle.cwl_image.specs.Subset as rules
 use Rattle.cwl_emit.specs.Objects.{object_text}
-use Rattle.cwl_emit.specs.Plain.{texts_are_plain}
+use Rattle.cwl_formed.specs.Plain.{texts_are_plain}
 use Rattle.cwl_emit.specs.Writing.{process_json}
 use Rattle.cwl_subset.specs.declared.subset.Subset.{Subset}
 use Rattle.workflow_cli.specs.declared.ended.Stop.{Stop}

@@ -1,6 +1,6 @@
 use Rattle.std.proofs.Common.{◌++◌, true, ap, ◌∙◌, sym, codes}
 use Rattle.serde_json.specs.Written.{compact_text}
-use Rattle.cwl_emit.specs.Plain.{texts_are_plain}
+use Rattle.cwl_formed.specs.Plain.{texts_are_plain}
 use Rattle.cwl_emit.specs.Writing.{process_json}
 use Rattle.workflow_cli.proofs.Excluded.{image_is}
 use Rattle.workflow_cli.proofs.cwl.document_text.Goals as goal

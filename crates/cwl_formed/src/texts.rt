@@ -3,7 +3,7 @@
 ghost use Rattle.std.specs.Prelude.{◌≡◌, true};
 ghost use Rattle.std.specs.List.{list_all};
 ghost use Rattle.cwl_emit.specs.Formed as formed;
-ghost use Rattle.cwl_emit.specs.Plain as spec;
+ghost use Rattle.cwl_formed.specs.Plain as spec;
 
 use cwl_model::{CwlIn, CwlStep, FlowOut, Link, Mode, Origin, Piece, Process, Tool, ToolOut, Wire};
 use wdl_base::Text;
