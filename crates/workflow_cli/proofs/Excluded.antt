@@ -21,7 +21,7 @@ use Rattle.workflow_cli.specs.declared.ended.Work.{Work}
 use Rattle.workflow_cli.specs.declared.ended.Work.TheVariants as work
 use Rattle.workflow_cli.specs.Documents.{HasMain, Tells}
 use Rattle.workflow_cli.specs.Stages.{IsPrepared}
-use Rattle.workflow_cli.specs.Translating.{document_text, DocumentStops, DocumentWork, GivesAll, IsInSubset, IsLowest, IsNamed, library_of, ObjectStops, ObjectWork, SubsetStops, TextWork, WritesDocument, WritesObject}
+use Rattle.workflow_cli.specs.Translating.{DocumentStops, DocumentWork, GivesAll, IsInSubset, IsLowest, IsNamed, library_of, ObjectStops, ObjectWork, Says, SubsetStops, TextWork, WritesDocument, WritesObject}
 
 none_of : {A : Type 0} (P : A → Type 0) → Any P [] → ⊥
 none_of P h = omega (arith, h.2)
@@ -49,12 +49,12 @@ image_is c p h number m = let e = sym (ap (draft.image_of (draft.library_of c)) 
 -- ---- the document
 
 pub document_work : (c : Checked) (all : List (List ℕ)) (s : Subset) (r : Result (List ℕ) NoMemory) (w : Work) → s.checked ≡ c
-    → IfOk r (λ t. (number : ℕ) → s.checked.main ≡ Some number → t ≡ document_text s.checked number) → TextWork r w → DocumentWork c all w
+    → IfOk r (λ t. (number : ℕ) → s.checked.main ≡ Some number → Says s.checked number t) → TextWork r w → DocumentWork c all w
 document_work c all s (Ok t) w e h k =
     subst (DocumentWork c all) (sym k)
     (λ number m.
     let k = subset_holds s c e number m in
-    (k.0, k.1, h number (ap (λ (x : Checked). x.main) e ∙ m) ∙ ap (λ (x : Checked). document_text x number) e))
+    (k.0, k.1, subst (λ (x : Checked). Says x number t) e (h number (ap (λ (x : Checked). x.main) e ∙ m))))
 document_work c all s (Err x) (work.Stop stop) e h k = subst (λ st. SubsetStops c all st stop.paths) (sym k) tt
 document_work c all s (Err x) (work.Text text) e h k = absurd k
 

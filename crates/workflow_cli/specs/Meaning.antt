@@ -1,17 +1,33 @@
 -- What the documents mean that are written.
-use Rattle.std.specs.Prelude.{◌≡◌, ℕ, true, List, [], Option}
+use Rattle.std.specs.Prelude.{◌≡◌, ℕ, true, List, [], ◌++◌, Option, Some, codes}
+use Rattle.serde_json.specs.Data.{Data}
+use Rattle.serde_json.specs.Written.{compact_text}
 use Rattle.wdl_value.specs.declared.env.Bind.{Bind}
 use Rattle.wdl_value.specs.Tables.{Row}
 use Rattle.wdl_typed.specs.declared.checked.Checked.{Checked}
 use Rattle.wdl_typed.specs.declared.flow.FlowDef.{FlowDef}
 use Rattle.wdl_typed.specs.Flow.{whole}
 use Rattle.wdl_typed.specs.Journal.{inputs_fit}
+use Rattle.cwl_model.specs.declared.process.Process.{Process}
 use Rattle.cwl_model.specs.Means.{means}
 use Rattle.cwl_image.specs.Image.{image}
+use Rattle.cwl_emit.specs.Reading.{cwl_of}
 use Rattle.cwl_laws.specs.Simulation.{IsMeant, object_of}
 use Rattle.cwl_laws.specs.Tools.{AreStatuses}
 use Rattle.workflow_cli.specs.Documents.{Tells}
 use Rattle.workflow_cli.specs.Translating.{IsDocumentOf, IsObjectOf, library_of}
+
+-- the text of a JSON value that reads as the process, and a newline
+pub record IsProcessText (p : Process) (text : List ℕ) : Type 0 where
+  pub json : Data
+  pub reads : cwl_of true json ≡ Some p
+  pub says : text ≡ compact_text json ++ codes "\n"
+
+-- What is written reads as the process.
+abbrev pub DocumentsRead : Type 0
+DocumentsRead =
+    (tells : Tells) (file text : List ℕ) (d : IsDocumentOf tells file text)
+    → IsProcessText (image (library_of d.checked) d.number) text
 
 -- The flow of the main workflow for these inputs is as the meaning of its process, with the object of the inputs.
 abbrev pub MeansFlow : Checked → ℕ → FlowDef → List Bind → List ℕ → List Row → Type 0

@@ -15,6 +15,7 @@ use Rattle.cwl_image.specs.Image.{image}
 use Rattle.cwl_image.specs.Named.{names_are_names}
 use Rattle.cwl_image.specs.Subset as rules
 use Rattle.cwl_emit.specs.Objects.{object_text}
+use Rattle.cwl_formed.specs.Plain.{texts_are_plain}
 use Rattle.cwl_emit.specs.Writing.{process_json}
 use Rattle.cwl_subset.specs.declared.subset.Subset.{Subset}
 use Rattle.workflow_cli.specs.declared.ended.Stop.{Stop}
@@ -50,6 +51,11 @@ pub record IsLowest (c : Checked) (number rule : ℕ) (span : Span) : Type 0 whe
 abbrev pub document_text : Checked → ℕ → List ℕ
 document_text c number = compact_text (process_json (image (library_of c) number) true) ++ codes "\n"
 
+-- the text of the document, of a process whose texts hold no NUL
+pub record Says (c : Checked) (number : ℕ) (text : List ℕ) : Type 0 where
+  pub plain : texts_are_plain (image (library_of c) number) ≡ true
+  pub written : text ≡ document_text c number
+
 -- the text of the inputs, where they are named, gives these inputs
 abbrev pub GivesAll : Tells → Option (List ℕ) → Checked → FlowDef → Type 0
 GivesAll tells None c f = ⊤
@@ -67,7 +73,7 @@ pub record IsDocumentOf (tells : Tells) (file text : List ℕ) : Type 0 where
   pub source : HasMain tells file checked number flow paths
   pub in_subset : IsInSubset checked number
   pub named : IsNamed checked
-  pub says : text ≡ document_text checked number
+  pub says : Says checked number text
 
 -- the CWL input object of the inputs that a text gives, and a newline
 pub record IsObjectOf (tells : Tells) (file : List ℕ) (inputs : Option (List ℕ)) (text : List ℕ) : Type 0 where
@@ -145,7 +151,7 @@ TextWork (Err e) (work.Stop stop) = stop.status ≡ status.NoMemory
 TextWork (Err e) (work.Text text) = ⊥
 
 abbrev pub DocumentWork : Checked → List (List ℕ) → Work → Type 0
-DocumentWork c all (work.Text text) = (number : ℕ) → c.main ≡ Some number → IsInSubset c number × IsNamed c × (text ≡ document_text c number)
+DocumentWork c all (work.Text text) = (number : ℕ) → c.main ≡ Some number → IsInSubset c number × IsNamed c × Says c number text
 DocumentWork c all (work.Stop stop) = SubsetStops c all stop.status stop.paths
 
 abbrev pub ObjectWork : Checked → List (List ℕ) → List Bind → Work → Type 0

@@ -12,6 +12,7 @@ use crate::ended::{Stop, Work};
 use crate::prepare::{Prepared, main_of, start_of};
 use cwl_emit::{object_text, process_text};
 use cwl_flow::translate;
+use cwl_formed::see_texts;
 use cwl_subset::{Subset, SubsetFault, in_subset};
 use report_text::Status;
 use std::alloc::Global;
@@ -59,9 +60,10 @@ fn subset_of(alloc: Global, checked: Checked, paths: Items<Text>) -> Result<Subs
 
 /// The text of the CWL document, and a newline.
 fn document_text(alloc: Global, subset: &Subset) -> Result<Text, NoMemory>
-    ensures value { IfOk result (λ t. (number : ℕ) → subset.now.checked.main ≡ Some number → t ≡ spec.document_text subset.now.checked number) }
+    ensures value { IfOk result (λ t. (number : ℕ) → subset.now.checked.main ≡ Some number → spec.Says subset.now.checked number t) }
 {
     let process = translate(alloc, subset)?;
+    see_texts(&process);
     let mut text = process_text(alloc, &process)?;
     text.push_ascii(b'\n')?;
     Ok(text)

@@ -1,0 +1,9 @@
+mod Lists
+mod Presets
+mod Pieces
+mod Ascending
+mod Slashes
+mod Processes
+mod Sources
+mod Tools
+pub mod Whole
