@@ -1,15 +1,13 @@
 -- The argument of a tool is made of joined pieces.
-use Rattle.std.proofs.Common.{◌≡◌, ℕ, ◌==◌, Bool, true, false, cond, not, ◌&&◌, ◌||◌, List, [], ◌∷◌, ◌++◌, map, Option, Some, None, sym, ap, ◌∙◌, subst, refl}
+use Rattle.std.proofs.Common.{◌≡◌, ℕ, ◌==◌, Bool, true, false, cond, not, ◌&&◌, ◌||◌, List, [], ◌∷◌, ◌++◌, map, Option, Some, None, sym, ap, ◌∙◌, refl}
 use Rattle.std.proofs.lemmas.Bool.{false≢true, and_from, and_parts, or_from, or_parts}
 use Rattle.std.specs.List.{list_all}
-use Rattle.std.specs.Str.{bytes_eq}
 use Rattle.wdl_base.specs.declared.name.Key.{Key}
 use Rattle.wdl_base.specs.Names.{is_name}
 use Rattle.wdl_base.specs.Plain.{has_nul}
 use Rattle.wdl_value.specs.declared.ty.Ty.{Ty}
 use Rattle.wdl_value.specs.Fits.{Structs}
 use Rattle.wdl_typed.specs.declared.expr.TExpr.{TExpr}
-use Rattle.wdl_typed.specs.declared.expr.THole.{THole}
 use Rattle.wdl_typed.specs.declared.expr.TPart.{TPart}
 use Rattle.wdl_typed.specs.declared.expr.TPart.TheVariants as part
 use Rattle.wdl_typed.specs.declared.scope.Bound.{Bound}
@@ -18,7 +16,7 @@ use Rattle.cwl_model.specs.declared.tool.CwlIn.{CwlIn}
 use Rattle.cwl_model.specs.declared.tool.Piece.{Piece}
 use Rattle.cwl_model.specs.declared.tool.Piece.TheVariants as piece
 use Rattle.cwl_model.specs.declared.ty.CwlTy.{CwlTy, out-CwlTy}
-use Rattle.cwl_model.specs.Fields.{are_pieces, are_plain, begins_with, begins_with_chars, is_chars, is_empty, is_piece, is_refused, opens}
+use Rattle.cwl_model.specs.Fields.{are_pieces, are_plain, begins_with, begins_with_chars, is_piece, is_refused, opens}
 use Rattle.cwl_image.specs.Expressions.{are_allowed}
 use Rattle.cwl_image.specs.Image.{argument, chars_before, hole_by, hole_piece, is_file, reference, type_at}
 use Rattle.cwl_image.specs.Subset.{are_input_holes, command_marks, is_input_hole, is_plain_choice, is_scalar_name, is_verbatim, opens as marks_open, some_scalar}

@@ -1,5 +1,5 @@
 -- Processes that are formed where their texts are plain.
-use Rattle.std.proofs.Common.{◌≡◌, ◌⊎◌, inl, inr, Bool, true, false, cond, ◌&&◌, List, [], ◌∷◌, map, Option, Some, None, Contains, sym, ap, ◌∙◌, subst, refl}
+use Rattle.std.proofs.Common.{◌≡◌, Bool, true, false, cond, ◌&&◌, List, [], ◌∷◌, map, Option, Some, None, Contains, sym, ap, ◌∙◌, subst, refl}
 use Rattle.std.proofs.lemmas.Bool.{and_from, and_parts}
 use Rattle.std.specs.List.{list_all}
 use Rattle.wdl_base.specs.declared.name.Key.{Key}
@@ -13,7 +13,7 @@ use Rattle.cwl_model.specs.declared.process.Process.TheVariants as process
 use Rattle.cwl_model.specs.declared.process.Wire.{Wire}
 use Rattle.cwl_model.specs.declared.tool.CwlIn.{CwlIn}
 use Rattle.cwl_model.specs.declared.tool.Tool.{Tool}
-use Rattle.cwl_model.proofs.Rounds.{first_is, first_or_later, later_is, none_is}
+use Rattle.cwl_model.proofs.Rounds.{first_is, later_is, none_is}
 use Rattle.cwl_image.specs.Image.{Draft, Linkage, Scope, empty, flow_process, link_of, link_or, linkage_at, step_of}
 use Rattle.cwl_laws.specs.Premises.{WiresBy}
 use Rattle.cwl_emit.specs.Formed.{flow_out_formed, input_formed, is_formed, is_plain, lacks, link_formed, mode_formed, process_formed_at, step_formed, tool_formed, wire_formed}

@@ -1,5 +1,5 @@
 -- The inputs of processes, and the tools of tasks.
-use Rattle.std.proofs.Common.{◌≡◌, ℕ, Bool, true, false, cond, not, ◌&&◌, List, [], ◌∷◌, ◌++◌, map, Option, Some, None, Contains, sym, ap, ◌∙◌, subst, refl}
+use Rattle.std.proofs.Common.{◌≡◌, Bool, true, false, cond, not, ◌&&◌, List, [], ◌∷◌, ◌++◌, map, Option, Some, None, Contains, subst, refl}
 use Rattle.std.proofs.lemmas.Bool.{and_from, and_parts}
 use Rattle.std.specs.List.{list_all, list_any}
 use Rattle.wdl_base.specs.declared.name.Key.{Key}
@@ -16,17 +16,16 @@ use Rattle.wdl_typed.specs.Scope.{same_key, type_in}
 use Rattle.cwl_model.specs.declared.tool.CwlIn.{CwlIn}
 use Rattle.cwl_model.specs.Fields.{are_pieces}
 use Rattle.cwl_model.proofs.Rounds.{first_is, later_is, none_is}
-use Rattle.cwl_image.specs.Expressions.{are_allowed, default_allowed, is_simple, literal_of, takes_default}
+use Rattle.cwl_image.specs.Expressions.{default_allowed, is_simple, literal_of, takes_default}
 use Rattle.cwl_image.specs.Image.{Linkage, argument, codes_of, cwl_in, id_of, input_linkage, literal, preset_of, tool_of, tool_out}
 use Rattle.cwl_image.specs.Named.{are_names, task_named}
-use Rattle.cwl_image.specs.Subset.{are_codes, are_input_holes, command_marks, each_broken, input_broken, is_command, is_dark, is_default, is_verbatim, run_allowed, run_broken, task_broken, task_scope, unless}
+use Rattle.cwl_image.specs.Subset.{are_codes, are_input_holes, command_marks, each_broken, input_broken, is_command, is_dark, is_default, is_verbatim, run_allowed, task_broken, task_scope, unless}
 use Rattle.cwl_laws.specs.Premises.{AreInputs, IsPreset}
 use Rattle.cwl_laws.proofs.Bodies.{key_same}
 use Rattle.cwl_laws.proofs.Elements.{map_has}
 use Rattle.cwl_laws.proofs.Tools.{both_empty, rule_holds, rules_of, task_inputs}
-use Rattle.cwl_laws.proofs.Uses.{HasType}
-use Rattle.cwl_emit.specs.Formed.{codes_formed, input_formed, is_plain, lacks, preset_formed, tool_formed, tool_out_formed}
-use Rattle.cwl_formed.specs.Plain.{input_plain, piece_plain, preset_plain, tool_plain}
+use Rattle.cwl_emit.specs.Formed.{codes_formed, input_formed, is_plain, lacks, preset_formed, tool_out_formed}
+use Rattle.cwl_formed.specs.Plain.{input_plain, piece_plain, preset_plain}
 use Rattle.cwl_formed.proofs.Ascending.{codes_kept}
 use Rattle.cwl_formed.proofs.Lists.{all_at, all_before, all_kept, first_or_rest, map_takes}
 use Rattle.cwl_formed.proofs.Pieces.{argument_joined}

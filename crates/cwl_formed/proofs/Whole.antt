@@ -1,5 +1,5 @@
 -- The process of a checked form of the subset is formed, where its texts are plain.
-use Rattle.std.proofs.Common.{◌≡◌, ℕ, zero, suc, true, ◌&&◌, List, [], ◌∷◌, ◌++◌, map, Option, Some, None, Contains, sym, ap, ◌∙◌, subst, refl}
+use Rattle.std.proofs.Common.{◌≡◌, ℕ, zero, suc, true, ◌&&◌, List, [], ◌∷◌, ◌++◌, map, Option, Some, None, subst, refl}
 use Rattle.std.proofs.lemmas.Bool.{false≢true, and_parts}
 use Rattle.std.specs.List.{list_all, slice_get}
 use Rattle.wdl_base.specs.Names.{is_name}
@@ -10,21 +10,21 @@ use Rattle.wdl_typed.specs.declared.task.TDecl.{TDecl}
 use Rattle.wdl_typed.specs.declared.task.TaskDef.{TaskDef}
 use Rattle.wdl_typed.specs.Bodies.{Library, Signature, flow_signature, signature, task_signature}
 use Rattle.wdl_typed.specs.Declarations.{decl_names, input_names, inputs_bound, task_typed}
-use Rattle.wdl_typed.specs.Kept.{flow_typed, inputs_seen, is_checked}
+use Rattle.wdl_typed.specs.Kept.{flow_typed, inputs_seen}
 use Rattle.wdl_plain.proofs.FlowSound.{is_typed}
 use Rattle.wdl_plain.proofs.GivenKeys.{some_inside}
 use Rattle.flow_laws.proofs.Checked.{IsKept, each_passes, kept as kept_by}
 use Rattle.cwl_model.specs.declared.process.FlowOut.{FlowOut}
 use Rattle.cwl_image.specs.declared.broken.Broken.{Broken}
-use Rattle.cwl_image.specs.Image.{Linkage, Scope, Targets, body_links, body_steps, cwl_in, draft, empty, flow_at as flow_process_at, flow_image, flow_of, flow_out, image, input_linkage, reference, target_by, task_process}
-use Rattle.cwl_image.specs.Named.{are_names, body_named, flow_named, names_are_names, task_named}
-use Rattle.cwl_image.specs.Subset.{broken_in, called_broken, declared_by, flow_at, flow_broken, in_subset, is_empty, reached, target_broken, task_at}
+use Rattle.cwl_image.specs.Image.{Linkage, body_links, body_steps, cwl_in, draft, flow_at as flow_process_at, flow_image, flow_of, flow_out, input_linkage, reference, target_by, task_process}
+use Rattle.cwl_image.specs.Named.{are_names, body_named, flow_named, task_named}
+use Rattle.cwl_image.specs.Subset.{broken_in, called_broken, declared_by, flow_at, flow_broken, is_empty, reached, target_broken, task_at}
 use Rattle.cwl_laws.proofs.Elements.{map_has}
 use Rattle.cwl_laws.proofs.Flows.{flow_rules}
 use Rattle.cwl_laws.proofs.Tools.{both_empty, inputs_are}
 use Rattle.cwl_formed.specs.Images.{ImagesAreFormed}
 use Rattle.cwl_formed.proofs.Lists.{all_behind, either_side}
-use Rattle.cwl_formed.proofs.Processes.{AreClear, Forms, IsClear, empty_kept, flow_kept, output_clear}
+use Rattle.cwl_formed.proofs.Processes.{Forms, IsClear, empty_kept, flow_kept, output_clear}
 use Rattle.cwl_formed.proofs.Sources.{body_is_fine}
 use Rattle.cwl_formed.proofs.Tools.{inputs_clear, inputs_kept, inputs_slashless, task_kept}
 
