@@ -1,4 +1,4 @@
-ghost use Rattle.std.specs.Prelude.{◌≡◌, ◌↔◌, ℕ, List, Option, Bool, IfOk, IsErrOf};
+ghost use Rattle.std.specs.Prelude.{◌≡◌, ◌↔◌, ℕ, List, Option, Bool, IfOk, IsErrOf, OnOk};
 ghost use Rattle.wdl_port.specs.Causes.{HasCauseOf};
 ghost use Rattle.wdl_port.specs.Files.{IsFile};
 ghost use Rattle.wdl_port.specs.declared.fault.ReadFault.TheVariants as read;
@@ -24,6 +24,7 @@ pub trait Shelf {
         ensures bytes { IfOk result (IsFile (tells self.old path.now)) }
         ensures refused { IsErrOf result ReadFault.Failed → refuses self.old path.now }
         ensures cause { HasCauseOf (faults self.old) (faults self.new) result ReadFault.Failed }
+        ensures counted { OnOk result (faults self.new ≡ faults self.old) }
         ensures same_files { (p : List ℕ) → tells self.new p ≡ tells self.old p }
         ensures same_refusals { (p : List ℕ) → refuses self.new p ↔ refuses self.old p };
 }

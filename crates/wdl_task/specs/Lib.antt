@@ -3,6 +3,5 @@ pub mod Counts
 pub mod Members
 pub mod Readiness
 pub mod Soundness
-pub mod Statuses
 pub mod Tells
 pub mod Views

@@ -12,7 +12,7 @@ use Rattle.wdl_task.specs.declared.fault.CallFault.{CallFault}
 use Rattle.wdl_task.specs.declared.request.Prepared.{Prepared}
 use Rattle.wdl_task.specs.declared.privates.Made.{Made}
 use Rattle.wdl_task.specs.declared.writes.Laying.{Laying}
-use Rattle.wdl_task.specs.Statuses.{successes_of}
+use Rattle.wdl_typed.specs.Statuses.{successes_of}
 use Rattle.wdl_task.specs.Tells.{Fails}
 
 abbrev pub laying_of : Laying → spec.Laying

@@ -6,16 +6,15 @@ ghost use Rattle.wdl_stdlib.specs.Gives.{Gives};
 ghost use Rattle.wdl_typed.specs.Requests as spec;
 ghost use Rattle.wdl_task.specs.Counts.{codes_count, default_count};
 ghost use Rattle.wdl_task.specs.Readiness.{AreCodesReady, IsDefaultReady};
-ghost use Rattle.wdl_task.specs.Statuses.{successes_of};
+ghost use Rattle.wdl_typed.specs.Statuses.{successes_of};
 ghost use Rattle.wdl_task.specs.Views.{GivesAs};
 
-use crate::success::Success;
 use crate::valued::value_before;
 use std::alloc::Global;
 use std::sync::ledger::Ledger;
 use wdl_eval::EvalFault;
 use wdl_stdlib::items_in;
-use wdl_typed::{TCodes, TExpr};
+use wdl_typed::{Success, TCodes, TExpr};
 use wdl_value::{Env, EvalCode, Items, NoMemory, Steps, Value};
 
 /// The most that `maxRetries` may be.

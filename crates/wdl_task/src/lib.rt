@@ -11,7 +11,6 @@ mod landing;
 mod laws;
 mod privates;
 mod request;
-mod success;
 mod valued;
 mod writes;
 
@@ -19,4 +18,4 @@ pub use conclusion::conclude;
 pub use fault::CallFault;
 pub use laws::{asked_fit, told_fit};
 pub use request::{Prepared, prepare, retry};
-pub use success::Success;
+pub use wdl_typed::Success;

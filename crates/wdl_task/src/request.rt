@@ -13,10 +13,9 @@ use crate::command::{Filled, command_of};
 use crate::fault::{CallFault, named};
 use crate::inputs::with_inputs;
 use crate::privates::{Made, with_privates};
-use crate::success::Success;
 use std::alloc::Global;
 use std::sync::ledger::Ledger;
-use wdl_typed::TaskDef;
+use wdl_typed::{Success, TaskDef};
 use wdl_value::{Env, Items, NoMemory, Place, Request, Steps, Text, copy_place, place_text};
 
 /// A request, with what its answer is told by: the values of the inputs and the private declarations, the statuses of

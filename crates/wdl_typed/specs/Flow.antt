@@ -32,7 +32,7 @@ use Rattle.wdl_typed.specs.Bodies.{Library, Signature, signature}
 use Rattle.wdl_typed.specs.Declarations.{plain_key}
 use Rattle.wdl_typed.specs.Evaluation.{value_of}
 use Rattle.wdl_typed.specs.KnownTypes.{is_some}
-use Rattle.wdl_typed.specs.Requests.{Asked, Failing, Tried, asks, bad_status, before, is_success, job_dir, request, tells, tried}
+use Rattle.wdl_typed.specs.Requests.{Asked, Failing, Successes, Tried, asks, bad_status, before, is_success, job_dir, request, tells, tried}
 use Rattle.wdl_typed.specs.Scope.{lookup, names_of}
 
 -- ---- what is known
@@ -67,18 +67,19 @@ abbrev pub has_ended : List Ended → List ℕ → Bool
 has_ended [] name = false
 has_ended (c ∷ cs) name = if bytes_eq c.call name then c.ended else has_ended cs name
 
--- what the statements of a body give: names, calls, requests, faults, the places that wait for an answer, and how many
--- instances of statements were entered
+-- what the statements of a body give: names, calls, requests, the statuses of success of each request, faults, the places that wait
+-- for an answer, and how many instances of statements were entered
 pub record Flowing : Type 0 where
   pub names : List Known
   pub calls : List Ended
   pub jobs : List Request
+  pub codes : List Successes
   pub faults : List Fault
   pub waits : List (List Segment)
   pub count : ℕ
 
 abbrev pub nothing : Flowing
-nothing = record { names = []; calls = []; jobs = []; faults = []; waits = []; count = 0 }
+nothing = record { names = []; calls = []; jobs = []; codes = []; faults = []; waits = []; count = 0 }
 
 abbrev pub together : Flowing → Flowing → Flowing
 together f g =
@@ -86,6 +87,7 @@ together f g =
       names = f.names ++ g.names;
       calls = f.calls ++ g.calls;
       jobs = f.jobs ++ g.jobs;
+      codes = f.codes ++ g.codes;
       faults = f.faults ++ g.faults;
       waits = f.waits ++ g.waits;
       count = f.count + g.count;
@@ -134,7 +136,7 @@ each_call b [] = []
 each_call b (c ∷ cs) = record { call = c; ended = b } ∷ each_call b cs
 
 abbrev pub giving : Option Value → Bool → Names → Flowing
-giving x b n = record { names = each_key x n.keys; calls = each_call b n.calls; jobs = []; faults = []; waits = []; count = 0 }
+giving x b n = record { names = each_key x n.keys; calls = each_call b n.calls; jobs = []; codes = []; faults = []; waits = []; count = 0 }
 
 abbrev pub missing : Names → Flowing
 missing = giving None false
@@ -149,11 +151,11 @@ failing_at place f = record { place = place; name = f.name; why = f.why }
 
 abbrev pub with_fault : Fault → Flowing → Flowing
 with_fault fault f =
-    record { names = f.names; calls = f.calls; jobs = f.jobs; faults = fault ∷ f.faults; waits = f.waits; count = f.count }
+    record { names = f.names; calls = f.calls; jobs = f.jobs; codes = f.codes; faults = fault ∷ f.faults; waits = f.waits; count = f.count }
 
 abbrev pub with_count : ℕ → Flowing → Flowing
 with_count n f =
-    record { names = f.names; calls = f.calls; jobs = f.jobs; faults = f.faults; waits = f.waits; count = n + f.count }
+    record { names = f.names; calls = f.calls; jobs = f.jobs; codes = f.codes; faults = f.faults; waits = f.waits; count = n + f.count }
 
 -- ---- declarations
 
@@ -161,7 +163,7 @@ abbrev pub known : List ℕ → Option Value → Known
 known name x = record { key = plain_key name; value = x }
 
 abbrev pub named : Known → Flowing
-named k = record { names = k ∷ []; calls = []; jobs = []; faults = []; waits = []; count = 0 }
+named k = record { names = k ∷ []; calls = []; jobs = []; codes = []; faults = []; waits = []; count = 0 }
 
 abbrev pub declared_as : List Segment → List ℕ → Outcome Value → Flowing
 declared_as place name (Ok x) = named (known name (Some x))
@@ -211,13 +213,14 @@ bound_output call b = record { key = record { first = call; second = Some b.key.
 
 abbrev pub ended_call : List ℕ → List Bind → Flowing
 ended_call call outs =
-    record { names = map (bound_output call) outs; calls = record { call = call; ended = true } ∷ []; jobs = []; faults = []; waits = []; count = 0 }
+    record { names = map (bound_output call) outs; calls = record { call = call; ended = true } ∷ []; jobs = []; codes = []; faults = []; waits = []; count = 0 }
 
-abbrev pub with_jobs : List Request → Flowing → Flowing
-with_jobs jobs f = record { names = f.names; calls = f.calls; jobs = jobs ++ f.jobs; faults = f.faults; waits = f.waits; count = f.count }
+abbrev pub with_jobs : List Request → List Successes → Flowing → Flowing
+with_jobs jobs successes f =
+    record { names = f.names; calls = f.calls; jobs = jobs ++ f.jobs; codes = successes ++ f.codes; faults = f.faults; waits = f.waits; count = f.count }
 
 abbrev pub waiting : List Segment → Flowing → Flowing
-waiting place f = record { names = f.names; calls = f.calls; jobs = f.jobs; faults = f.faults; waits = place ∷ f.waits; count = f.count }
+waiting place f = record { names = f.names; calls = f.calls; jobs = f.jobs; codes = f.codes; faults = f.faults; waits = place ∷ f.waits; count = f.count }
 
 abbrev pub concluded : Names → List Segment → List ℕ → Tried (List Bind) → Flowing
 concluded n place call (Ok outs) = ended_call call outs
@@ -233,9 +236,9 @@ attempted r n place t call a attempt last later (Some answer) =
 -- Attempts are taken one after the other; so many are left after this one.
 abbrev pub attempts : Run → Names → List Segment → TaskDef → List ℕ → Asked → ℕ → ℕ → Flowing
 attempts r n place t call a zero attempt =
-    with_jobs (request r.site place attempt a ∷ []) (attempted r n place t call a attempt true (missing n) (answer_at r.table place attempt))
+    with_jobs (request r.site place attempt a ∷ []) (a.codes ∷ []) (attempted r n place t call a attempt true (missing n) (answer_at r.table place attempt))
 attempts r n place t call a (suc left) attempt =
-    with_jobs (request r.site place attempt a ∷ [])
+    with_jobs (request r.site place attempt a ∷ []) (a.codes ∷ [])
     (attempted r n place t call a attempt false (attempts r n place t call a left (attempt + 1)) (answer_at r.table place attempt))
 
 abbrev pub asked : Run → Names → List Segment → TaskDef → List ℕ → Tried Asked → Flowing
@@ -265,6 +268,7 @@ flow_ended call outs f =
       names = map (output_of f.names call) outs;
       calls = record { call = call; ended = is_clean f } ∷ [];
       jobs = f.jobs;
+      codes = f.codes;
       faults = f.faults;
       waits = f.waits;
       count = f.count;
@@ -328,7 +332,7 @@ all_together [] = nothing
 all_together (f ∷ fs) = together f (all_together fs)
 
 abbrev pub with_names : Flowing → List Known → List Ended → Flowing
-with_names f names calls = record { names = names; calls = calls; jobs = f.jobs; faults = f.faults; waits = f.waits; count = f.count }
+with_names f names calls = record { names = names; calls = calls; jobs = f.jobs; codes = f.codes; faults = f.faults; waits = f.waits; count = f.count }
 
 abbrev pub gathered : Names → List Flowing → Flowing
 gathered n fs = with_names (all_together fs) (map (gathered_name fs) n.keys) (map (gathered_call fs) n.calls)

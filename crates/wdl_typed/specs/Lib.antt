@@ -9,4 +9,5 @@ pub mod Lists
 pub mod Order
 pub mod Requests
 pub mod Scope
+pub mod Statuses
 pub mod Typing

@@ -5,10 +5,12 @@ mod checked;
 mod expr;
 mod flow;
 mod scope;
+mod success;
 mod task;
 
 pub use checked::{Checked, CheckedParts};
 pub use expr::{Choice, TExpr, TField, THole, TPair, TPart};
 pub use flow::{FlowDef, Statement, TCall, TIf, TScatter, Target};
 pub use scope::Bound;
+pub use success::Success;
 pub use task::{TCodes, TDecl, TInput, TaskDef};

@@ -1,6 +1,6 @@
 ghost use Rattle.std.specs.Prelude.{◌≡◌, IfOk};
 ghost use Rattle.wdl_typed.specs.Requests as spec;
-ghost use Rattle.wdl_task.specs.Statuses.{successes_of};
+ghost use Rattle.wdl_typed.specs.Statuses.{successes_of};
 
 use std::alloc::Global;
 use wdl_value::{Items, NoMemory};
