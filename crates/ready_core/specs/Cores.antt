@@ -1,0 +1,112 @@
+-- What contracts see of a core, and its two transitions.
+use Rattle.std.specs.Prelude.{◌≡◌, ℕ, ◌+◌, ◌<◌, ◌≤◌, Bool, true, false, not, ◌&&◌, ◌||◌, ◌==◌, List, [], ◌∷◌, ◌++◌, Contains, count_by, length, map, Option}
+use Rattle.std.specs.List.{list_all, list_any}
+use Rattle.wdl_base.specs.declared.entry.Entry.{Entry}
+use Rattle.wdl_base.specs.declared.place.Segment.{Segment}
+use Rattle.wdl_base.specs.declared.request.Request.{Request}
+use Rattle.wdl_base.specs.declared.step.Step.{Step}
+use Rattle.wdl_base.specs.declared.step.Step.TheVariants.{Took, Settled}
+use Rattle.wdl_base.specs.Same.{same_place}
+use Rattle.wdl_value.specs.declared.env.Bind.{Bind}
+use Rattle.wdl_value.specs.Tables.{has_row, table}
+use Rattle.wdl_typed.specs.declared.checked.Checked.{Checked}
+use Rattle.wdl_typed.specs.Flow.{Flowing, is_empty, too_many}
+use Rattle.wdl_typed.specs.Requests.{Successes}
+use Rattle.ready_core.specs.Flows.{flow_after, is_fed}
+use Rattle.ready_core.specs.Rows.{TakenJob}
+
+-- what a run is of: a checked form, the inputs of its main workflow, and the directory below which each job has its own
+pub record Origin : Type 0 where
+  pub checked : Checked
+  pub inputs : List Bind
+  pub site : List ℕ
+
+-- the flow of the main workflow over a journal
+abbrev pub flow_at : Origin → List Entry → Flowing
+flow_at o journal = flow_after o.checked o.inputs o.site journal
+
+abbrev pub fed_at : Origin → List Entry → Bool
+fed_at o journal = is_fed o.checked o.inputs o.site journal
+
+-- ---- jobs of a flow
+
+abbrev pub paired : List Request → List Successes → List TakenJob
+paired [] cs = []
+paired (r ∷ rs) [] = []
+paired (r ∷ rs) (c ∷ cs) = record { request = r; codes = c } ∷ paired rs cs
+
+-- the jobs of a flow, each with its statuses of success
+abbrev pub jobs_of : Flowing → List TakenJob
+jobs_of f = paired f.jobs f.codes
+
+abbrev pub has_fault : Flowing → Bool
+has_fault f = not (is_empty f.faults)
+
+-- the place and the attempt of the request were taken
+abbrev pub is_taken : List TakenJob → Request → Bool
+is_taken taken r = list_any (λ (j : TakenJob). same_place j.request.place r.place && j.request.attempt == r.attempt) taken
+
+abbrev pub all_taken : Flowing → List TakenJob → Bool
+all_taken f taken = list_all (is_taken taken) f.jobs
+
+-- nothing more is to be taken
+abbrev pub idle : Flowing → List TakenJob → Bool
+idle f taken = has_fault f || (too_many f || all_taken f taken)
+
+-- a job of the flow whose place and attempt were not taken
+abbrev pub MayTake : Flowing → List TakenJob → TakenJob → Type 0
+MayTake f taken j = Contains (jobs_of f) j × (is_taken taken j.request ≡ false)
+
+-- ---- what is out
+
+-- how often a place was taken
+abbrev pub takings : List Segment → List TakenJob → ℕ
+takings p js = count_by (λ (j : TakenJob). same_place j.request.place p) js
+
+-- how often a place was settled
+abbrev pub settlings : List Segment → List Entry → ℕ
+settlings p es = count_by (λ (e : Entry). same_place e.request.place p) es
+
+-- the place was taken more often than settled
+abbrev pub WasOut : List Entry → List TakenJob → Request → Type 0
+WasOut es js r = settlings r.place es < takings r.place js
+
+abbrev pub requests : List TakenJob → List Request
+requests = map (λ (j : TakenJob). j.request)
+
+-- ---- the core
+
+pub record CoreState : Type 0 where
+  pub origin : Origin
+  pub journal : List Entry
+  pub taken : List TakenJob
+  pub out : List TakenJob
+  pub steps : List Step
+
+abbrev pub started : Origin → CoreState
+started o = record { origin = o; journal = []; taken = []; out = []; steps = [] }
+
+-- the flow over the journal
+abbrev pub flow_of : CoreState → Flowing
+flow_of s = flow_at s.origin s.journal
+
+abbrev pub idle_at : CoreState → Bool
+idle_at s = idle (flow_of s) s.taken
+
+-- one take that gave a job
+pub record Takes (s : CoreState) (j : TakenJob) (t : CoreState) : Type 0 where
+  pub busy : idle_at s ≡ false
+  pub may : MayTake (flow_of s) s.taken j
+  pub few : length t.taken ≤ 20000
+  pub origin : t.origin ≡ s.origin
+  pub after : t ≡ record s { taken = s.taken ++ j ∷ []; out = s.out ++ j ∷ []; steps = s.steps ++ Took j.request.place ∷ [] }
+
+-- one settle: the request was out, its place and attempt had no entry, and the journal stays fed
+pub record Settles (s : CoreState) (e : Entry) (t : CoreState) : Type 0 where
+  pub was_out : WasOut s.journal s.taken e.request
+  pub held : Contains (requests s.out) e.request
+  pub fresh : has_row (table s.journal) e.request.place e.request.attempt ≡ false
+  pub fed : fed_at t.origin t.journal ≡ true
+  pub out : length t.out + 1 ≡ length s.out
+  pub origin : t.origin ≡ s.origin
+  pub after : t ≡ record s { journal = s.journal ++ e ∷ []; out = t.out; steps = s.steps ++ Settled e.request.place ∷ [] }
