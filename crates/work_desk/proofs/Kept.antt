@@ -416,7 +416,7 @@ went_started gives o s k other =
           journal = λ whole x at. absurd (none_within x at);
         }
 
-none_other : {A : Type 0} {x : A} → None ≡ Some x → ⊥
+pub none_other : {A : Type 0} {x : A} → None ≡ Some x → ⊥
 none_other e = true≢false (ap is_none e)
 
 pub hold_started : (gives : Request → Answer → Type 0) (rows : List Entry) (k : KeeperView) (o : Origin) (s : Option Stop) → IsReady rows k → ArePlaced rows → Judges (started o) None s

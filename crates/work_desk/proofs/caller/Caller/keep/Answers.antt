@@ -5,7 +5,7 @@ use Rattle.wdl_base.specs.PlaceReading.{IsPlace}
 use Rattle.wdl_port.specs.Rows.{with_entry}
 use Rattle.work_desk.specs.declared.stop.Stop.{Stop}
 use Rattle.work_desk.specs.declared.stop.Stop.TheVariants.{Keep, NoMemory}
-use Rattle.work_desk.specs.Keeping.{Holding}
+use Rattle.work_desk.specs.Keeping.{Holding, keeper_view}
 use Rattle.work_desk.specs.Settling.{Settling}
 use Rattle.work_desk.specs.Stops.{halted}
 use Rattle.work_desk.proofs.Kept.{halted_keeps, held_parts, hold_answered, hold_failed, hold_left}
@@ -42,8 +42,10 @@ returns-in-Err-NoMemory-clause-run g c =
 
 pub returns-in-Err-NoMemory-clause-holds : goal.returns-in-Err-NoMemory-clause-holds
 returns-in-Err-NoMemory-clause-holds g c =
+    let k = g.K.Keeper in
     let self = c.args.self.now in
     let stays = halted_keeps self.stop in
-    λ begin h. subst (λ (s : Option Stop). Holding g.P.Pact.gives c.args.rows.now begin self.core s _) (sym c.halt-in-Err-NoMemory.ensures.halted)
-    (hold_left g.P.Pact.gives c.args.rows.now begin self.core self.stop (halted self.stop NoMemory) _ _ h c.put.ensures.path c.put.ensures.cause.later c.in-Err-NoMemory.ensures.left
+    let keeper = keeper_view (k.kept c.put.new.self) (k.path c.put.new.self) (k.faults c.put.new.self) in
+    λ begin h. subst (λ (s : Option Stop). Holding g.P.Pact.gives c.args.rows.now begin self.core s keeper) (sym c.halt-in-Err-NoMemory.ensures.halted)
+    (hold_left g.P.Pact.gives c.args.rows.now begin self.core self.stop (halted self.stop NoMemory) _ keeper h c.put.ensures.path c.put.ensures.cause.later c.in-Err-NoMemory.ensures.left
     (λ e. inl (stays.keep e)) stays.stays)
