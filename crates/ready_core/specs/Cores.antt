@@ -102,6 +102,10 @@ pub record CoreState : Type 0 where
   pub out : List TakenJob
   pub steps : List Step
 
+-- what is out was taken, and no entry has its place and attempt
+unfoldable pub AreHeld : CoreState → Type 0
+AreHeld s = (r : Request) → Contains (requests s.out) r → Contains (requests s.taken) r × (has_row (table s.journal) r.place r.attempt ≡ false)
+
 abbrev pub started : Origin → CoreState
 started o = record { origin = o; journal = []; taken = []; out = []; steps = [] }
 

@@ -198,6 +198,7 @@ impl Core {
     pub fn out(&self) -> u32
         ensures out { result ≡ length self.now.out }
         ensures counted { length self.now.out + length self.now.journal ≡ length self.now.taken }
+        ensures held { spec.AreHeld self.now }
     {
         self.log.out.len() as u32
     }
