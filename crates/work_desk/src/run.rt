@@ -98,7 +98,6 @@ fn conduct<P: Pact, L: Launcher, K: Keeper, S: Ledger, R: Wait>(
 /// Starts the workers, and conducts the run.
 fn in_threads<
     'k,
-    's,
     P: Pact + Send + Sync,
     L: Launcher + Sync,
     K: Keeper,
@@ -114,7 +113,7 @@ fn in_threads<
     workers: u32,
     core: Core,
     shares: Shares<P>,
-    steps: &'s mut Steps<S>,
+    steps: &mut Steps<S>,
 ) -> Ran
     requires core { core ≡ started core.origin }
     requires shares { shares ≡ held 0 0 }
@@ -127,10 +126,10 @@ fn in_threads<
     ensures origin { result.core.origin ≡ core.origin }
     ensures keeper { Went (L.gives launcher.now) result.core result.stop (keeper_view (K.kept keeper.old) (K.path keeper.old) (K.faults keeper.old)) (keeper_view (K.kept keeper.new) (K.path keeper.new) (K.faults keeper.new)) }
 {
-    let (ran, _keeper, _steps) = thread::scope(
+    let (ran, _keeper) = thread::scope(
         thread::scope_env(),
         rt,
-        move |scope| -> (Ran, &mut K, &mut Steps<S>)
+        move |scope| -> (Ran, &mut K)
             requires { (core ≡ started core.origin) × (shares ≡ held 0 0) × (workers ≡ P.workers) × (0 < workers)
                 × Tells (L.gives launcher.now) (L.refuses launcher.now) P.gives P.refuses
                 × Tells P.gives P.refuses (L.gives launcher.now) (L.refuses launcher.now)
@@ -158,9 +157,9 @@ fn in_threads<
                 &mut *keeper,
                 core,
                 shares,
-                &mut *steps,
+                steps,
             );
-            (ran, keeper, steps)
+            (ran, keeper)
         },
     );
     ran
