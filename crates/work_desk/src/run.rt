@@ -98,6 +98,7 @@ fn conduct<P: Pact, L: Launcher, K: Keeper, S: Ledger, R: Wait>(
 /// Starts the workers, and conducts the run.
 fn in_threads<
     'k,
+    's,
     P: Pact + Send + Sync,
     L: Launcher + Sync,
     K: Keeper,
@@ -113,7 +114,7 @@ fn in_threads<
     workers: u32,
     core: Core,
     shares: Shares<P>,
-    steps: &mut Steps<S>,
+    steps: &'s mut Steps<S>,
 ) -> Ran
     requires core { core ≡ started core.origin }
     requires shares { shares ≡ held 0 0 }
@@ -126,16 +127,16 @@ fn in_threads<
     ensures origin { result.core.origin ≡ core.origin }
     ensures keeper { Went (L.gives launcher.now) result.core result.stop (keeper_view (K.kept keeper.old) (K.path keeper.old) (K.faults keeper.old)) (keeper_view (K.kept keeper.new) (K.path keeper.new) (K.faults keeper.new)) }
 {
-    let (ran, _keeper) = thread::scope(
+    let (ran, _keeper, _steps) = thread::scope(
         thread::scope_env(),
         rt,
-        move |scope| -> (Ran, &mut K)
+        move |scope| -> (Ran, &mut K, &mut Steps<S>)
             requires { (core ≡ started core.origin) × (shares ≡ held 0 0) × (workers ≡ P.workers) × (0 < workers)
                 × Tells (L.gives launcher.now) (L.refuses launcher.now) P.gives P.refuses
                 × Tells P.gives P.refuses (L.gives launcher.now) (L.refuses launcher.now)
                 × IsReady rows.now (keeper_view (K.kept keeper.now) (K.path keeper.now) (K.faults keeper.now)) × ArePlaced rows.now }
             ensures { HasRun workers (L.gives launcher.entry.now) (L.refuses launcher.entry.now) rows.entry.now result.0.core result.0.stop result.0.counts × (result.0.core.origin ≡ core.origin)
-                × Went (L.gives launcher.entry.now) result.0.core result.0.stop (keeper_view (K.kept keeper.entry.now) (K.path keeper.entry.now) (K.faults keeper.entry.now)) (keeper_view (K.kept result.1.now) (K.path result.1.now) (K.faults result.1.now)) × (result.1.ghost_name ≡ keeper.entry.ghost_name) }
+                × Went (L.gives launcher.entry.now) result.0.core result.0.stop (keeper_view (K.kept keeper.entry.now) (K.path keeper.entry.now) (K.faults keeper.entry.now)) (keeper_view (K.kept result.1.now) (K.path result.1.now) (K.faults result.1.now)) × (result.1.ghost_name ≡ keeper.entry.ghost_name) × (result.2.ghost_name ≡ steps.entry.ghost_name) }
         {
             let mut alone = true;
             for _ in 0..workers {
@@ -157,9 +158,9 @@ fn in_threads<
                 &mut *keeper,
                 core,
                 shares,
-                steps,
+                &mut *steps,
             );
-            (ran, keeper)
+            (ran, keeper, steps)
         },
     );
     ran
