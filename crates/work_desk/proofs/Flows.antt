@@ -1,19 +1,18 @@
 -- What stays of the flow of a run as its journal grows, and where it is clean.
-use Rattle.std.proofs.Common.{◌≡◌, ℕ, ◌+◌, ◌≤◌, ◌⊎◌, inl, inr, Bool, true, false, not, ◌&&◌, ◌||◌, ◌==◌, cond, List, [], ◌∷◌, ◌++◌, map, Contains, Option, Some, None, is_some, length, arith, sym, ap, ◌∙◌, subst, refl}
+use Rattle.std.proofs.Common.{◌≡◌, ℕ, ◌≤◌, ◌⊎◌, inl, inr, Bool, true, false, not, ◌&&◌, ◌||◌, ◌==◌, cond, List, [], ◌∷◌, ◌++◌, map, Contains, Option, Some, None, is_some, length, arith, sym, ap, ◌∙◌, subst, refl}
 use Rattle.std.specs.Cmp.{IsEquivalence}
-use Rattle.std.specs.List.{AllByRecursion, IsDistinct, list_all, list_any}
+use Rattle.std.specs.List.{AllByRecursion, IsDistinct, list_all}
 use Rattle.std.specs.Set.{is_member}
 use Rattle.std.proofs.lemmas.Bool.{and_from, and_parts, false≢true, not-true, not-false, or_parts}
 use Rattle.std.proofs.lemmas.Bool.Decides.{Decides-eqb}
 use Rattle.std.proofs.lemmas.List.{length-map}
 use Rattle.std.proofs.lemmas.Map.Made.{length-le_from_is_member}
-use Rattle.wdl_base.specs.declared.answer.Answer.{Answer}
 use Rattle.wdl_base.specs.declared.entry.Entry.{Entry}
 use Rattle.wdl_base.specs.declared.fault.Fault.{Fault}
 use Rattle.wdl_base.specs.declared.place.Segment.{Segment}
 use Rattle.wdl_base.specs.declared.request.Request.{Request}
 use Rattle.wdl_base.specs.Same.{same_place}
-use Rattle.wdl_value.specs.Tables.{Row, answer_at, has_row, is_at, is_journal, row_of, table}
+use Rattle.wdl_value.specs.Tables.{Row, answer_at, has_row, is_at, is_journal, table}
 use Rattle.wdl_typed.specs.Flow.{Flowing, is_clean, is_empty, nothing, too_many}
 use Rattle.wdl_typed.specs.Bodies.{Library}
 use Rattle.wdl_typed.specs.Journal.{fed, fed_after, flow_over}
@@ -26,7 +25,7 @@ use Rattle.flow_laws.proofs.Fed.{fed_are_jobs, fed_are_journals, journals_grow}
 use Rattle.flow_laws.proofs.FlowJobs.{flow_jobs_answered, flow_jobs_differ}
 use Rattle.flow_laws.proofs.JobLists.{has_the_job, job_at, job_found}
 use Rattle.flow_laws.proofs.Longer as longer
-use Rattle.flow_laws.proofs.SameRequests.{place_itself, place_same}
+use Rattle.flow_laws.proofs.SameRequests.{place_same}
 use Rattle.ready_core.specs.Cores.{CoreState, Origin, all_taken, fed_at, flow_at, flow_of, has_fault, idle_at, is_taken, requests}
 use Rattle.ready_core.specs.Flows.{flow_after, flow_in}
 use Rattle.ready_core.specs.Rows.{TakenJob}

@@ -1,6 +1,5 @@
 -- One step more.
-use Rattle.std.proofs.Common.{◌≡◌, ℕ, ◌+◌, ◌<◌, List, [], ◌∷◌, ◌++◌, length, Bool, true, false, ◌||◌, refl, sym, ap, ◌∙◌, subst, append_assoc}
-use Rattle.std.specs.Prelude.{◌⊎◌}
+use Rattle.std.proofs.Common.{◌≡◌, ℕ, List, [], ◌∷◌, ◌++◌, Bool, true, false, ◌||◌, refl, sym, ap, ◌∙◌, subst, append_assoc}
 use Rattle.std.proofs.lemmas.List.{append-nil}
 use Rattle.wdl_base.specs.declared.entry.Entry.{Entry}
 use Rattle.wdl_base.specs.declared.entry.Source.TheVariants.{Launched}
@@ -9,7 +8,7 @@ use Rattle.wdl_base.specs.declared.step.Step.{Step}
 use Rattle.wdl_base.specs.declared.step.Step.TheVariants.{Took, Settled}
 use Rattle.ready_core.specs.Cores.{Origin, WasOut}
 use Rattle.ready_core.specs.Rows.{TakenJob}
-use Rattle.work_desk.specs.Greedy.{has_took, Busy, TookWell, SettledWell, greedy_from, greedy}
+use Rattle.work_desk.specs.Greedy.{has_took, Busy, TookWell, greedy_from, greedy}
 
 or_none : (b : Bool) → (b || false) ≡ b
 or_none true = refl

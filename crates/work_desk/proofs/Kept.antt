@@ -1,40 +1,36 @@
 -- A keeper through a run.
-use Rattle.std.proofs.Common.{◌≡◌, ℕ, ◌+◌, ◌-◌, ◌^◌, ◌<◌, ◌≤◌, List, [], ◌∷◌, ◌++◌, Bool, true, false, ◌&&◌, ◌||◌, ◌==◌, Contains, Option, Some, None, is_some, true≢false, ap, sym, refl, subst, inl, inr, arith, ◌∙◌, ◌⊎◌, min}
-use Rattle.std.specs.Prelude.{is_none, map}
-use Rattle.std.specs.Option.{option_map}
+use Rattle.std.proofs.Common.{◌≡◌, ℕ, ◌+◌, ◌-◌, ◌^◌, ◌≤◌, List, [], ◌∷◌, ◌++◌, Bool, true, false, ◌&&◌, ◌==◌, Contains, Option, Some, None, is_some, true≢false, ap, sym, refl, subst, inl, inr, arith, ◌∙◌, ◌⊎◌, min}
+use Rattle.std.specs.Prelude.{is_none}
 use Rattle.std.specs.Ordering.{is_lt, nat_cmp, ordering_then}
 use Rattle.std.specs.Cmp.Lexicographic.{slice_cmp}
 use Rattle.std.specs.declared.cmp.Ordering.{Ordering}
 use Rattle.std.specs.declared.cmp.Ordering.TheVariants.{Less, Equal, Greater}
 use Rattle.std.proofs.lemmas.Bool.{and_from, and_parts, false≢true, or_left, or_parts, or_right}
 use Rattle.std.proofs.lemmas.Bool.Decides.{Decides-eqb}
-use Rattle.std.proofs.lemmas.List.Elements.{Contains-append_cases, Contains-append_left, Contains-append_right}
+use Rattle.std.proofs.lemmas.List.Elements.{Contains-append_cases, Contains-append_right}
 use Rattle.std.proofs.lemmas.List.Folds.{list_any-append}
 use Rattle.std.proofs.lemmas.Map.Lookups.{exact_bytes, exact_unsigned}
 use Rattle.std.proofs.Math.Nat.{le-min, min-le_left, min-le_right}
-use Rattle.std.specs.List.{list_any}
 use Rattle.wdl_base.specs.declared.answer.Answer.{Answer}
 use Rattle.wdl_base.specs.declared.entry.Entry.{Entry}
 use Rattle.wdl_base.specs.declared.entry.Source.{Source}
 use Rattle.wdl_base.specs.declared.entry.Source.TheVariants.{Launched, Kept}
-use Rattle.wdl_base.specs.declared.place.Segment.{Segment}
 use Rattle.wdl_base.specs.declared.request.Request.{Request}
 use Rattle.wdl_base.specs.PlaceReading.{IsPlace}
 use Rattle.wdl_base.specs.Places.{place_text}
 use Rattle.wdl_base.specs.Same.{same_place, same_request}
 use Rattle.wdl_base.proofs.PlaceLemmas as places
-use Rattle.wdl_value.specs.Tables.{has_row, row_of, table}
+use Rattle.wdl_value.specs.Tables.{has_row, table}
 use Rattle.wdl_typed.specs.Requests.{is_success}
 use Rattle.wdl_port.specs.Causes.{Rose}
 use Rattle.wdl_port.specs.Rows.{are_kept, is_kept, kept_row, placed, put_row, request_order, row_order, with_entry}
 use Rattle.flow_laws.proofs.Elements.{contains_first, contains_later, first_or_later, none_within, only_one}
-use Rattle.flow_laws.proofs.Rows.{at_same, has_the_row}
 use Rattle.flow_laws.proofs.SameRequests.{place_itself, request_same}
 use Rattle.ready_core.specs.Cores.{AreHeld, CoreState, Origin, Settles, Takes, is_taken, requests, started}
 use Rattle.ready_core.specs.Rows.{TakenJob, is_usable, kept_as}
 use Rattle.work_desk.specs.declared.stop.Stop.{Stop}
 use Rattle.work_desk.specs.declared.stop.Stop.TheVariants.{Failed, NoMemory, Launch, Keep, TooMany}
-use Rattle.work_desk.specs.Keeping.{AreFrom, AreKept, AreLeft, ArePlaced, Holding, IsReady, KeeperView, RowsWent, Went, WentSo}
+use Rattle.work_desk.specs.Keeping.{AreFrom, AreKept, AreLeft, ArePlaced, Holding, IsReady, KeeperView, RowsWent, Went}
 use Rattle.work_desk.specs.Run.{Tells}
 use Rattle.work_desk.specs.Settling.{Settling}
 use Rattle.work_desk.specs.Stops.{Judges, NotKeep, halted}
@@ -444,11 +440,3 @@ went_tells g f h l c s k m t w =
         journal = r.journal;
       };
     }
-
-pub in_one_word : (gives : Request → Answer → Type 0) (c : CoreState) (s : Option Stop) (k l : KeeperView) → Went gives c s k l → WentSo gives c s k l
-unfolding WentSo
-in_one_word gives c s k l w = w
-
-pub in_full : (gives : Request → Answer → Type 0) (c : CoreState) (s : Option Stop) (k l : KeeperView) → WentSo gives c s k l → Went gives c s k l
-unfolding WentSo
-in_full gives c s k l w = w

@@ -1,6 +1,6 @@
 -- The steps of a run, over plain values.
-use Rattle.std.proofs.Common.{◌≡◌, ℕ, ◌+◌, ◌<◌, ◌≤◌, List, [], ◌∷◌, ◌++◌, length, Bool, true, false, ◌||◌, ◌&&◌, ◌==◌, refl, sym, ap, ◌∙◌, subst, arith, length-append, zero, suc, inl, inr}
-use Rattle.std.specs.Prelude.{All, Contains, Option, Some, None, IfNone, is_some, count_by, not, ◌⊎◌, cond}
+use Rattle.std.proofs.Common.{◌≡◌, ℕ, ◌+◌, ◌<◌, ◌≤◌, List, [], ◌∷◌, ◌++◌, length, Bool, true, false, ◌||◌, refl, sym, ap, ◌∙◌, subst, arith, length-append, zero, suc, inl, inr}
+use Rattle.std.specs.Prelude.{All, Option, Some, None, IfNone, is_some, not, cond}
 use Rattle.std.proofs.lemmas.List.Elements.{Contains-append_left, All-append, All-weaker, All-nil}
 use Rattle.std.proofs.lemmas.List.{nil_from_length}
 use Rattle.std.proofs.lemmas.List.Sums.{sum_by-append, count_by-le-length}
@@ -12,14 +12,14 @@ use Rattle.wdl_base.specs.declared.request.Request.{Request}
 use Rattle.wdl_base.specs.declared.step.Counts.{Counts}
 use Rattle.wdl_base.specs.declared.step.Step.TheVariants.{Settled, Took}
 use Rattle.wdl_typed.specs.Flow.{too_many}
-use Rattle.ready_core.specs.Cores.{CoreState, Origin, Settles, Takes, WasOut, all_taken, fed_at, flow_at, flow_of, has_fault, idle, idle_at, started}
+use Rattle.ready_core.specs.Cores.{CoreState, Origin, Settles, Takes, all_taken, fed_at, flow_of, has_fault, idle_at, started}
 use Rattle.ready_core.specs.Rows.{TakenJob}
 use Rattle.work_desk.specs.declared.stop.Stop.{Stop}
 use Rattle.work_desk.specs.declared.stop.Stop.TheVariants.{Failed, NoMemory, Launch, Keep, TooMany}
 use Rattle.work_desk.specs.Greedy.{greedy, Busy}
 use Rattle.work_desk.specs.Held.{Held, held}
 use Rattle.work_desk.specs.Ran.{HasRun, IsDone}
-use Rattle.work_desk.specs.Run.{IsKept, IsRun, IsGiven, GivenBy, Tells, usable, unkept}
+use Rattle.work_desk.specs.Run.{IsRun, IsGiven, GivenBy, Tells, usable, unkept}
 use Rattle.work_desk.specs.Stops.{is_strict, Caused, Judges, halted}
 use Rattle.work_desk.specs.Views.{AllEqual}
 use Rattle.work_desk.proofs.Flows.{fault_stays, job_stays, too_many_stays, all_settled}

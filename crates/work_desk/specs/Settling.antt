@@ -1,5 +1,5 @@
 -- What becomes of an answer that the caller settles.
-use Rattle.std.specs.Prelude.{◌≡◌, ◌⊎◌, List, Contains, Option}
+use Rattle.std.specs.Prelude.{◌≡◌, ◌⊎◌, Contains, Option}
 use Rattle.wdl_base.specs.declared.entry.Entry.{Entry}
 use Rattle.ready_core.specs.Cores.{CoreState, requests}
 use Rattle.work_desk.specs.declared.stop.Stop.{Stop}

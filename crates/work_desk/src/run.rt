@@ -3,7 +3,7 @@ ghost use Rattle.std.proofs.Common.{inl, inr};
 ghost use Rattle.wdl_port.specs.Rows.{rises, are_kept};
 ghost use Rattle.ready_core.specs.Cores.{started};
 ghost use Rattle.work_desk.specs.Held.{held};
-ghost use Rattle.work_desk.specs.Keeping.{ArePlaced, IsReady, Went, WentSo, keeper_view};
+ghost use Rattle.work_desk.specs.Keeping.{ArePlaced, IsReady, Went, keeper_view};
 ghost use Rattle.work_desk.specs.Ran.{HasRun};
 ghost use Rattle.work_desk.specs.Run.{Tells};
 ghost use Rattle.work_desk.specs.Views.{AllEqual};
@@ -76,7 +76,7 @@ fn conduct<P: Pact, L: Launcher, K: Keeper, S: Ledger, C: Counter<S> + Drop, R: 
     requires placed { ArePlaced rows.now }
     ensures run { HasRun workers (L.gives launcher.now) (L.refuses launcher.now) rows.now result.core result.stop result.counts }
     ensures origin { result.core.origin ≡ core.origin }
-    ensures keeper { WentSo (L.gives launcher.now) result.core result.stop (keeper_view (K.kept keeper.old) (K.path keeper.old) (K.faults keeper.old)) (keeper_view (K.kept keeper.new) (K.path keeper.new) (K.faults keeper.new)) }
+    ensures keeper { Went (L.gives launcher.now) result.core result.stop (keeper_view (K.kept keeper.old) (K.path keeper.old) (K.faults keeper.old)) (keeper_view (K.kept keeper.new) (K.path keeper.new) (K.faults keeper.new)) }
 {
     let mut counter = counter;
     let mut caller = Caller {
@@ -135,7 +135,7 @@ fn in_threads<
     requires placed { ArePlaced rows.now }
     ensures run { HasRun workers (L.gives launcher.now) (L.refuses launcher.now) rows.now result.core result.stop result.counts }
     ensures origin { result.core.origin ≡ core.origin }
-    ensures keeper { WentSo (L.gives launcher.now) result.core result.stop (keeper_view (K.kept keeper.old) (K.path keeper.old) (K.faults keeper.old)) (keeper_view (K.kept keeper.new) (K.path keeper.new) (K.faults keeper.new)) }
+    ensures keeper { Went (L.gives launcher.now) result.core result.stop (keeper_view (K.kept keeper.old) (K.path keeper.old) (K.faults keeper.old)) (keeper_view (K.kept keeper.new) (K.path keeper.new) (K.faults keeper.new)) }
 {
     let (ran, _keeper) = thread::scope(
         thread::scope_env(),
@@ -146,7 +146,7 @@ fn in_threads<
                 × Tells P.gives P.refuses (L.gives launcher.now) (L.refuses launcher.now)
                 × IsReady rows.now (keeper_view (K.kept keeper.now) (K.path keeper.now) (K.faults keeper.now)) × ArePlaced rows.now }
             ensures { HasRun workers (L.gives launcher.entry.now) (L.refuses launcher.entry.now) rows.entry.now result.0.core result.0.stop result.0.counts × (result.0.core.origin ≡ core.origin)
-                × WentSo (L.gives launcher.entry.now) result.0.core result.0.stop (keeper_view (K.kept keeper.entry.now) (K.path keeper.entry.now) (K.faults keeper.entry.now)) (keeper_view (K.kept result.1.now) (K.path result.1.now) (K.faults result.1.now)) × (result.1.ghost_name ≡ keeper.entry.ghost_name) }
+                × Went (L.gives launcher.entry.now) result.0.core result.0.stop (keeper_view (K.kept keeper.entry.now) (K.path keeper.entry.now) (K.faults keeper.entry.now)) (keeper_view (K.kept result.1.now) (K.path result.1.now) (K.faults result.1.now)) × (result.1.ghost_name ≡ keeper.entry.ghost_name) }
         {
             let mut alone = true;
             for _ in 0..workers {
@@ -206,7 +206,7 @@ fn run_with<
     requires placed { ArePlaced rows.now }
     ensures run { HasRun workers (L.gives launcher.now) (L.refuses launcher.now) rows.now result.core result.stop result.counts }
     ensures origin { result.core.origin ≡ core.origin }
-    ensures keeper { WentSo (L.gives launcher.now) result.core result.stop (keeper_view (K.kept keeper.old) (K.path keeper.old) (K.faults keeper.old)) (keeper_view (K.kept keeper.new) (K.path keeper.new) (K.faults keeper.new)) }
+    ensures keeper { Went (L.gives launcher.now) result.core result.stop (keeper_view (K.kept keeper.old) (K.path keeper.old) (K.faults keeper.old)) (keeper_view (K.kept keeper.new) (K.path keeper.new) (K.faults keeper.new)) }
 {
     let Ok(Opened { desk, shares }) = Desk::<P>::new(alloc, workers, put, collected) else {
         return unstarted(core);

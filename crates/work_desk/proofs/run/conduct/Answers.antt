@@ -3,7 +3,7 @@ use Rattle.std.specs.Prelude.{None}
 use Rattle.ready_core.specs.Cores.{CoreState}
 use Rattle.work_desk.specs.Keeping.{Holding, keeper_view}
 use Rattle.work_desk.specs.Stops.{Judges}
-use Rattle.work_desk.proofs.Kept.{hold_started, in_one_word, went_tells}
+use Rattle.work_desk.proofs.Kept.{hold_started, went_tells}
 use Rattle.work_desk.proofs.run.conduct.Goals as goal
 
 pub returns-clause-keeper : goal.returns-clause-keeper
@@ -20,4 +20,4 @@ returns-clause-keeper g c =
     let gives = l.gives c.args.launcher.now in
     let self = c.drive.new.self in
     let after = keeper_view (k.kept c.drive.new.keeper) (k.path c.drive.new.keeper) (k.faults c.drive.new.keeper) in
-    in_one_word gives self.core self.stop before after (went_tells p.gives p.refuses gives (l.refuses c.args.launcher.now) self.core self.stop before after c.requires.back ended.went)
+    went_tells p.gives p.refuses gives (l.refuses c.args.launcher.now) self.core self.stop before after c.requires.back ended.went

@@ -1,4 +1,4 @@
-use Rattle.std.proofs.Common.{◌≡◌, refl, ◌∙◌}
+use Rattle.std.proofs.Common.{refl, ◌∙◌}
 use Rattle.work_desk.proofs.caller.Caller.fill.Goals as goal
 
 pub loop-init : goal.loop-init

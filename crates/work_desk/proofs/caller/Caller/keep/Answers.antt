@@ -1,4 +1,4 @@
-use Rattle.std.proofs.Common.{◌≡◌, refl, sym, ap, subst, ◌∙◌, inl}
+use Rattle.std.proofs.Common.{refl, sym, ap, subst, ◌∙◌, inl}
 use Rattle.std.specs.Prelude.{Option, Err}
 use Rattle.wdl_base.specs.declared.entry.Entry.{Entry}
 use Rattle.wdl_base.specs.PlaceReading.{IsPlace}
@@ -20,19 +20,27 @@ settle-requires-in-Err-Failed-clause-run g c =
 
 pub returns-in-Ok-clause-holds : goal.returns-in-Ok-clause-holds
 returns-in-Ok-clause-holds g c =
+    let k = g.K.Keeper in
+    let old = c.args.keeper.now in
+    let new = c.put.new.self in
+    let before = keeper_view (k.kept old) (k.path old) (k.faults old) in
+    let after = keeper_view (k.kept new) (k.path new) (k.faults new) in
     let self = c.args.self.now in
     let settling = c.settle.ensures.settling in
     let parts = held_parts self.core c.args.answered.request c.requires.held settling.held in
-    λ begin h. hold_answered g.P.Pact.gives c.args.rows.now begin self.core c.settle.new.self.core self.stop c.settle.new.self.stop _ _ c.args.answered h c.put.ensures.path c.put.ensures.cause.later
-    (c.in-Ok.ensures.kept ∙ ap (with_entry _) c.entry-2.ensures.entry) (subst (λ (e : Entry). IsPlace e.request.place) c.entry.ensures.entry c.see_place.ensures.place) c.requires.given parts.0 parts.1 settling
+    λ begin h. hold_answered g.P.Pact.gives c.args.rows.now begin self.core c.settle.new.self.core self.stop c.settle.new.self.stop before after c.args.answered h c.put.ensures.path c.put.ensures.cause.later
+    (c.in-Ok.ensures.kept ∙ ap (with_entry (k.kept old)) c.entry-2.ensures.entry) (subst (λ (e : Entry). IsPlace e.request.place) c.entry.ensures.entry c.see_place.ensures.place) c.requires.given parts.0 parts.1 settling
 
 pub returns-in-Err-Failed-clause-holds : goal.returns-in-Err-Failed-clause-holds
 returns-in-Err-Failed-clause-holds g c =
+    let k = g.K.Keeper in
+    let old = c.args.keeper.now in
+    let new = c.put.new.self in
     let self = c.args.self.now in
-    let after = c.settle-in-Err-Failed.new.self in
-    λ begin h. hold_failed g.P.Pact.gives c.args.rows.now begin self.core after.core self.stop after.stop _ _ c.args.answered h c.put.ensures.path c.put.ensures.cause.later c.in-Err-Failed.ensures.left
+    let last = c.settle-in-Err-Failed.new.self in
+    λ begin h. hold_failed g.P.Pact.gives c.args.rows.now begin self.core last.core self.stop last.stop (keeper_view (k.kept old) (k.path old) (k.faults old)) (keeper_view (k.kept new) (k.path new) (k.faults new)) c.args.answered h c.put.ensures.path c.put.ensures.cause.later c.in-Err-Failed.ensures.left
     (c.put.ensures.cause.failed (c.in-Err-Failed.is ∙ ap Err c.in-Err-Failed.field-0-is)) (subst (λ (e : Entry). IsPlace e.request.place) c.entry.ensures.entry c.see_place.ensures.place)
-    (subst (λ (s : Option Stop). Settling c.args.answered self.core s after.core after.stop) c.halt.ensures.halted c.settle-in-Err-Failed.ensures.settling)
+    (subst (λ (s : Option Stop). Settling c.args.answered self.core s last.core last.stop) c.halt.ensures.halted c.settle-in-Err-Failed.ensures.settling)
 
 pub returns-in-Err-NoMemory-clause-run : goal.returns-in-Err-NoMemory-clause-run
 returns-in-Err-NoMemory-clause-run g c =

@@ -1,4 +1,4 @@
-use Rattle.std.proofs.Common.{◌≡◌, refl}
+use Rattle.std.proofs.Common.{refl}
 use Rattle.work_desk.specs.declared.stop.Stop.TheVariants.{NoMemory}
 use Rattle.work_desk.proofs.Kept.{settles_well}
 use Rattle.work_desk.proofs.Runs.{run_halted, run_settled}

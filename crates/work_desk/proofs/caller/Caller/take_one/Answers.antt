@@ -1,4 +1,4 @@
-use Rattle.std.proofs.Common.{◌≡◌, refl, sym, ap, subst, ◌∙◌}
+use Rattle.std.proofs.Common.{refl, sym, ap, subst}
 use Rattle.std.specs.Prelude.{Contains, Option, None}
 use Rattle.wdl_base.specs.declared.entry.Entry.{Entry}
 use Rattle.work_desk.specs.declared.stop.Stop.{Stop}

@@ -1,4 +1,4 @@
-use Rattle.std.proofs.Common.{◌∙◌, ap, refl}
+use Rattle.std.proofs.Common.{◌∙◌, ap}
 use Rattle.std.specs.Option.{option_copied}
 use Rattle.wdl_flow.specs.Marks.{entry_marks, place_mark}
 use Rattle.wdl_flow.proofs.Skip.{searched}

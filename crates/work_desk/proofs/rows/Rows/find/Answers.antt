@@ -1,4 +1,4 @@
-use Rattle.std.proofs.Common.{◌≡◌, sym, ◌∙◌}
+use Rattle.std.proofs.Common.{sym, ◌∙◌}
 use Rattle.std.specs.Prelude.{Some, None}
 use Rattle.work_desk.proofs.Looks.{looked_at}
 use Rattle.work_desk.proofs.rows.Rows.find.Goals as goal
