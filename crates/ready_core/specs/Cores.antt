@@ -1,5 +1,5 @@
 -- What contracts see of a core, and its two transitions.
-use Rattle.std.specs.Prelude.{◌≡◌, ℕ, ◌+◌, ◌<◌, ◌≤◌, Bool, true, false, not, ◌&&◌, ◌||◌, ◌==◌, List, [], ◌∷◌, ◌++◌, Contains, count_by, length, map, Option}
+use Rattle.std.specs.Prelude.{◌≡◌, ℕ, ◌+◌, ◌<◌, ◌≤◌, Bool, true, false, not, ◌&&◌, ◌||◌, ◌==◌, List, [], ◌∷◌, ◌++◌, Contains, count_by, length, map, if◌then◌else◌}
 use Rattle.std.specs.List.{list_all, list_any}
 use Rattle.wdl_base.specs.declared.entry.Entry.{Entry}
 use Rattle.wdl_base.specs.declared.place.Segment.{Segment}
@@ -42,9 +42,13 @@ jobs_of f = paired f.jobs f.codes
 abbrev pub has_fault : Flowing → Bool
 has_fault f = not (is_empty f.faults)
 
+-- the job is of the place and the attempt of the request
+abbrev pub is_taking : Request → TakenJob → Bool
+is_taking r j = same_place j.request.place r.place && j.request.attempt == r.attempt
+
 -- the place and the attempt of the request were taken
 abbrev pub is_taken : List TakenJob → Request → Bool
-is_taken taken r = list_any (λ (j : TakenJob). same_place j.request.place r.place && j.request.attempt == r.attempt) taken
+is_taken taken r = list_any (is_taking r) taken
 
 abbrev pub all_taken : Flowing → List TakenJob → Bool
 all_taken f taken = list_all (is_taken taken) f.jobs
@@ -56,6 +60,21 @@ idle f taken = has_fault f || (too_many f || all_taken f taken)
 -- a job of the flow whose place and attempt were not taken
 abbrev pub MayTake : Flowing → List TakenJob → TakenJob → Type 0
 MayTake f taken j = Contains (jobs_of f) j × (is_taken taken j.request ≡ false)
+
+-- the jobs of a flow that were not taken
+abbrev pub left_over : List TakenJob → List TakenJob → List TakenJob
+left_over taken [] = []
+left_over taken (j ∷ js) = if is_taken taken j.request then left_over taken js else j ∷ left_over taken js
+
+-- ---- faults
+
+-- a flow within the limits that has a fault
+abbrev pub shows_fault : Flowing → Bool
+shows_fault f = not (too_many f) && has_fault f
+
+abbrev pub met_after : (List Entry → Flowing) → List Entry → List Entry → Bool
+met_after over done [] = shows_fault (over done)
+met_after over done (e ∷ es) = shows_fault (over done) || met_after over (done ++ e ∷ []) es
 
 -- ---- what is out
 
@@ -93,6 +112,10 @@ flow_of s = flow_at s.origin s.journal
 abbrev pub idle_at : CoreState → Bool
 idle_at s = idle (flow_of s) s.taken
 
+-- the flow over the journal, or over one of its fronts, was within the limits and had a fault
+abbrev pub has_met_fault : CoreState → Bool
+has_met_fault s = met_after (flow_at s.origin) [] s.journal
+
 -- one take that gave a job
 pub record Takes (s : CoreState) (j : TakenJob) (t : CoreState) : Type 0 where
   pub busy : idle_at s ≡ false
@@ -110,3 +133,7 @@ pub record Settles (s : CoreState) (e : Entry) (t : CoreState) : Type 0 where
   pub out : length t.out + 1 ≡ length s.out
   pub origin : t.origin ≡ s.origin
   pub after : t ≡ record s { journal = s.journal ++ e ∷ []; out = t.out; steps = s.steps ++ Settled e.request.place ∷ [] }
+
+-- A fault that was met stays met.
+abbrev pub FaultsStay : Type 0
+FaultsStay = (s t : CoreState) (e : Entry) → Settles s e t → has_met_fault s ≡ true → has_met_fault t ≡ true
