@@ -28,7 +28,7 @@ fn first_wrong(alloc: Global, all: &str, expected: &str) -> Result<String, Fail>
 #[test]
 fn words_without_a_reading_have_status_2(rt: HostRuntime) -> Result<(), Fail> {
     let expected =
-        "> 2 0\n> ! usage: wdl run [--inputs FILE] [--root DIR] FILE | check FILE | cwl [--inputs FILE] FILE";
+        "> 2 0\n> ! usage: wdl run [--inputs FILE] [--workers N] [--root DIR] [--journal FILE] FILE | check FILE | cwl [--inputs FILE] FILE";
     assert_eq!(rt; first_wrong(rt.alloc(), UNREADABLE, expected)?.as_str(), "");
     Ok(())
 }
