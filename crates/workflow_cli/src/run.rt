@@ -1,24 +1,31 @@
 //! The run of the main workflow.
 
-ghost use Rattle.std.specs.Prelude.{◌≡◌, ◌++◌, [], codes, IfOk};
+ghost use Rattle.std.specs.Prelude.{◌≡◌, ◌≤◌, ◌⊎◌, ◌++◌, [], codes, length, List, None, Some, Option, ℕ, IfOk};
 ghost use Rattle.wdl_json.specs.Outputs.{outputs_text as spec_text};
 ghost use Rattle.wdl_port.specs.Causes.{Rose};
 ghost use Rattle.wdl_typed.specs.declared.flow.FlowDef.{FlowDef as Flow};
+ghost use Rattle.work_desk.specs.Keeping.{keeper_view};
+ghost use Rattle.work_desk.specs.Views.{AllEqual};
+ghost use Rattle.workflow_cli.specs.Causes.{IsOn};
 ghost use Rattle.workflow_cli.specs.Running.{work_trace};
 ghost use Rattle.workflow_cli.specs.Stages.{IsFitting, RunsFile, RunsMain, Turns};
 ghost use Rattle.workflow_cli.specs.Writing.{HasPaths};
 
+use crate::asking::RunOptions;
 use crate::checking::stop;
 use crate::ended::{Work, Worked};
+use crate::journal::rows_of;
 use crate::prepare::{Prepared, main_flow, start_of};
+use ready_core::{Core, History};
 use report_text::Status;
-use sequential_run::{End, Ran, run_jobs};
 use std::alloc::Global;
+use std::sync::Wait;
 use std::sync::ledger::Ledger;
+use std::thread::Threads;
 use wdl_json::outputs_text;
-use wdl_port::{Launcher, Shelf};
-use wdl_typed::FlowDef;
-use wdl_value::{Bind, Items, Name, NoMemory, Steps, Text};
+use wdl_port::{Keeper, Launcher, Shelf};
+use wdl_value::{Bind, Counts, Entry, Items, Name, NoMemory, Steps, Text};
+use work_desk::{Ran, Stop, run_all};
 
 /// The outputs as one JSON object, and a newline.
 fn text_of(alloc: Global, name: &Name, outputs: &[Bind]) -> Result<Text, NoMemory>
@@ -29,20 +36,48 @@ fn text_of(alloc: Global, name: &Name, outputs: &[Bind]) -> Result<Text, NoMemor
     Ok(text)
 }
 
-/// What the end of a run comes to.
-fn work_of(alloc: Global, name: &Name, end: End) -> Work
-    ensures turns { Turns name.now end result }
-    ensures paths { HasPaths result }
+/// The work of a run without a stop.
+fn outputs_work(alloc: Global, name: &Name, core: &Core) -> Work
 {
-    match end {
-        End::Done(outputs) => match text_of(alloc, name, outputs.as_slice()) {
-            Ok(text) => Work::Text(text),
-            Err(_) => Work::Stop(stop(alloc, Status::NoMemory)),
+    let Some(outputs) = core.outcome() else {
+        unreachable!();
+    };
+    match text_of(alloc, name, outputs.as_slice()) {
+        Ok(text) => Work::Text(text),
+        Err(_) => Work::Stop(stop(alloc, Status::NoMemory)),
+    }
+}
+
+/// The status of a run that met a fault: the fault, or that the flow is too large.
+fn failed_status(alloc: Global, core: &Core) -> Status
+{
+    match core.fault() {
+        Some(fault) => match fault.copy(alloc) {
+            Ok(fault) => Status::Failed(fault),
+            Err(_) => Status::NoMemory,
         },
-        End::Failed(fault) => Work::Stop(stop(alloc, Status::Failed(fault))),
-        End::Launch(place) => Work::Stop(stop(alloc, Status::Launch(place))),
-        End::TooMany => Work::Stop(stop(alloc, Status::TooMany)),
-        End::NoMemory => Work::Stop(stop(alloc, Status::NoMemory)),
+        None => Status::TooMany,
+    }
+}
+
+/// The status of a run that stopped.
+fn status_of(alloc: Global, core: &Core, why: Stop) -> Status
+{
+    match why {
+        Stop::Failed => failed_status(alloc, core),
+        Stop::NoMemory => Status::NoMemory,
+        Stop::Launch(place) => Status::Launch(place),
+        Stop::Keep => Status::Keep,
+        Stop::TooMany => Status::TooMany,
+    }
+}
+
+/// What the end of a run comes to.
+fn work_of(alloc: Global, name: &Name, core: &Core, why: Option<Stop>) -> Work
+{
+    match why {
+        None => outputs_work(alloc, name, core),
+        Some(why) => Work::Stop(stop(alloc, status_of(alloc, core, why))),
     }
 }
 
@@ -51,81 +86,31 @@ pub fn idle(alloc: Global, work: Work) -> Worked
     ensures work { result.work ≡ work }
     ensures journal { result.journal ≡ [] }
     ensures steps { result.steps ≡ [] }
+    ensures counts { AllEqual result.counts 0 }
 {
     Worked {
         work,
         journal: Items::new(alloc),
         steps: Items::new(alloc),
+        counts: Counts {
+            put: 0,
+            picked: 0,
+            finished: 0,
+            collected: 0,
+        },
     }
 }
 
-/// Runs the main workflow.
-fn run_flow<L: Launcher, S: Ledger>(
-    alloc: Global,
-    prepared: &Prepared,
-    flow: &FlowDef,
-    site: &Text,
-    launcher: &L,
-    steps: &mut Steps<S>,
-) -> Worked
-    requires fitting { IsFitting prepared.now.checked prepared.now.given flow.now }
-    ensures value { RunsMain (L.gives launcher.now) (L.refuses launcher.now) prepared.now.checked prepared.now.given site.now flow.now.name result }
-    ensures paths { HasPaths result.work }
+/// The work of a run that ended.
+fn worked(alloc: Global, name: &Name, ran: Ran) -> Worked
 {
-    let Ran {
-        journal,
-        steps: taken,
-        end,
-    } = run_jobs(
-        alloc,
-        &prepared.checked,
-        &prepared.given,
-        site,
-        launcher,
-        steps,
-    );
+    let Ran { core, stop, counts } = ran;
+    let work = work_of(alloc, name, &core, stop);
+    let History { journal, steps } = core.into_history();
     Worked {
-        work: work_of(alloc, &flow.name, end),
+        work,
         journal,
-        steps: taken,
-    }
-}
-
-/// Runs the main workflow with its inputs.
-fn run_main<L: Launcher, S: Ledger>(
-    alloc: Global,
-    prepared: &Prepared,
-    site: &Text,
-    launcher: &L,
-    steps: &mut Steps<S>,
-) -> Worked
-    requires fitting { (f : Flow) × IsFitting prepared.now.checked prepared.now.given f }
-    ensures value { (f : Flow) → IsFitting prepared.now.checked prepared.now.given f
-        → RunsMain (L.gives launcher.now) (L.refuses launcher.now) prepared.now.checked prepared.now.given site.now f.name result }
-    ensures paths { HasPaths result.work }
-{
-    let Some(flow) = main_flow(&prepared.checked) else {
-        unreachable!();
-    };
-    run_flow(alloc, prepared, flow, site, launcher, steps)
-}
-
-/// Runs the main workflow of the document at a path, with the inputs of a file, below the directory `site`.
-pub fn run<F: Shelf, L: Launcher, S: Ledger>(
-    alloc: Global,
-    file: &Text,
-    inputs: &Option<Text>,
-    site: &Text,
-    shelf: &mut F,
-    launcher: &L,
-    steps: &mut Steps<S>,
-) -> Worked
-    ensures value { RunsFile (F.tells shelf.old) (F.refuses shelf.old) (Rose (F.faults shelf.old) (F.faults shelf.new))
-        (L.gives launcher.now) (L.refuses launcher.now) file.now inputs.now site.now (work_trace result steps.old steps.new) result }
-    ensures paths { HasPaths result.work }
-{
-    match start_of(alloc, file, inputs, shelf) {
-        Ok(prepared) => run_main(alloc, &prepared, site, launcher, steps),
-        Err(stop) => idle(alloc, Work::Stop(stop)),
+        steps,
+        counts,
     }
 }
