@@ -57,6 +57,21 @@ idle f taken = has_fault f || (too_many f || all_taken f taken)
 abbrev pub MayTake : Flowing → List TakenJob → TakenJob → Type 0
 MayTake f taken j = Contains (jobs_of f) j × (is_taken taken j.request ≡ false)
 
+-- the jobs of a flow that were not taken
+abbrev pub left_over : List TakenJob → List TakenJob → List TakenJob
+left_over taken [] = []
+left_over taken (j ∷ js) = if is_taken taken j.request then left_over taken js else j ∷ left_over taken js
+
+-- ---- faults
+
+-- a flow within the limits that has a fault
+abbrev pub shows_fault : Flowing → Bool
+shows_fault f = not (too_many f) && has_fault f
+
+abbrev pub met_after : (List Entry → Flowing) → List Entry → List Entry → Bool
+met_after over done [] = shows_fault (over done)
+met_after over done (e ∷ es) = shows_fault (over done) || met_after over (done ++ e ∷ []) es
+
 -- ---- what is out
 
 -- how often a place was taken
@@ -93,6 +108,10 @@ flow_of s = flow_at s.origin s.journal
 abbrev pub idle_at : CoreState → Bool
 idle_at s = idle (flow_of s) s.taken
 
+-- the flow over the journal, or over one of its fronts, was within the limits and had a fault
+abbrev pub has_met_fault : CoreState → Bool
+has_met_fault s = met_after (flow_at s.origin) [] s.journal
+
 -- one take that gave a job
 pub record Takes (s : CoreState) (j : TakenJob) (t : CoreState) : Type 0 where
   pub busy : idle_at s ≡ false
@@ -110,3 +129,7 @@ pub record Settles (s : CoreState) (e : Entry) (t : CoreState) : Type 0 where
   pub out : length t.out + 1 ≡ length s.out
   pub origin : t.origin ≡ s.origin
   pub after : t ≡ record s { journal = s.journal ++ e ∷ []; out = t.out; steps = s.steps ++ Settled e.request.place ∷ [] }
+
+-- A fault that was met stays met.
+abbrev pub FaultsStay : Type 0
+FaultsStay = (s t : CoreState) (e : Entry) → Settles s e t → has_met_fault s ≡ true → has_met_fault t ≡ true

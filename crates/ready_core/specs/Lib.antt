@@ -1,3 +1,5 @@
 pub mod Cores
 pub mod Flows
+pub mod HandsBack
+pub mod Launches
 pub mod Rows

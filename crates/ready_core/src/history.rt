@@ -1,0 +1,17 @@
+use crate::job::Answered;
+use wdl_value::{Entry, Items, Step};
+
+/// Why an answer was not settled. It is handed back, and the core is as it was.
+#[derive(Debug, Drop)]
+pub enum SettleFault {
+    /// Its request is not that of a job that is out.
+    Stranger(Answered),
+    NoMemory(Answered),
+}
+
+/// What a core has done: its journal, and one step for each job that was taken and each answer that was settled.
+#[derive(Debug, Drop)]
+pub struct History {
+    pub journal: Items<Entry>,
+    pub steps: Items<Step>,
+}
