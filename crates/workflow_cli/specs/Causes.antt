@@ -12,7 +12,7 @@ use Rattle.workflow_cli.specs.declared.ended.Work.TheVariants as work
 use Rattle.workflow_cli.specs.Asking.{IsCheckOf, IsForMain, IsJournal, IsNotBuilt, Words, asked}
 use Rattle.workflow_cli.specs.Documents.{HasChecked, HasNoMain, IsRefused, IsUnreadDocument, Tells}
 use Rattle.workflow_cli.specs.Translating.{IsOutside, IsTranslated}
-use Rattle.workflow_cli.specs.Running.{IsBadInputs, IsDone, IsFailed, IsIdle, IsTooMany, IsUnkept, IsUnlaunched, IsUnreadInputs, SomeRun, Trace}
+use Rattle.workflow_cli.specs.Running.{IsBadInputs, IsDone, IsFailed, IsIdle, IsOn, IsTooMany, IsUnkept, IsUnlaunched, IsUnreadInputs, SomeRun, Trace}
 
 -- the words name the document at this path
 abbrev pub Names : Words → List ℕ → Type 0
@@ -84,10 +84,6 @@ module _ (tells : Tells) (refused : List ℕ → Type 0) (rose : Type 0) (gives 
     pub cause : Cause w
 
 -- ---- the keeper
-
--- a keeper that is started on this path, or on none
-abbrev pub IsOn : List ℕ → Option (List ℕ) → Type 0
-IsOn path at = (at ≡ Some path) ⊎ (at ≡ None)
 
 -- the words ask for a run that keeps its journal at a path, and the keeper is started on no other
 abbrev pub UsesJournal : Words → Option (List ℕ) → Type 0

@@ -1,5 +1,5 @@
 -- The main workflow with its inputs, and what its run comes to.
-use Rattle.std.specs.Prelude.{◌≡◌, ◌⊎◌, ℕ, true, false, List, [], ◌++◌, Contains, Option, Some, None, Ok, Err, codes}
+use Rattle.std.specs.Prelude.{◌≡◌, ◌≢◌, ◌⊎◌, ℕ, true, false, List, [], ◌++◌, Contains, Option, Some, None, Ok, Err, codes}
 use Rattle.wdl_base.specs.declared.answer.Answer.{Answer}
 use Rattle.wdl_base.specs.declared.entry.Entry.{Entry}
 use Rattle.wdl_base.specs.declared.fault.Fault.{Fault}
@@ -17,15 +17,15 @@ use Rattle.wdl_typed.specs.Flow.{Flowing, is_clean, too_many}
 use Rattle.wdl_json.specs.Inputs.{inputs_in, main_of}
 use Rattle.wdl_json.specs.Outputs.{outputs_text}
 use Rattle.wdl_json.specs.declared.fault.InputFault.TheVariants.{Bad}
-use Rattle.ready_core.specs.Cores.{CoreState, Origin, flow_at, requests}
+use Rattle.ready_core.specs.Cores.{CoreState, Origin, flow_at}
 use Rattle.ready_core.specs.Flows.{outputs_in}
 use Rattle.ready_core.specs.Rows.{TakenJob}
 use Rattle.work_desk.specs.Keeping.{KeeperView, Went, keeper_view}
-use Rattle.work_desk.specs.Ran as desk
+use Rattle.work_desk.specs.Ran.{HasRun}
 use Rattle.work_desk.specs.Stops.{is_strict}
 use Rattle.work_desk.specs.Views.{AllEqual}
 use Rattle.work_desk.specs.declared.stop.Stop.{Stop}
-use Rattle.work_desk.specs.declared.stop.Stop.TheVariants as stop
+use Rattle.work_desk.specs.declared.stop.Stop.TheVariants as end
 use Rattle.workflow_cli.specs.declared.asking.RunOptions.{RunOptions}
 use Rattle.workflow_cli.specs.declared.ended.Ended.{Ended}
 use Rattle.workflow_cli.specs.declared.ended.Worked.{Worked}
@@ -82,18 +82,39 @@ origin_of m = record { checked = m.checked; inputs = m.given; site = m.options.r
 abbrev pub flow_of : Main → List Entry → Flowing
 flow_of m = flow_at (origin_of m)
 
--- ---- the keeper
+-- ---- the run
+
+-- a keeper that is started on this path, or on none
+abbrev pub IsOn : List ℕ → Option (List ℕ) → Type 0
+IsOn path at = (at ≡ Some path) ⊎ (at ≡ None)
 
 -- the rows that a run resumes from: those of the keeper where a journal is named, and else none
 abbrev pub AreRowsOf : KeeperView → Option (List ℕ) → List Entry → Type 0
 AreRowsOf k None rows = rows ≡ []
 AreRowsOf k (Some path) rows = AreRows k.kept rows
 
--- Without a journal the keeper is as it was. With one it is started on that path, each told row at the end is one of the
--- beginning or has an answer that the launcher gave, and a row whose place and attempt were not taken is as it was.
+-- Without a journal the keeper is as it was, and no fault of it stops the run. With one it is started on that path, each told
+-- row at the end is one of the beginning or has the request of a taken job and an answer that the launcher gives for it, and a
+-- row whose place and attempt were not taken is as it was. Where the run did not stop, or the count did not rise, each entry of
+-- the journal is a row at the end.
 abbrev pub KeepsRows : (Request → Answer → Type 0) → CoreState → Option Stop → Option (List ℕ) → KeeperView → KeeperView → Type 0
-KeepsRows gives c why None k l = l ≡ k
+KeepsRows gives c why None k l = (l ≡ k) × (why ≢ Some end.Keep)
 KeepsRows gives c why (Some path) k l = Went gives c why (keeper_view k.kept (Some path) k.faults) l
+
+-- the core of a run with this journal and these steps, which took these jobs, and where these are out
+abbrev pub core_of : Main → Trace → List TakenJob → List TakenJob → CoreState
+core_of m t taken out = record { origin = origin_of m; journal = t.journal; taken = taken; out = out; steps = t.steps }
+
+-- What a run of the main workflow leaves, by the workers of its options and over these rows: the journal is fed, each answer is
+-- one that the launcher gives or that of a usable row, the steps leave no worker idle without need, and each taken job without
+-- a usable row was put, picked, finished and collected.
+pub record Leaves (gives : Request → Answer → Type 0) (refuses : Request → Type 0) (t : Trace) (m : Main) (why : Option Stop) : Type 0 where
+  pub rows : List Entry
+  pub of_keeper : AreRowsOf t.keeper m.options.journal rows
+  pub taken : List TakenJob
+  pub out : List TakenJob
+  pub run : HasRun m.options.workers gives refuses rows (core_of m t taken out) why t.counts
+  pub kept : KeepsRows gives (core_of m t taken out) why m.options.journal t.keeper t.keeper_now
 
 module _ (tells : Tells) (words : Words) where
   -- the words ask for a run of a document whose checked form has this main workflow, with the text of these inputs
@@ -138,21 +159,10 @@ module _ (tells : Tells) (words : Words) where
   -- ---- the run
 
   module _ (gives : Request → Answer → Type 0) (refuses : Request → Type 0) (t : Trace) where
-    -- the core of a run with this journal and these steps, which took these jobs, and where these are out
-    abbrev pub core_of : Main → List TakenJob → List TakenJob → CoreState
-    core_of m taken out = record { origin = origin_of m; journal = t.journal; taken = taken; out = out; steps = t.steps }
-
-    -- A run of the main workflow over these rows, by the workers of the words: the journal is fed, each answer is one that the
-    -- launcher gives or that of a usable row, the steps leave no worker idle without need, and each taken job without a usable
-    -- row was put, picked, finished and collected.
+    -- a run of the main workflow that the words ask for
     pub record IsRun (m : Main) (why : Option Stop) : Type 0 where
       pub started : IsStarted m
-      pub rows : List Entry
-      pub of_keeper : AreRowsOf t.keeper m.options.journal rows
-      pub taken : List TakenJob
-      pub out : List TakenJob
-      pub run : desk.HasRun m.options.workers gives refuses rows (core_of m taken out) why t.counts
-      pub kept : KeepsRows gives (core_of m taken out) why m.options.journal t.keeper t.keeper_now
+      pub left : Leaves gives refuses t m why
 
     pub record SomeRun : Type 0 where
       pub main : Main
@@ -170,18 +180,18 @@ module _ (tells : Tells) (words : Words) where
     -- a fault of the flow over the journal
     pub record IsFailed (fault : Fault) : Type 0 where
       pub main : Main
-      pub run : IsRun main (Some stop.Failed)
+      pub run : IsRun main (Some end.Failed)
       pub is_fault : Contains (flow_of main t.journal).faults fault
 
     -- a job of the flow over the journal was taken at that place, and the launcher refuses its request
     pub record IsUnlaunched (place : List Segment) : Type 0 where
       pub main : Main
-      pub run : IsRun main (Some (stop.Launch place))
-      pub request : Request
-      pub was_taken : Contains (requests run.taken) request
-      pub at_place : request.place ≡ place
-      pub is_job : Contains (flow_of main t.journal).jobs request
-      pub refused : refuses request
+      pub run : IsRun main (Some (end.Launch place))
+      pub job : TakenJob
+      pub was_taken : Contains run.left.taken job
+      pub at_place : job.request.place ≡ place
+      pub is_job : Contains (flow_of main t.journal).jobs job.request
+      pub refused : refuses job.request
 
     -- the flow over the journal has too many jobs or statements
     pub record IsTooMany : Type 0 where
@@ -199,4 +209,4 @@ module _ (tells : Tells) (words : Words) where
       pub named : main.options.journal ≡ Some path
       pub opened : t.keeper_now.path ≡ Some path
       pub counted : Rose t.keeper.faults t.keeper_now.faults
-      pub ran : IsIdle t ⊎ IsRun main (Some stop.Keep)
+      pub ran : IsIdle t ⊎ IsRun main (Some end.Keep)

@@ -38,6 +38,9 @@ fn text_of(alloc: Global, name: &Name, outputs: &[Bind]) -> Result<Text, NoMemor
 
 /// The work of a run without a stop.
 fn outputs_work(alloc: Global, name: &Name, core: &Core) -> Work
+    requires done { IsDone core.now }
+    ensures turns { Turns name.now core.now None result }
+    ensures paths { HasPaths result }
 {
     let Some(outputs) = core.outcome() else {
         unreachable!();
@@ -48,8 +51,11 @@ fn outputs_work(alloc: Global, name: &Name, core: &Core) -> Work
     }
 }
 
-/// The status of a run that met a fault: the fault, or that the flow is too large.
+/// The status of a run that met a fault: a fault of its flow, or that the flow is past its limits.
 fn failed_status(alloc: Global, core: &Core) -> Status
+    requires failed { has_fault (flow_of core.now) ≡ true }
+    ensures value { IsFailedAs core.now result }
+    ensures paths { HasPath result [] }
 {
     match core.fault() {
         Some(fault) => match fault.copy(alloc) {
@@ -62,6 +68,9 @@ fn failed_status(alloc: Global, core: &Core) -> Status
 
 /// The status of a run that stopped.
 fn status_of(alloc: Global, core: &Core, why: Stop) -> Status
+    requires failed { why ≡ end.Failed → has_fault (flow_of core.now) ≡ true }
+    ensures value { StopsAs core.now why result }
+    ensures paths { HasPath result [] }
 {
     match why {
         Stop::Failed => failed_status(alloc, core),
@@ -74,6 +83,10 @@ fn status_of(alloc: Global, core: &Core, why: Stop) -> Status
 
 /// What the end of a run comes to.
 fn work_of(alloc: Global, name: &Name, core: &Core, why: Option<Stop>) -> Work
+    requires done { why ≡ None → IsDone core.now }
+    requires failed { why ≡ Some end.Failed → has_fault (flow_of core.now) ≡ true }
+    ensures turns { Turns name.now core.now why result }
+    ensures paths { HasPaths result }
 {
     match why {
         None => outputs_work(alloc, name, core),
@@ -103,6 +116,13 @@ pub fn idle(alloc: Global, work: Work) -> Worked
 
 /// The work of a run that ended.
 fn worked(alloc: Global, name: &Name, ran: Ran) -> Worked
+    requires done { ran.stop ≡ None → IsDone ran.core }
+    requires failed { ran.stop ≡ Some end.Failed → has_fault (flow_of ran.core) ≡ true }
+    ensures turns { Turns name.now ran.core ran.stop result.work }
+    ensures paths { HasPaths result.work }
+    ensures journal { result.journal ≡ ran.core.journal }
+    ensures steps { result.steps ≡ ran.core.steps }
+    ensures counts { result.counts ≡ ran.counts }
 {
     let Ran { core, stop, counts } = ran;
     let work = work_of(alloc, name, &core, stop);
@@ -112,5 +132,137 @@ fn worked(alloc: Global, name: &Name, ran: Ran) -> Worked
         journal,
         steps,
         counts,
+    }
+}
+
+/// The core of the main workflow before anything is taken, and the name of the workflow.
+struct Begun {
+    core: Core,
+    name: Name,
+}
+
+/// Begins a run of the main workflow.
+fn begun<S: Ledger>(
+    alloc: Global,
+    prepared: Prepared,
+    root: &Text,
+    steps: &mut Steps<S>,
+) -> Result<Begun, NoMemory>
+    requires fitting { (f : Flow) × IsFitting prepared.checked prepared.given f }
+    ensures value { IfOk result (λ b. (f : Flow) → IsFitting prepared.checked prepared.given f
+        → IsBegun prepared.checked prepared.given root.now f b) }
+{
+    let Some(flow) = main_flow(&prepared.checked) else {
+        unreachable!();
+    };
+    let name = flow.name.copy(alloc)?;
+    let site = root.copy(alloc)?;
+    let Prepared {
+        checked,
+        paths: _,
+        given,
+    } = prepared;
+    let core = Core::new(alloc, checked, given, site, steps)?;
+    Ok(Begun { core, name })
+}
+
+/// Runs the main workflow without a journal.
+fn run_unkept<L: Launcher + Sync, K: Keeper, R: Threads + Wait + Sync, S: Ledger>(
+    rt: &R,
+    alloc: Global,
+    prepared: Prepared,
+    options: &RunOptions,
+    launcher: &L,
+    steps: &mut Steps<S>,
+) -> Worked
+{
+    match begun(alloc, prepared, &options.root, steps) {
+        Ok(Begun { core, name }) => worked(
+            alloc,
+            &name,
+            run_all(
+                rt,
+                alloc,
+                core,
+                launcher,
+                None::<&mut K>,
+                Items::new(alloc),
+                options.workers,
+                steps,
+            ),
+        ),
+        Err(_) => idle(alloc, Work::Stop(stop(alloc, Status::NoMemory))),
+    }
+}
+
+/// Runs the main workflow, and keeps its journal.
+fn run_kept<L: Launcher + Sync, K: Keeper, R: Threads + Wait + Sync, S: Ledger>(
+    rt: &R,
+    alloc: Global,
+    prepared: Prepared,
+    options: &RunOptions,
+    rows: Items<Entry>,
+    launcher: &L,
+    keeper: &mut K,
+    steps: &mut Steps<S>,
+) -> Worked
+{
+    match begun(alloc, prepared, &options.root, steps) {
+        Ok(Begun { core, name }) => worked(
+            alloc,
+            &name,
+            run_all(
+                rt,
+                alloc,
+                core,
+                launcher,
+                Some(keeper),
+                rows,
+                options.workers,
+                steps,
+            ),
+        ),
+        Err(_) => idle(alloc, Work::Stop(stop(alloc, Status::NoMemory))),
+    }
+}
+
+/// Runs the main workflow with its inputs: over the rows of the journal where one is named.
+fn run_main<L: Launcher + Sync, K: Keeper, R: Threads + Wait + Sync, S: Ledger>(
+    rt: &R,
+    alloc: Global,
+    prepared: Prepared,
+    options: &RunOptions,
+    launcher: &L,
+    keeper: &mut K,
+    steps: &mut Steps<S>,
+) -> Worked
+{
+    let Some(path) = &options.journal else {
+        return run_unkept::<L, K, R, S>(rt, alloc, prepared, options, launcher, steps);
+    };
+    match rows_of(alloc, path, keeper) {
+        Ok(rows) => run_kept(
+            rt, alloc, prepared, options, rows, launcher, keeper, steps,
+        ),
+        Err(status) => idle(alloc, Work::Stop(stop(alloc, status))),
+    }
+}
+
+/// Runs the main workflow of the document at a path, with the inputs of a file.
+pub fn run<F: Shelf, L: Launcher + Sync, K: Keeper, R: Threads + Wait + Sync, S: Ledger>(
+    rt: &R,
+    alloc: Global,
+    file: &Text,
+    inputs: &Option<Text>,
+    options: &RunOptions,
+    shelf: &mut F,
+    launcher: &L,
+    keeper: &mut K,
+    steps: &mut Steps<S>,
+) -> Worked
+{
+    match start_of(alloc, file, inputs, shelf) {
+        Ok(prepared) => run_main(rt, alloc, prepared, options, launcher, keeper, steps),
+        Err(stop) => idle(alloc, Work::Stop(stop)),
     }
 }
