@@ -8,5 +8,5 @@ awk '
     for (k = 1; k <= count; k++) if (words[k] in uses && !(words[k] in seen)) visit(words[k])
     print name
   }
-  /^[a-z0-9_]+:/ { name = $1; sub(/:$/, "", name); $1 = ""; uses[name] = $0 }
+  /^[a-z0-9_]+( [a-z_]+=[^ :]+)*:/ { name = $1; sub(/:$/, "", name); sub(/^[^:]*:/, ""); uses[name] = $0 }
   END { visit("wdl") }' crates.txt

@@ -8,5 +8,5 @@ for crate in $crates; do
   for part in src specs proofs; do [ ! -d "crates/$crate/$part" ] || folders="$folders crates/$crate/$part"; done
 done
 sums=$(find $folders -type f \( -name '*.rt' -o -name '*.antt' \) -print | LC_ALL=C sort | xargs sha256sum) || exit 1
-lines=$(grep -E "^($(echo $crates | tr ' ' '|')):" crates.txt)
+lines=$(grep -E "^($(echo $crates | tr ' ' '|'))( [^:]*)?:" crates.txt)
 printf '%s\n' "$lines" "$sums" | sha256sum | cut -d ' ' -f 1

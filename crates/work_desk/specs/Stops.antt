@@ -1,0 +1,37 @@
+-- Why a run stops.
+use Rattle.std.specs.Prelude.{◌≡◌, Bool, true, false, if◌then◌else◌, Option, Some, None, Contains, ⊤}
+use Rattle.wdl_base.specs.declared.request.Request.{Request}
+use Rattle.wdl_typed.specs.Flow.{too_many}
+use Rattle.ready_core.specs.Cores.{CoreState, flow_of, has_fault}
+use Rattle.ready_core.specs.Rows.{TakenJob}
+use Rattle.work_desk.specs.declared.stop.Stop.{Stop}
+use Rattle.work_desk.specs.declared.stop.Stop.TheVariants.{Failed, NoMemory, Launch, Keep, TooMany}
+
+-- after such a stop `greedy` is asked of every step
+abbrev pub is_strict : Option Stop → Bool
+is_strict None = true
+is_strict (Some Failed) = true
+is_strict (Some TooMany) = true
+is_strict (Some NoMemory) = false
+is_strict (Some Keep) = false
+is_strict (Some (Launch p)) = false
+
+-- the first stop stays
+abbrev pub halted : Option Stop → Stop → Option Stop
+halted None why = Some why
+halted (Some s) why = Some s
+
+-- the stop after a settle, by whether a fault stands, and whether the flow is too many
+abbrev pub judged : Option Stop → Bool → Bool → Option Stop
+judged None fault many = if fault then Some Failed else if many then Some TooMany else None
+judged (Some s) fault many = Some s
+
+-- a stop comes only with its cause, and without a stop there is none in the flow over the journal
+abbrev pub Caused : (Request → Type 0) → CoreState → Option Stop → Type 0
+Caused refuses c None = (has_fault (flow_of c) ≡ false) × (too_many (flow_of c) ≡ false)
+Caused refuses c (Some Failed) = has_fault (flow_of c) ≡ true
+Caused refuses c (Some TooMany) = too_many (flow_of c) ≡ true
+Caused refuses c (Some (Launch p)) =
+    (j : TakenJob) × Contains c.taken j × (j.request.place ≡ p) × refuses j.request × Contains (flow_of c).jobs j.request
+Caused refuses c (Some NoMemory) = ⊤
+Caused refuses c (Some Keep) = ⊤

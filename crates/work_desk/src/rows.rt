@@ -1,0 +1,105 @@
+ghost use Rattle.std.specs.Prelude.{◌≡◌, true, false, Contains, IfOk, MatchOption};
+ghost use Rattle.std.specs.Option.{option_copied};
+ghost use Rattle.wdl_value.specs.Tables as tables;
+ghost use Rattle.wdl_flow.specs.Marks.{entry_marks};
+ghost use Rattle.wdl_port.specs.Rows.{rises};
+ghost use Rattle.ready_core.specs.Rows.{is_usable};
+ghost use Rattle.work_desk.specs.Keeping.{ArePlaced};
+ghost use Rattle.work_desk.specs.Run.{usable};
+
+use crate::placed::see_place;
+use ready_core::{Job, is_usable_for};
+use std::alloc::Global;
+use std::marker::Model;
+use wdl_flow::place_mark;
+use wdl_names::Places;
+use wdl_value::{Entry, Items, NoMemory, Request, same_place};
+
+/// The rows of an earlier run, in rising order, found by their place and attempt in logarithmic time.
+#[derive(Drop)]
+pub(crate) struct Rows {
+    entries: Items<Entry>,
+    marks: Places,
+}
+
+impl Model for Rows {
+    ghost use Rattle.std.specs.Prelude.{◌≡◌, List, true};
+    ghost use Rattle.wdl_base.specs.declared.entry.Entry.{Entry};
+    ghost use Rattle.wdl_flow.specs.Marks.{entry_marks};
+    ghost use Rattle.wdl_port.specs.Rows.{rises};
+    ghost use Rattle.work_desk.specs.Keeping.{ArePlaced};
+
+    ghost Value = { List Entry };
+
+    ghost view = { λ r. r.entries };
+
+    ghost invariant = { λ r. (r.marks ≡ entry_marks r.entries) × (rises r.entries ≡ true) × ArePlaced r.entries };
+}
+
+fn marks_of(alloc: Global, entries: &[Entry]) -> Result<Places, NoMemory>
+    ensures marks { IfOk result (λ m. m ≡ entry_marks entries.now) }
+{
+    let mut marks = Places::empty(alloc);
+    for entry in entries {
+        let request = &entry.request;
+        marks.push(place_mark(request.place.as_slice(), request.attempt))?;
+    }
+    Ok(marks)
+}
+
+fn see_rows(entries: &[Entry])
+    ensures placed { ArePlaced entries.now }
+{
+    for entry in entries {
+        see_place(&entry.request.place);
+    }
+}
+
+fn is_at(entry: &Entry, request: &Request) -> bool
+    ensures at { result ≡ tables.is_at request.now.place request.now.attempt (tables.row_of entry.now) }
+{
+    same_place(entry.request.place.as_slice(), request.place.as_slice())
+        && entry.request.attempt == request.attempt
+}
+
+// The row of the job's place and attempt, where it is usable.
+fn row_among<'a>(entries: &'a [Entry], job: &Job) -> Option<&'a Entry>
+    requires rise { rises entries.now ≡ true }
+    ensures found { MatchOption (option_copied result) (usable entries.now job.now ≡ false)
+        (λ row. Contains entries.now row × (is_usable job.now row ≡ true)) }
+{
+    for entry in entries {
+        if is_at(entry, job.request()) {
+            return if is_usable_for(entry, job) {
+                Some(entry)
+            } else {
+                None
+            };
+        }
+    }
+    None
+}
+
+impl Rows {
+    pub(crate) fn new(alloc: Global, entries: Items<Entry>) -> Result<Rows, NoMemory>
+        requires rise { rises entries ≡ true }
+        ensures rows { IfOk result (λ r. r ≡ entries) }
+    {
+        see_rows(entries.as_slice());
+        let marks = marks_of(alloc, entries.as_slice())?;
+        Ok(Rows { entries, marks })
+    }
+
+    /// The row that is usable for a job. It takes no memory.
+    pub(crate) fn find(&self, job: &Job) -> Option<&Entry>
+        ensures found { MatchOption (option_copied result) (usable self.now job.now ≡ false)
+            (λ row. Contains self.now row × (is_usable job.now row ≡ true)) }
+        ensures placed { ArePlaced self.now }
+    {
+        let request = job.request();
+        let from = self
+            .marks
+            .place(place_mark(request.place.as_slice(), request.attempt));
+        row_among(&self.entries[from..], job)
+    }
+}

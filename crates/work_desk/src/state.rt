@@ -1,0 +1,142 @@
+ghost use Rattle.std.specs.Prelude.{◌≡◌, ◌<◌, ◌≤◌, ◌+◌, ◌++◌, ◌∷◌, [], ℕ, true, length, OnOk, MatchOption, MatchResult};
+ghost use Rattle.work_desk.specs.Held.{held};
+ghost use Rattle.work_desk.specs.Views.{DeskView, IsDesk, out_of, Good, counts};
+
+use crate::pact::{CollectedOf, Pact, PutOf, Shares};
+use ready_core::{Answered, Job, Unlaunched};
+use std::marker::Model;
+use std::sync::ledger::Book;
+use wdl_value::Counts;
+
+/// The end of a launch.
+#[derive(Debug, Drop)]
+pub enum Finished {
+    Done(Answered),
+    Undone(Unlaunched),
+}
+
+/// The state under the lock.
+#[derive(Drop)]
+pub struct DeskState<P: Pact> {
+    pub(crate) waiting: Vec<Job>,
+    pub(crate) running: u32,
+    pub(crate) answers: Vec<Finished>,
+    pub(crate) closed: bool,
+    pub(crate) put: u64,
+    pub(crate) picked: u64,
+    pub(crate) finished: u64,
+    pub(crate) collected: u64,
+    pub(crate) put_book: Book<PutOf<P>>,
+    pub(crate) collected_book: Book<CollectedOf<P>>,
+}
+
+impl<P: Pact> Model for DeskState<P> {
+    ghost use Rattle.work_desk.specs.Views.{DeskView, desk_view, IsDesk, HasRoom};
+    ghost use Rattle.std.specs.Prelude.{◌≡◌, vec_capacity};
+
+    ghost Value = { DeskView };
+
+    ghost view = { λ s. desk_view s.waiting.items s.running s.answers.items s.closed s.put s.picked s.finished s.collected };
+
+    ghost invariant = { λ s.
+        IsDesk P.workers P.gives P.refuses (desk_view s.waiting.items s.running s.answers.items s.closed s.put s.picked s.finished s.collected)
+        × HasRoom P.workers (vec_capacity s.waiting) (vec_capacity s.answers)
+        × (s.put_book.total ≡ s.put) × (s.collected_book.total ≡ s.collected) };
+}
+
+impl<P: Pact> DeskState<P> {
+    /// Changes nothing, and tells how the counts stand to the shares.
+    pub fn know(&mut self, shares: &mut Shares<P>)
+        ensures same { (self.new ≡ self.old) × (shares.new ≡ shares.old) }
+        ensures put { self.old.put ≡ shares.old.put }
+        ensures collected { self.old.collected ≡ shares.old.collected }
+        ensures desk { IsDesk P.workers P.gives P.refuses self.old }
+    {
+        self.put_book.audit(&mut shares.put);
+        self.collected_book.audit(&mut shares.collected);
+    }
+
+    pub fn put(&mut self, job: Job, shares: &mut Shares<P>)
+        requires out { out_of self.old < P.workers }
+        requires few { self.old.put < 20000 }
+        ensures state { self.new ≡ record self.old { waiting = self.old.waiting ++ job ∷ []; put = self.old.put + 1 } }
+        ensures shares { shares.new ≡ held (shares.old.put + 1) shares.old.collected }
+    {
+        self.put_book.add(&mut shares.put, 1);
+        self.waiting.push_reserved(job);
+        self.put += 1;
+    }
+
+    pub fn pick(&mut self) -> Option<Job>
+        ensures { MatchOption result ((self.old.waiting ≡ []) × (self.new ≡ self.old))
+            (λ j. (self.old.waiting ≡ self.new.waiting ++ j ∷ []) × (self.new ≡ record self.old { waiting = self.new.waiting; running = self.old.running + 1; picked = self.old.picked + 1 })) }
+    {
+        let job = self.waiting.pop()?;
+        self.running += 1;
+        self.picked += 1;
+        Some(job)
+    }
+
+    pub fn finish(&mut self, f: Finished) -> Result<(), Finished>
+        requires { Good P.gives P.refuses f }
+        ensures { MatchResult result
+            (λ _. (self.new.running + 1 ≡ self.old.running) × (self.new ≡ record self.old { answers = self.old.answers ++ f ∷ []; running = self.new.running; finished = self.old.finished + 1 }))
+            (λ g. (g ≡ f) × (self.old.running ≡ 0) × (self.new ≡ self.old)) }
+    {
+        if self.running == 0 {
+            return Err(f);
+        }
+        self.running -= 1;
+        self.finished += 1;
+        self.answers.push_reserved(f);
+        Ok(())
+    }
+
+    pub fn collect(&mut self, shares: &mut Shares<P>) -> Option<Finished>
+        ensures { MatchOption result ((self.old.answers ≡ []) × (self.new ≡ self.old) × (shares.new ≡ shares.old))
+            (λ f. Good P.gives P.refuses f × (self.old.answers ≡ self.new.answers ++ f ∷ []) × (self.new ≡ record self.old { answers = self.new.answers; collected = self.old.collected + 1 }) × (shares.new ≡ held shares.old.put (shares.old.collected + 1))) }
+    {
+        let f = self.answers.pop()?;
+        self.collected_book.add(&mut shares.collected, 1);
+        self.collected += 1;
+        Some(f)
+    }
+
+    pub fn close(&mut self)
+        ensures { self.new ≡ record self.old { closed = true } }
+    {
+        self.closed = true;
+    }
+
+    pub fn closed(&self) -> bool
+        ensures { result ≡ self.now.closed }
+    {
+        self.closed
+    }
+
+    // Whether a worker has nothing to do yet.
+    pub(crate) fn keeps_waiting(&self) -> bool {
+        self.waiting.is_empty() && !self.closed
+    }
+
+    pub(crate) fn has_no_answer(&self) -> bool {
+        self.answers.is_empty()
+    }
+
+    pub fn out(&self) -> u32
+        ensures { result ≡ out_of self.now }
+    {
+        self.waiting.len() as u32 + self.running + self.answers.len() as u32
+    }
+
+    pub fn counts(&self) -> Counts
+        ensures { result ≡ counts self.now }
+    {
+        Counts {
+            put: self.put,
+            picked: self.picked,
+            finished: self.finished,
+            collected: self.collected,
+        }
+    }
+}
