@@ -88,6 +88,10 @@ flow_of m = flow_at (origin_of m)
 abbrev pub IsOn : List ℕ → Option (List ℕ) → Type 0
 IsOn path at = (at ≡ Some path) ⊎ (at ≡ None)
 
+-- a journal is named, and the keeper is started on no other path
+abbrev pub NamesJournal : Option (List ℕ) → Option (List ℕ) → Type 0
+NamesJournal journal at = (path : List ℕ) × (journal ≡ Some path) × IsOn path at
+
 -- the rows that a run resumes from: those of the keeper where a journal is named, and else none
 abbrev pub AreRowsOf : KeeperView → Option (List ℕ) → List Entry → Type 0
 AreRowsOf k None rows = rows ≡ []

@@ -5,7 +5,7 @@ use Rattle.wdl_base.specs.declared.entry.Entry.{Entry}
 use Rattle.wdl_base.specs.declared.request.Request.{Request}
 use Rattle.wdl_value.specs.declared.env.Bind.{Bind}
 use Rattle.wdl_port.specs.Causes.{Rose}
-use Rattle.wdl_port.specs.Rows.{AreRows, rises}
+use Rattle.wdl_port.specs.Rows.{AreRows, are_kept, rises}
 use Rattle.report_text.specs.declared.status.Status.{Status}
 use Rattle.report_text.specs.declared.status.Status.TheVariants as status
 use Rattle.wdl_typed.specs.declared.checked.Checked.{Checked}
@@ -158,6 +158,7 @@ pub record IsOpened (path : List ℕ) (k l : KeeperView) (rows : List Entry) : T
   pub later : k.faults ≤ l.faults
   pub told : AreRows k.kept rows
   pub order : rises rows ≡ true
+  pub sources : are_kept rows ≡ true
 
 abbrev pub OpenStops : List ℕ → KeeperView → KeeperView → Status → Type 0
 OpenStops path k l status.Keep = (l.path ≡ Some path) × Rose k.faults l.faults

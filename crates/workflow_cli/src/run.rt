@@ -1,14 +1,18 @@
 //! The run of the main workflow.
 
-ghost use Rattle.std.specs.Prelude.{◌≡◌, ◌≤◌, ◌⊎◌, ◌++◌, [], codes, length, List, None, Some, Option, ℕ, IfOk};
+ghost use Rattle.std.specs.Prelude.{◌≡◌, ◌≤◌, ◌⊎◌, ◌++◌, true, ℕ, List, [], codes, None, Some, IfOk};
+ghost use Rattle.report_text.specs.Lines.{HasPath};
+ghost use Rattle.ready_core.specs.Cores.{flow_of, has_fault};
 ghost use Rattle.wdl_json.specs.Outputs.{outputs_text as spec_text};
 ghost use Rattle.wdl_port.specs.Causes.{Rose};
+ghost use Rattle.wdl_port.specs.Rows.{are_kept, rises};
 ghost use Rattle.wdl_typed.specs.declared.flow.FlowDef.{FlowDef as Flow};
-ghost use Rattle.work_desk.specs.Keeping.{keeper_view};
+ghost use Rattle.work_desk.specs.Keeping.{IsReady, KeeperView, keeper_view};
+ghost use Rattle.work_desk.specs.Ran.{IsDone};
 ghost use Rattle.work_desk.specs.Views.{AllEqual};
-ghost use Rattle.workflow_cli.specs.Causes.{IsOn};
-ghost use Rattle.workflow_cli.specs.Running.{work_trace};
-ghost use Rattle.workflow_cli.specs.Stages.{IsFitting, RunsFile, RunsMain, Turns};
+ghost use Rattle.work_desk.specs.declared.stop.Stop.TheVariants as end;
+ghost use Rattle.workflow_cli.specs.Running.{NamesJournal, work_trace};
+ghost use Rattle.workflow_cli.specs.Stages.{IsBegun, IsFailedAs, IsFitting, IsOpened, RunsFile, RunsMain, StopsAs, Turns, main_with};
 ghost use Rattle.workflow_cli.specs.Writing.{HasPaths};
 
 use crate::asking::RunOptions;
@@ -23,7 +27,7 @@ use std::sync::Wait;
 use std::sync::ledger::Ledger;
 use std::thread::Threads;
 use wdl_json::outputs_text;
-use wdl_port::{Keeper, Launcher, Shelf};
+use wdl_port::{Keeper, Launcher, NoKeeper, Shelf};
 use wdl_value::{Bind, Counts, Entry, Items, Name, NoMemory, Steps, Text};
 use work_desk::{Ran, Stop, run_all};
 
@@ -136,6 +140,7 @@ fn worked(alloc: Global, name: &Name, ran: Ran) -> Worked
 }
 
 /// The core of the main workflow before anything is taken, and the name of the workflow.
+#[derive(Drop)]
 struct Begun {
     core: Core,
     name: Name,
@@ -167,7 +172,7 @@ fn begun<S: Ledger>(
 }
 
 /// Runs the main workflow without a journal.
-fn run_unkept<L: Launcher + Sync, K: Keeper, R: Threads + Wait + Sync, S: Ledger>(
+fn run_plain<L: Launcher + Sync, R: Threads + Wait + Sync, S: Ledger>(
     rt: &R,
     alloc: Global,
     prepared: Prepared,
@@ -175,28 +180,32 @@ fn run_unkept<L: Launcher + Sync, K: Keeper, R: Threads + Wait + Sync, S: Ledger
     launcher: &L,
     steps: &mut Steps<S>,
 ) -> Worked
+    requires fitting { (f : Flow) × IsFitting prepared.checked prepared.given f }
+    requires workers { (1 ≤ options.now.workers) × (options.now.workers ≤ 64) }
+    requires none { options.now.journal ≡ None }
+    ensures value { (f : Flow) → IsFitting prepared.checked prepared.given f → (k : KeeperView)
+        → RunsMain (L.gives launcher.now) (L.refuses launcher.now) (work_trace result steps.old steps.new k k)
+        (main_with prepared.checked prepared.given options.now f) result.work }
+    ensures paths { HasPaths result.work }
 {
-    match begun(alloc, prepared, &options.root, steps) {
-        Ok(Begun { core, name }) => worked(
-            alloc,
-            &name,
-            run_all(
-                rt,
-                alloc,
-                core,
-                launcher,
-                None::<&mut K>,
-                Items::new(alloc),
-                options.workers,
-                steps,
-            ),
-        ),
-        Err(_) => idle(alloc, Work::Stop(stop(alloc, Status::NoMemory))),
-    }
+    let Ok(Begun { core, name }) = begun(alloc, prepared, &options.root, steps) else {
+        return idle(alloc, Work::Stop(stop(alloc, Status::NoMemory)));
+    };
+    let ran = run_all(
+        rt,
+        alloc,
+        core,
+        launcher,
+        None::<&mut NoKeeper>,
+        Items::new(alloc),
+        options.workers,
+        steps,
+    );
+    worked(alloc, &name, ran)
 }
 
-/// Runs the main workflow, and keeps its journal.
-fn run_kept<L: Launcher + Sync, K: Keeper, R: Threads + Wait + Sync, S: Ledger>(
+/// Runs the main workflow over the rows of its journal, and keeps its answers there.
+fn run_over<L: Launcher + Sync, K: Keeper, R: Threads + Wait + Sync, S: Ledger>(
     rt: &R,
     alloc: Global,
     prepared: Prepared,
@@ -206,27 +215,35 @@ fn run_kept<L: Launcher + Sync, K: Keeper, R: Threads + Wait + Sync, S: Ledger>(
     keeper: &mut K,
     steps: &mut Steps<S>,
 ) -> Worked
+    requires fitting { (f : Flow) × IsFitting prepared.checked prepared.given f }
+    requires workers { (1 ≤ options.now.workers) × (options.now.workers ≤ 64) }
+    requires ready { IsReady rows (keeper_view (K.kept keeper.old) (K.path keeper.old) (K.faults keeper.old)) }
+    requires rise { rises rows ≡ true }
+    requires kept { are_kept rows ≡ true }
+    ensures value { (f : Flow) → IsFitting prepared.checked prepared.given f → (path : List ℕ) (k : KeeperView)
+        → options.now.journal ≡ Some path → IsOpened path k (keeper_view (K.kept keeper.old) (K.path keeper.old) (K.faults keeper.old)) rows
+        → RunsMain (L.gives launcher.now) (L.refuses launcher.now) (work_trace result steps.old steps.new k (keeper_view (K.kept keeper.new) (K.path keeper.new) (K.faults keeper.new)))
+        (main_with prepared.checked prepared.given options.now f) result.work }
+    ensures paths { HasPaths result.work }
+    ensures path { K.path keeper.new ≡ K.path keeper.old }
 {
-    match begun(alloc, prepared, &options.root, steps) {
-        Ok(Begun { core, name }) => worked(
-            alloc,
-            &name,
-            run_all(
-                rt,
-                alloc,
-                core,
-                launcher,
-                Some(keeper),
-                rows,
-                options.workers,
-                steps,
-            ),
-        ),
-        Err(_) => idle(alloc, Work::Stop(stop(alloc, Status::NoMemory))),
-    }
+    let Ok(Begun { core, name }) = begun(alloc, prepared, &options.root, steps) else {
+        return idle(alloc, Work::Stop(stop(alloc, Status::NoMemory)));
+    };
+    let ran = run_all(
+        rt,
+        alloc,
+        core,
+        launcher,
+        Some(keeper),
+        rows,
+        options.workers,
+        steps,
+    );
+    worked(alloc, &name, ran)
 }
 
-/// Runs the main workflow with its inputs: over the rows of the journal where one is named.
+/// Runs the main workflow with its inputs: over the rows of its journal where one is named.
 fn run_main<L: Launcher + Sync, K: Keeper, R: Threads + Wait + Sync, S: Ledger>(
     rt: &R,
     alloc: Global,
@@ -236,14 +253,20 @@ fn run_main<L: Launcher + Sync, K: Keeper, R: Threads + Wait + Sync, S: Ledger>(
     keeper: &mut K,
     steps: &mut Steps<S>,
 ) -> Worked
+    requires fitting { (f : Flow) × IsFitting prepared.checked prepared.given f }
+    requires workers { (1 ≤ options.now.workers) × (options.now.workers ≤ 64) }
+    requires fresh { K.path keeper.old ≡ None }
+    ensures value { (f : Flow) → IsFitting prepared.checked prepared.given f
+        → RunsMain (L.gives launcher.now) (L.refuses launcher.now) (work_trace result steps.old steps.new (keeper_view (K.kept keeper.old) (K.path keeper.old) (K.faults keeper.old)) (keeper_view (K.kept keeper.new) (K.path keeper.new) (K.faults keeper.new)))
+        (main_with prepared.checked prepared.given options.now f) result.work }
+    ensures paths { HasPaths result.work }
+    ensures keeper { (keeper.new ≡ keeper.old) ⊎ NamesJournal options.now.journal (K.path keeper.new) }
 {
     let Some(path) = &options.journal else {
-        return run_unkept::<L, K, R, S>(rt, alloc, prepared, options, launcher, steps);
+        return run_plain(rt, alloc, prepared, options, launcher, steps);
     };
     match rows_of(alloc, path, keeper) {
-        Ok(rows) => run_kept(
-            rt, alloc, prepared, options, rows, launcher, keeper, steps,
-        ),
+        Ok(rows) => run_over(rt, alloc, prepared, options, rows, launcher, keeper, steps),
         Err(status) => idle(alloc, Work::Stop(stop(alloc, status))),
     }
 }
@@ -260,6 +283,13 @@ pub fn run<F: Shelf, L: Launcher + Sync, K: Keeper, R: Threads + Wait + Sync, S:
     keeper: &mut K,
     steps: &mut Steps<S>,
 ) -> Worked
+    requires workers { (1 ≤ options.now.workers) × (options.now.workers ≤ 64) }
+    requires fresh { K.path keeper.old ≡ None }
+    ensures value { RunsFile (F.tells shelf.old) (F.refuses shelf.old) (Rose (F.faults shelf.old) (F.faults shelf.new))
+        (L.gives launcher.now) (L.refuses launcher.now) file.now inputs.now options.now
+        (work_trace result steps.old steps.new (keeper_view (K.kept keeper.old) (K.path keeper.old) (K.faults keeper.old)) (keeper_view (K.kept keeper.new) (K.path keeper.new) (K.faults keeper.new))) result.work }
+    ensures paths { HasPaths result.work }
+    ensures keeper { (keeper.new ≡ keeper.old) ⊎ NamesJournal options.now.journal (K.path keeper.new) }
 {
     match start_of(alloc, file, inputs, shelf) {
         Ok(prepared) => run_main(rt, alloc, prepared, options, launcher, keeper, steps),
