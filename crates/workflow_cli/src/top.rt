@@ -114,8 +114,9 @@ pub fn workflow<
         steps: taken,
         counts,
     } = work(rt, alloc, words, shelf, launcher, keeper, steps);
+    let status = finish(alloc, work, out, err);
     Ended {
-        status: finish(alloc, work, out, err),
+        status,
         journal,
         steps: taken,
         counts,
