@@ -44,7 +44,7 @@ module _ (r : Run) (n : Names) (place : List Segment) (t : TaskDef) (call : List
     (success : (status : ℕ) → status < 256 → is_success a.codes status ≡ means.is_success tool.codes status)
     (tell : (answer : Answer) → ToldAgree outs call (outputs_met r.library.structs (job_dir r.site place 0) answer a.env t.outputs) (files_at (ground_of r) place answer tool.outputs)) where
   abbrev One : Flowing → Flowing
-  One f = with_jobs (request r.site place 0 a ∷ []) f
+  One f = with_jobs (request r.site place 0 a ∷ []) (a.codes ∷ []) f
 
   abbrev Of : Option (List Named) → Meaning
   Of o = record { outputs = o; jobs = record { place = place; command = a.command } ∷ [] }

@@ -93,10 +93,10 @@ module _ (lib : Library) (site : List ℕ) (n : Names) (place : List Segment) (t
 
     attempts_under : (left attempt : ℕ) → Under (attempts (run_with lib site a) n place t call q left attempt) (attempts (run_with lib site b) n place t call q left attempt)
     attempts_under zero attempt =
-        under_jobs (request site place attempt q) _ _
+        under_jobs (request site place attempt q) q.codes _ _
         (attempted_under attempt true (missing n) (missing n) (answer_at a place attempt) (answer_at b place attempt) (stay place attempt) (under_itself (missing n)) (missing_gives n))
     attempts_under (suc left) attempt =
-        under_jobs (request site place attempt q) _ _
+        under_jobs (request site place attempt q) q.codes _ _
         (attempted_under attempt false _ _ (answer_at a place attempt) (answer_at b place attempt) (stay place attempt) (attempts_under left (attempt + 1)) (attempts_give b left (attempt + 1)))
 
     attempted_same : (attempt : ℕ) (last : Bool) (later other : Flowing) (o p : Option Answer) → Stays o p → (is_clean later ≡ true → later ≡ other)
@@ -118,10 +118,10 @@ module _ (lib : Library) (site : List ℕ) (n : Names) (place : List Segment) (t
     attempts_same : (left attempt : ℕ) → is_clean (attempts (run_with lib site a) n place t call q left attempt) ≡ true
         → attempts (run_with lib site a) n place t call q left attempt ≡ attempts (run_with lib site b) n place t call q left attempt
     attempts_same zero attempt h =
-        ap (with_jobs (request site place attempt q ∷ []))
+        ap (with_jobs (request site place attempt q ∷ []) (q.codes ∷ []))
         (attempted_same attempt true (missing n) (missing n) (answer_at a place attempt) (answer_at b place attempt) (stay place attempt) (λ k. refl) h)
     attempts_same (suc left) attempt h =
-        ap (with_jobs (request site place attempt q ∷ []))
+        ap (with_jobs (request site place attempt q ∷ []) (q.codes ∷ []))
         (attempted_same attempt false _ _ (answer_at a place attempt) (answer_at b place attempt) (stay place attempt) (attempts_same left (attempt + 1)) h)
 
 -- ---- what a task call asks for

@@ -7,6 +7,7 @@ use Rattle.wdl_base.specs.declared.name.Key.{Key}
 use Rattle.wdl_base.specs.declared.request.Request.{Request}
 use Rattle.wdl_value.specs.declared.value.Value.{Value}
 use Rattle.wdl_typed.specs.Flow.{Ended, Flowing, Known, Names, each_call, each_key, has_ended, giving, missing, together, with_count, with_jobs}
+use Rattle.wdl_typed.specs.Requests.{Successes}
 use Rattle.flow_laws.specs.Below.{IsWithin}
 use Rattle.flow_laws.proofs.KnownNames.{NamesStay, calls_of, keys_of, names_stay_both, names_stay_same}
 use Rattle.flow_laws.proofs.Within.{within_both, within_itself, within_more, within_nothing}
@@ -92,8 +93,8 @@ under_together f g h j a b =
 pub under_count : (n : ℕ) (f g : Flowing) → Under f g → Under (with_count n f) (with_count n g)
 under_count n f g a = record { names = a.names; calls = a.calls; jobs = a.jobs; size = a.size; faults = a.faults; count = omega (arith, a.count) }
 
-pub under_jobs : (r : Request) (f g : Flowing) → Under f g → Under (with_jobs (r ∷ []) f) (with_jobs (r ∷ []) g)
-under_jobs r f g a = record { names = a.names; calls = a.calls; jobs = within_more r f.jobs g.jobs a.jobs; size = omega (arith, a.size); faults = a.faults; count = a.count }
+pub under_jobs : (r : Request) (c : Successes) (f g : Flowing) → Under f g → Under (with_jobs (r ∷ []) (c ∷ []) f) (with_jobs (r ∷ []) (c ∷ []) g)
+under_jobs r c f g a = record { names = a.names; calls = a.calls; jobs = within_more r f.jobs g.jobs a.jobs; size = omega (arith, a.size); faults = a.faults; count = a.count }
 
 -- ---- nothing is known yet
 

@@ -256,7 +256,7 @@ module _ (lib : Library) (site : List ℕ) (table : List Row) (desc : ℕ → Ru
         ∙ ap (λ (ms : List Mark). make (map (known_in cells) g.names) (map (ended_in cells) ms)) (sym ends)
       where
         make : List Known → List Ended → Flowing
-        make ks es = record { names = ks; calls = es; jobs = w.jobs; faults = w.faults; waits = w.waits; count = w.count }
+        make ks es = record { names = ks; calls = es; jobs = w.jobs; codes = w.codes; faults = w.faults; waits = w.waits; count = w.count }
 
     -- ---- what is passed over, items, inputs and outputs
 

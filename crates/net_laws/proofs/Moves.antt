@@ -292,7 +292,7 @@ module _ (lib : Library) (site : List ℕ) (rows later : List Row) (desc more : 
         (ap is_some (grows.cells d done) ∙ done)
       where
         make : List Known → List Ended → Flowing
-        make ks es = record { names = ks; calls = es; jobs = []; faults = []; waits = []; count = 0 }
+        make ks es = record { names = ks; calls = es; jobs = []; codes = []; faults = []; waits = []; count = 0 }
     moved (true_if depth x s g h d u ds y q n set e on out p names calls ended) =
         let same = grows.needs u _ q in
         true_if depth x s g h d u ds y (grows.done u _ q) (names_needed u s x.cond same n) (needs_set u same set) (head_same u s x.cond n set (Some (Ok y)) e) on (outside x.body g out) (moved p)

@@ -185,7 +185,7 @@ module _ (cells : Cells) where
   -- ---- names and calls without a value
 
   abbrev gone : List Known → List Ended → Flowing
-  gone ks es = record { names = ks; calls = es; jobs = []; faults = []; waits = []; count = 0 }
+  gone ks es = record { names = ks; calls = es; jobs = []; codes = []; faults = []; waits = []; count = 0 }
 
   names_missing : (ss : List Slot) → All (λ c. cells c ≡ None) (map slot_cell ss) → each_key None (slot_keys ss) ≡ map (known_in cells) ss
   names_missing [] h = refl

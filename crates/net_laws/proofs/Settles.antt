@@ -21,7 +21,7 @@ use Rattle.wdl_typed.specs.Bodies.{Library}
 use Rattle.wdl_typed.specs.Evaluation.{value_of}
 use Rattle.wdl_typed.specs.Flow.{Callee, Ended, Flowing, Known, Names, Run, Sight, all_known, args_known, args_met, asked, attempted, attempts, bound_output, call_of, called, concluded, declaration, declared_as, env_of, failing_at, has_ended, is_clean, known, missing, named, task_called, waiting, with_args, with_fault, with_jobs}
 use Rattle.wdl_typed.specs.KnownTypes.{is_some}
-use Rattle.wdl_typed.specs.Requests.{Asked, Failing, Tried, asks, bad_status, before, is_success, job_dir, request, tells}
+use Rattle.wdl_typed.specs.Requests.{Asked, Failing, Successes, Tried, asks, bad_status, before, is_success, job_dir, request, tells}
 use Rattle.flow_laws.specs.Laws.{run_with}
 use Rattle.net_laws.specs.Net.{Cells, Given, Mark, Slot, Work, ended_in, flowing_of, known_in}
 use Rattle.net_laws.specs.Planned.{call_names}
@@ -47,8 +47,8 @@ settles_cond : (b : Bool) (f g : Flowing) → Settles f → Settles g → Settle
 settles_cond true f g h j = h
 settles_cond false f g h j = j
 
-settles_jobs : (jobs : List Request) (f : Flowing) → Settles f → Settles (with_jobs jobs f)
-settles_jobs jobs f h = record { ends = h.ends; told = h.told }
+settles_jobs : (jobs : List Request) (successes : List Successes) (f : Flowing) → Settles f → Settles (with_jobs jobs successes f)
+settles_jobs jobs successes f h = record { ends = h.ends; told = h.told }
 
 bound_valued : (call : List ℕ) (outs : List Bind) → all_valued (map (bound_output call) outs) ≡ true
 bound_valued call [] = refl
@@ -82,9 +82,9 @@ module _ (r : Run) (callee : Callee) (x : TCall) (place : List Segment) where
 
   all_attempts : (t : TaskDef) (a : Asked) (left attempt : ℕ) → Settles (attempts r n place t x.name a left attempt)
   all_attempts t a zero attempt =
-      settles_jobs (request r.site place attempt a ∷ []) (attempted r n place t x.name a attempt true (missing n) (answer_at r.table place attempt)) (last_attempt t a attempt (missing n) (answer_at r.table place attempt))
+      settles_jobs (request r.site place attempt a ∷ []) (a.codes ∷ []) (attempted r n place t x.name a attempt true (missing n) (answer_at r.table place attempt)) (last_attempt t a attempt (missing n) (answer_at r.table place attempt))
   all_attempts t a (suc left) attempt =
-      settles_jobs (request r.site place attempt a ∷ []) (attempted r n place t x.name a attempt false (attempts r n place t x.name a left (attempt + 1)) (answer_at r.table place attempt))
+      settles_jobs (request r.site place attempt a ∷ []) (a.codes ∷ []) (attempted r n place t x.name a attempt false (attempts r n place t x.name a left (attempt + 1)) (answer_at r.table place attempt))
       (an_attempt t a attempt (attempts r n place t x.name a left (attempt + 1)) (all_attempts t a left (attempt + 1)) (answer_at r.table place attempt))
 
   asking : (t : TaskDef) (o : Tried Asked) → Settles (asked r n place t x.name o)

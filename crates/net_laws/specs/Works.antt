@@ -1,4 +1,4 @@
--- What a growing net comes to: its work (requests, faults, waits and counts), leaf by leaf, and how many expressions its taken steps evaluated.
+-- What a growing net comes to: its work (requests, their statuses of success, faults, waits and counts), leaf by leaf, and how many expressions its taken steps evaluated.
 use Rattle.std.proofs.Common.{inl, inr}
 use Rattle.std.specs.Prelude.{ℕ, ◌+◌, ◌&&◌, List, [], ◌∷◌, ◌++◌, length, map, codes, if◌then◌else◌}
 use Rattle.std.specs.List.{list_all}
@@ -16,7 +16,7 @@ use Rattle.net_laws.specs.Planned.{counted}
 use Rattle.net_laws.specs.Growing.{Declared, Form, Growing, Rule, State, absent_input, default_input, each_scatter, failed_if, failed_scatter, false_if, flow_whole, given_input, item_next, left_call, left_decl, left_if, left_scatter, next, no_input, no_item, no_output, none_left, output_next, run_call, told_call, told_decl, true_if}
 
 abbrev pub faulty : Fault → Work
-faulty f = record { jobs = []; faults = f ∷ []; waits = []; count = 0 }
+faulty f = record { jobs = []; codes = []; faults = f ∷ []; waits = []; count = 0 }
 
 module _ (lib : Library) (site : List ℕ) (table : List Row) (desc : ℕ → Rule → Type 0) (st : State) where
   abbrev pub told_work : (name : List ℕ) (e : TExpr) (s : Scope) (c : ℕ) → Declared lib site table desc st name e s c → Work

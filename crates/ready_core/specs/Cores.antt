@@ -42,9 +42,13 @@ jobs_of f = paired f.jobs f.codes
 abbrev pub has_fault : Flowing → Bool
 has_fault f = not (is_empty f.faults)
 
+-- the job is of the place and the attempt of the request
+abbrev pub is_taking : Request → TakenJob → Bool
+is_taking r j = same_place j.request.place r.place && j.request.attempt == r.attempt
+
 -- the place and the attempt of the request were taken
 abbrev pub is_taken : List TakenJob → Request → Bool
-is_taken taken r = list_any (λ (j : TakenJob). same_place j.request.place r.place && j.request.attempt == r.attempt) taken
+is_taken taken r = list_any (is_taking r) taken
 
 abbrev pub all_taken : Flowing → List TakenJob → Bool
 all_taken f taken = list_all (is_taken taken) f.jobs

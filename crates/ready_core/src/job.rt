@@ -7,7 +7,7 @@ use std::alloc::Global;
 use std::marker::Model;
 use wdl_port::{LaunchFault, Launcher};
 use wdl_typed::Success;
-use wdl_value::{Entry, NoMemory, Request, Source, same_request};
+use wdl_value::{Entry, NoMemory, Place, Request, Source, same_request};
 
 /// A job that was taken: a request, and which statuses are successes of it. Only a core makes one.
 #[derive(Debug, Drop)]
@@ -74,6 +74,12 @@ impl Job {
         ensures request { result.now ≡ self.now.request }
     {
         &self.request
+    }
+
+    pub(crate) fn into_place(self) -> Place
+        ensures place { result ≡ self.request.place }
+    {
+        self.request.place
     }
 
     /// Which statuses are successes, by the value of `returnCodes` of its task. It takes no memory.

@@ -5,8 +5,10 @@
 mod history;
 mod job;
 mod laws;
+mod log;
 mod pending;
 mod ready;
+mod taken;
 mod turn;
 
 pub use history::{History, SettleFault};

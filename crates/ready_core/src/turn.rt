@@ -1,0 +1,165 @@
+ghost use Rattle.std.specs.Prelude.{◌≡◌, ◌++◌, ◌∷◌, [], true, ℕ, Some, IfOk, IsSome, OnOk, if◌then◌else◌, is_some, length, map, reverse, slice_get};
+ghost use Rattle.wdl_typed.specs.declared.flow.FlowDef.{FlowDef};
+ghost use Rattle.wdl_typed.specs.Journal.{inputs_fit};
+ghost use Rattle.wdl_typed.specs.Statuses.{successes_of};
+ghost use Rattle.ready_core.specs.Cores as spec;
+ghost use Rattle.ready_core.specs.Flows.{flow_after};
+ghost use Rattle.ready_core.specs.Turns as turns;
+
+use crate::job::Job;
+use crate::pending::Pending;
+use crate::taken::Taken;
+use std::alloc::Global;
+use std::sync::ledger::Ledger;
+use wdl_plain::{Flow, PlainFault, flow_now};
+use wdl_typed::{Checked, Success};
+use wdl_value::{Entry, Env, Fault, Items, NoMemory, Request, Steps, Text};
+
+/// What a run is of.
+#[derive(Debug, Drop)]
+pub struct Over {
+    pub checked: Checked,
+    pub inputs: Env,
+    pub site: Text,
+}
+
+/// What the flow over a journal comes to: the jobs that may be taken, the next one last, a fault, whether it is past its limits,
+/// and the outputs where it is clean. There are no such jobs where it has a fault or is past its limits.
+#[derive(Debug, Drop)]
+pub struct Turn {
+    pub ready: Vec<Pending>,
+    pub fault: Option<Fault>,
+    pub many: bool,
+    pub outcome: Option<Env>,
+}
+
+/// Adds the job behind the others, unless its place and attempt were taken.
+fn offer<'a>(
+    alloc: Global,
+    request: Request,
+    codes: Success,
+    taken: &Taken<'a>,
+    ready: &mut Vec<Pending>,
+) -> Result<(), NoMemory>
+    ensures offered { OnOk result (ready.new.items ≡ ready.old.items ++ turns.offered taken.now (record { request = request; codes = successes_of codes })) }
+{
+    if taken.has(&request) {
+        return Ok(());
+    }
+    let pending = Pending::new(alloc, request, codes)?;
+    ready.push(pending)?;
+    Ok(())
+}
+
+/// The jobs that were not taken, the first one last.
+fn ready_of(
+    alloc: Global,
+    mut jobs: Items<Request>,
+    mut codes: Items<Success>,
+    taken: &[Job],
+) -> Result<Vec<Pending>, NoMemory>
+    requires paired { length codes ≡ length jobs }
+    ensures ready { IfOk result (λ r. r.items ≡ reverse (spec.left_over taken.now (spec.paired jobs (map successes_of codes)))) }
+{
+    let taken = Taken::new(alloc, taken)?;
+    let mut ready = Vec::new(alloc);
+    while let Some(request) = jobs.pop() {
+        let Some(codes) = codes.pop() else {
+            unreachable!();
+        };
+        offer(alloc, request, codes, &taken, &mut ready)?;
+    }
+    Ok(ready)
+}
+
+/// A flow past its limits.
+fn past_limits(alloc: Global) -> Turn
+    ensures ready { result.ready.items ≡ [] }
+    ensures rest { turns.IsPastLimits result }
+{
+    Turn {
+        ready: Vec::new(alloc),
+        fault: None,
+        many: true,
+        outcome: None,
+    }
+}
+
+/// What a flow within its limits comes to.
+fn turn_of(alloc: Global, flow: Flow, taken: &[Job]) -> Result<Turn, NoMemory>
+    requires paired { length flow.codes ≡ length flow.jobs }
+    ensures turn { IfOk result (turns.IsTurnOf flow taken.now) }
+{
+    let Flow {
+        known: _,
+        jobs,
+        codes,
+        mut faults,
+        waits: _,
+        outputs,
+    } = flow;
+    if !faults.is_empty() {
+        return Ok(Turn {
+            ready: Vec::new(alloc),
+            fault: Some(faults.remove(0)),
+            many: false,
+            outcome: outputs,
+        });
+    }
+    let ready = ready_of(alloc, jobs, codes, taken)?;
+    Ok(Turn {
+        ready,
+        fault: None,
+        many: false,
+        outcome: outputs,
+    })
+}
+
+/// What the flow over a journal comes to, where these jobs were taken.
+pub fn turn_over<S: Ledger>(
+    alloc: Global,
+    over: &Over,
+    journal: &[Entry],
+    taken: &[Job],
+    steps: &mut Steps<S>,
+) -> Result<Turn, NoMemory>
+    requires main { IsSome over.now.checked.main }
+    requires fit { (k : ℕ) (main : FlowDef) → over.now.checked.main ≡ Some k → slice_get over.now.checked.flows k ≡ Some main → inputs_fit over.now.checked.structs main.inputs over.now.inputs ≡ true }
+    ensures turn { IfOk result (turns.IsFreshTurn over.now.checked (flow_after over.now.checked over.now.inputs over.now.site journal.now) taken.now) }
+{
+    match flow_now(
+        alloc,
+        &over.checked,
+        &over.inputs,
+        &over.site,
+        journal,
+        steps,
+    ) {
+        Ok(flow) => turn_of(alloc, flow, taken),
+        Err(PlainFault::TooMany) => Ok(past_limits(alloc)),
+        Err(PlainFault::NoMemory) => Err(NoMemory),
+    }
+}
+
+impl Turn {
+    /// Puts the next turn in place of this one. A fault that was met stays.
+    pub fn follow(&mut self, next: Turn)
+        ensures ready { self.new.ready ≡ next.ready }
+        ensures fault { self.new.fault ≡ turns.earlier self.old.fault next.fault }
+        ensures many { self.new.many ≡ next.many }
+        ensures outcome { self.new.outcome ≡ next.outcome }
+    {
+        let Turn {
+            ready,
+            fault,
+            many,
+            outcome,
+        } = next;
+        self.ready = ready;
+        self.many = many;
+        self.outcome = outcome;
+        if self.fault.is_none() {
+            self.fault = fault;
+        }
+    }
+}
