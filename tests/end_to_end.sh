@@ -93,8 +93,9 @@ expect "65 workers" 2 '' "$usage" run --workers 65 bare.wdl
 expect "a word that is no text" 2 '' "$usage" check "$(printf '\377')"
 expect "one worker" 0 '{}\n' '' run --workers 1 bare.wdl
 expect "a file behind --" 0 'ok\n' '' check -- bare.wdl
-expect "other workers" 12 '' 'not built yet\n' run --workers 2 bare.wdl
-expect "a journal" 12 '' 'not built yet\n' run --journal journal bare.wdl
+expect "64 workers" 0 '{}\n' '' run --workers 64 bare.wdl
+expect "a journal" 0 '{}\n' '' run --journal journal bare.wdl
+expect "a journal that is a directory" 10 '' 'journal fault\n' run --journal . bare.wdl
 expect "load" 12 '' 'not built yet\n' load 3
 expect "bundle" 12 '' 'not built yet\n' bundle bare.wdl
 

@@ -1,5 +1,6 @@
 -- What a run leaves, by the core that it leaves.
-use Rattle.std.proofs.Common.{◌≡◌, ◌≢◌, inl, inr, ℕ, List, [], Option, Some, None, ap, sym, subst, ◌∙◌, refl}
+use Rattle.std.proofs.Common.{◌≡◌, ◌≢◌, ◌⊎◌, inl, inr, ℕ, true, false, not, if◌then◌else◌, List, [], Option, Some, None, ap, sym, subst, ◌∙◌, refl}
+use Rattle.std.proofs.lemmas.Bool.{false≢true}
 use Rattle.std.proofs.lemmas.List.Elements.{All-nil}
 use Rattle.wdl_base.specs.declared.answer.Answer.{Answer}
 use Rattle.wdl_base.specs.declared.entry.Entry.{Entry}
@@ -8,9 +9,11 @@ use Rattle.wdl_base.specs.declared.step.Counts.{Counts}
 use Rattle.wdl_base.specs.declared.step.Step.{Step}
 use Rattle.report_text.specs.declared.status.Status.TheVariants as status
 use Rattle.wdl_port.specs.Rows.{AreRows}
-use Rattle.ready_core.specs.Cores.{CoreState, Origin}
+use Rattle.wdl_typed.specs.Flow.{Flowing, is_empty, too_many}
+use Rattle.ready_core.specs.Cores.{CoreState, Origin, flow_of, has_fault}
+use Rattle.ready_core.specs.Flows.{outcome_of, outputs_if_clean, outputs_in}
 use Rattle.work_desk.specs.Keeping.{KeeperView, Went}
-use Rattle.work_desk.specs.Ran.{HasRun}
+use Rattle.work_desk.specs.Ran.{HasRun, IsDone}
 use Rattle.work_desk.specs.Run.{IsGiven}
 use Rattle.work_desk.specs.Views.{AllEqual}
 use Rattle.work_desk.specs.declared.stop.Stop.{Stop}
@@ -19,6 +22,17 @@ use Rattle.workflow_cli.specs.declared.ended.Work.{Work}
 use Rattle.workflow_cli.specs.Running.{AreRowsOf, KeepsRows, Main, Trace, core_of, origin_of}
 use Rattle.workflow_cli.specs.Stages.{HasLeft, IsOpened, Turns, stops}
 use Rattle.workflow_cli.proofs.Kept.{went_from, went_none}
+
+-- a core whose run did not stop has its outputs
+pub outcome_is : (c : CoreState) → IsDone c → outcome_of c.origin.checked (flow_of c) ≡ Some (outputs_in c.origin.checked (flow_of c))
+outcome_is c d =
+    ap (λ b. if b then None else outputs_if_clean c.origin.checked (flow_of c)) d.few
+    ∙ ap (λ b. if b then Some (outputs_in c.origin.checked (flow_of c)) else None) d.clean
+
+-- a flow with a fault that shows none is past its limits
+pub past_limits : (f : Flowing) → has_fault f ≡ true → (f.faults ≡ []) ⊎ (too_many f ≡ true) → too_many f ≡ true
+past_limits f h (inl e) = absurd (false≢true (ap (λ fs. not (is_empty fs)) (sym e) ∙ h))
+past_limits f h (inr e) = e
 
 module _ (gives : Request → Answer → Type 0) (refuses : Request → Type 0) (t : Trace) (m : Main) (w : Work) where
   abbrev Ran : List Entry → CoreState → Option Stop → Counts → Type 0

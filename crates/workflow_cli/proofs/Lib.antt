@@ -10,6 +10,6 @@ mod Forms
 mod Started
 mod Simulated
 mod Kept
-mod Left
+pub mod Left
 mod Ends
 mod Opened

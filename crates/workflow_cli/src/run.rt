@@ -41,6 +41,7 @@ fn text_of(alloc: Global, name: &Name, outputs: &[Bind]) -> Result<Text, NoMemor
 }
 
 /// The work of a run without a stop.
+#[tactic(auto, using(crate::proofs::Left::outcome_is))]
 fn outputs_work(alloc: Global, name: &Name, core: &Core) -> Work
     requires done { IsDone core.now }
     ensures turns { Turns name.now core.now None result }
@@ -56,6 +57,7 @@ fn outputs_work(alloc: Global, name: &Name, core: &Core) -> Work
 }
 
 /// The status of a run that met a fault: a fault of its flow, or that the flow is past its limits.
+#[tactic(auto, using(crate::proofs::Left::past_limits))]
 fn failed_status(alloc: Global, core: &Core) -> Status
     requires failed { has_fault (flow_of core.now) ≡ true }
     ensures value { IsFailedAs core.now result }
