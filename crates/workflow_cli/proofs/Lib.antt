@@ -9,3 +9,7 @@ mod Given
 mod Forms
 mod Started
 mod Simulated
+mod Kept
+pub mod Left
+mod Ends
+mod Opened
