@@ -60,6 +60,35 @@ room_wider n a b h w =
       steps = omega (arith, h.steps, w.steps_len, w.steps_room);
     }
 
+pub wider_one : (a b c : Log) → b.taken ≡ a.taken → b.out ≡ a.out → b.steps ≡ a.steps → IsLarger b c → IsWider a c
+wider_one a b c taken out steps l =
+    let w = l.wider in
+    record {
+      taken = w.taken ∙ ap (λ (v : _). v.items) taken;
+      out = w.out ∙ ap (λ (v : _). v.items) out;
+      steps = w.steps ∙ ap (λ (v : _). v.items) steps;
+      taken_len = w.taken_len ∙ ap vec_len taken;
+      out_len = w.out_len ∙ ap vec_len out;
+      steps_len = w.steps_len ∙ ap vec_len steps;
+      taken_room = subst (λ (v : _). vec_capacity v ≤ vec_capacity c.taken) taken w.taken_room;
+      out_room = subst (λ (v : _). vec_capacity v ≤ vec_capacity c.out) out w.out_room;
+      steps_room = subst (λ (v : _). vec_capacity v ≤ vec_capacity c.steps) steps w.steps_room;
+    }
+
+pub wider_both : (a b c : Log) → IsWider a b → IsWider b c → IsWider a c
+wider_both a b c v w =
+    record {
+      taken = w.taken ∙ v.taken;
+      out = w.out ∙ v.out;
+      steps = w.steps ∙ v.steps;
+      taken_len = w.taken_len ∙ v.taken_len;
+      out_len = w.out_len ∙ v.out_len;
+      steps_len = w.steps_len ∙ v.steps_len;
+      taken_room = omega (arith, v.taken_room, w.taken_room);
+      out_room = omega (arith, v.out_room, w.out_room);
+      steps_room = omega (arith, v.steps_room, w.steps_room);
+    }
+
 -- ---- states
 
 abbrev stated : Origin → List Entry → List TakenJob → List TakenJob → List Step → CoreState
@@ -155,6 +184,19 @@ an_element : {A : Type 0} (xs : List A) (i : ℕ) → i < length xs → (x : A) 
 an_element [] i h = absurd (omega (arith, h))
 an_element (x ∷ xs) zero h = (x, refl)
 an_element (x ∷ xs) (suc i) h = an_element xs i (omega (arith, h))
+
+one_at : {A : Type 0} (xs : List A) (i : ℕ) (x y : A) → i < length xs → x ≡ slice_index_or xs i x → slice_index_or xs i y ≡ y → x ≡ y
+one_at [] i x y h e f = absurd (omega (arith, h))
+one_at (z ∷ xs) zero x y h e f = e ∙ f
+one_at (z ∷ xs) (suc i) x y h e f = one_at xs i x y (omega (arith, h)) e f
+
+-- the place at which a search stops
+pub place_found : (jobs : List TakenJob) (at : ℕ) (r q : Request) (x : TakenJob) → at < length jobs → x ≡ slice_index_or jobs at x → q ≡ x.request → same_request q r ≡ true → IsPlaceOf jobs r (Some at)
+place_found jobs at r q x within is e h =
+    (within, λ j f. ap (λ (y : TakenJob). same_request y.request r) (sym (one_at jobs at x j within is f)) ∙ ap (λ (y : Request). same_request y r) (sym e) ∙ h)
+
+pub moved_place : (jobs out : List TakenJob) (q r : Request) (at : Option ℕ) → jobs ≡ out → q ≡ r → IsPlaceOf jobs q at → IsPlaceOf out r at
+moved_place jobs out q r at e f h = subst (λ (x : Request). IsPlaceOf out x at) f (subst (λ (x : List TakenJob). IsPlaceOf x q at) e h)
 
 pub some_out : (out : List TakenJob) (at : ℕ) (r : Request) → IsPlaceOf out r (Some at) → IsOut out at r
 some_out out at r place =
@@ -276,3 +318,13 @@ module _ (o : Over) (log wide next : Log) (t fresh after : Turn) (at : ℕ) (e :
             (settles.steps ∙ ap (λ (x : List Step). x ++ step.Settled settles.job.request.place ∷ []) wider.steps
             ∙ ap (λ (q : Request). log.steps.items ++ step.Settled q.place ∷ []) same_job);
       }
+
+pub ruleset start_steps = (run_started, state_started)
+
+pub ruleset take_steps = (run_idle, room_one)
+
+pub ruleset turn_steps = (given_back, wider_one, wider_both)
+
+pub ruleset settle_steps = (run_kept, state_kept, room_step)
+
+pub ruleset out_steps = (none_out)

@@ -1,10 +1,11 @@
 -- What a flow comes to, and what is left as a job is taken.
-use Rattle.std.proofs.Common.{zero, suc, ◌≡◌, ◌<◌, ℕ, Bool, true, false, cond, not, ◌&&◌, ◌||◌, ◌⊎◌, inl, inr, List, [], ◌∷◌, ◌++◌, map, reverse, Contains, Option, Some, None, Result, Ok, Err, IsSome, is_some, length, nat_lt, ◌^◌, option_and_then, slice_get, append_assoc, arith, sym, ap, ◌∙◌, subst, refl}
+use Rattle.std.proofs.Common.{zero, suc, ◌≡◌, ◌<◌, ℕ, Bool, true, false, cond, not, ◌&&◌, ◌||◌, ◌⊎◌, inl, inr, List, [], ◌∷◌, ◌++◌, map, reverse, Contains, Option, Some, None, Result, Ok, Err, IfOk, IsSome, is_some, length, nat_lt, ◌^◌, option_and_then, slice_get, append_assoc, arith, sym, ap, ◌∙◌, subst, refl}
 use Rattle.std.specs.List.{list_all}
 use Rattle.std.proofs.lemmas.Bool.{false≢true, and_parts, false_from_ne_true, lt-ltb, ltb-true, or_left}
 use Rattle.std.proofs.lemmas.List.{length-map, reverse-append, reverse-reverse}
 use Rattle.std.proofs.Math.Bool.{or_assoc}
 use Rattle.wdl_base.specs.declared.entry.Entry.{Entry}
+use Rattle.wdl_base.specs.declared.error.NoMemory.{NoMemory}
 use Rattle.wdl_base.specs.declared.fault.Fault.{Fault}
 use Rattle.wdl_base.specs.declared.request.Request.{Request}
 use Rattle.wdl_value.specs.declared.env.Bind.{Bind}
@@ -27,7 +28,7 @@ use Rattle.ready_core.specs.declared.turn.Turn.{Turn}
 use Rattle.ready_core.specs.Cores.{CoreState, FaultsStay, MayTake, Origin, Settles, all_taken, flow_at, has_fault, has_met_fault, idle, is_taken, jobs_of, left_over, met_after, paired, requests, shows_fault}
 use Rattle.ready_core.specs.Flows.{flow_after, main_of, outcome_of, outputs_if_clean, outputs_with}
 use Rattle.ready_core.specs.Rows.{TakenJob}
-use Rattle.ready_core.specs.Turns.{IsFaultOf, IsFreshTurn, IsPastLimits, IsSeen, IsTurn, IsTurnOf, Sees, earlier, first_fault, open_jobs, ready_in}
+use Rattle.ready_core.specs.Turns.{IsFaultOf, IsFreshTurn, IsPastLimits, IsSeen, IsTurn, IsTurnOf, Sees, earlier, first_fault, open_jobs, unless_fault}
 use Rattle.ready_core.proofs.Counting.{passes_at}
 use Rattle.ready_core.proofs.Leftover.{first_left, left_behind, none_left, paired_request, requests_paired}
 use Rattle.ready_core.proofs.Runs.{over_main}
@@ -118,9 +119,10 @@ faults_stay s t e h met =
 
 -- ---- a fresh turn
 
-ready_same : (f : Flowing) (taken : List TakenJob) → too_many f ≡ false → (a : Bool) → has_fault f ≡ not a → cond a (left_over taken (jobs_of f)) [] ≡ open_jobs f taken
-ready_same f taken few true h = sym (ap (λ x. cond (x || too_many f) [] (left_over taken (jobs_of f))) h ∙ ap (λ x. cond x [] (left_over taken (jobs_of f))) few)
-ready_same f taken few false h = sym (ap (λ x. cond (x || too_many f) [] (left_over taken (jobs_of f))) h)
+ready_same : (f : Flowing) (taken : List TakenJob) → too_many f ≡ false → (w : List Fault) → f.faults ≡ w → unless_fault (first_fault w) (left_over taken (jobs_of f)) ≡ open_jobs f taken
+ready_same f taken few [] e =
+    sym (ap (λ (l : List Fault). cond (not (is_empty l) || too_many f) [] (left_over taken (jobs_of f))) e ∙ ap (λ x. cond x [] (left_over taken (jobs_of f))) few)
+ready_same f taken few (x ∷ xs) e = sym (ap (λ (l : List Fault). cond (not (is_empty l) || too_many f) [] (left_over taken (jobs_of f))) e)
 
 first_of_all : (f : Flowing) (w : List Fault) → f.faults ≡ w → IsFaultOf f (first_fault w)
 first_of_all f [] e = inl e
@@ -140,9 +142,9 @@ seen_turn c f taken s t is even h =
             ready =
                 h.ready
                 ∙ ap reverse
-                (ap (λ (l : List Fault). cond (is_empty l) (left_over taken (paired s.jobs (map successes_of s.codes))) []) is.faults
-                ∙ ap (λ l. cond (is_empty f.faults) (left_over taken l) []) jobs
-                ∙ ready_same f taken is.few (is_empty f.faults) refl);
+                (ap (λ (o : Option Fault). unless_fault o (left_over taken (paired s.jobs (map successes_of s.codes)))) fault
+                ∙ ap (λ l. unless_fault (first_fault f.faults) (left_over taken l)) jobs
+                ∙ ready_same f taken is.few f.faults refl);
             even = λ k. ap length (sym is.codes) ∙ length-map s.codes successes_of ∙ even ∙ ap length is.jobs;
             fault = subst (IsFaultOf f) (sym fault) (first_of_all f f.faults refl);
             many = h.many ∙ sym is.few;
@@ -168,6 +170,11 @@ past_turn c f taken t many none h =
     by_test : (a b : Bool) → b ≡ true → cond (a || b) [] (left_over taken (jobs_of f)) ≡ []
     by_test true b k = refl
     by_test false b k = ap (λ x. cond x [] (left_over taken (jobs_of f))) k
+
+pub seen_turns : (c : Checked) (f : Flowing) (taken : List TakenJob) (s : Flow) (r : Result Turn NoMemory) → IsSeen c f s → length s.codes ≡ length s.jobs → IfOk r (IsTurnOf s taken)
+    → IfOk r (IsFreshTurn c f taken)
+seen_turns c f taken s (Ok t) is even h = seen_turn c f taken s t is even h
+seen_turns c f taken s (Err e) is even h = tt
 
 -- ---- the flow that is seen
 
@@ -206,4 +213,4 @@ shown_is_seen c given site j r some shown = by_main c.main refl some
     by_main (Some k) e h = with_main k e (at_number c.flows k (ap (main_is_there c.flows) (sym e) ∙ main_kept (library_of c) c.main c.kept))
     by_main None e h = absurd (false≢true h)
 
-pub ruleset turn_steps = (seen_turn, past_turn)
+pub ruleset turn_steps = (seen_turns, past_turn)

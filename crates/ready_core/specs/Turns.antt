@@ -1,9 +1,9 @@
 -- What a flow comes to for a core.
-use Rattle.std.specs.Prelude.{◌≡◌, ◌⊎◌, Bool, true, false, ◌||◌, not, List, [], ◌∷◌, Contains, Option, Some, None, Result, Ok, Err, ⊤, if◌then◌else◌, is_some, length, map, reverse}
+use Rattle.std.specs.Prelude.{◌≡◌, ◌⊎◌, Bool, true, false, ◌||◌, not, List, [], ◌∷◌, Contains, Option, Some, None, Result, Ok, Err, ⊤, if◌then◌else◌, is_some, length, map, reverse, slice_get}
 use Rattle.wdl_base.specs.declared.fault.Fault.{Fault}
 use Rattle.wdl_base.specs.declared.request.Request.{Request}
 use Rattle.wdl_typed.specs.declared.checked.Checked.{Checked}
-use Rattle.wdl_typed.specs.Flow.{Flowing, is_empty, too_many}
+use Rattle.wdl_typed.specs.Flow.{Flowing, too_many}
 use Rattle.wdl_typed.specs.Requests.{Successes}
 use Rattle.wdl_typed.specs.Statuses.{successes_of}
 use Rattle.wdl_flow.specs.declared.fault.PlainFault.{PlainFault}
@@ -61,16 +61,17 @@ pub record IsPastLimits (t : Turn) : Type 0 where
   pub many : t.many ≡ true
   pub outcome : t.outcome ≡ None
 
-abbrev pub ready_in : Flow → List TakenJob → List TakenJob
-ready_in s taken = if is_empty s.faults then left_over taken (paired s.jobs (map successes_of s.codes)) else []
-
 abbrev pub first_fault : List Fault → Option Fault
-first_fault [] = None
-first_fault (x ∷ xs) = Some x
+first_fault faults = slice_get faults 0
+
+-- nothing may be taken where there is a fault
+abbrev pub unless_fault : Option Fault → List TakenJob → List TakenJob
+unless_fault (Some fault) jobs = []
+unless_fault None jobs = jobs
 
 -- what a flow within its limits comes to
 pub record IsTurnOf (s : Flow) (taken : List TakenJob) (t : Turn) : Type 0 where
-  pub ready : t.ready.items ≡ reverse (ready_in s taken)
+  pub ready : t.ready.items ≡ reverse (unless_fault t.fault (left_over taken (paired s.jobs (map successes_of s.codes))))
   pub fault : t.fault ≡ first_fault s.faults
   pub many : t.many ≡ false
   pub outcome : t.outcome ≡ s.outputs

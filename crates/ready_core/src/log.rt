@@ -18,6 +18,7 @@ pub struct Log {
 }
 
 /// Where a job with this request stands among the jobs.
+#[tactic(auto, using(crate::proofs::Running::place_found))]
 pub fn place_of(jobs: &[Job], request: &Request) -> Option<usize>
     ensures place { logs.IsPlaceOf jobs.now request.now result }
 {
@@ -80,9 +81,7 @@ impl Log {
     pub fn give_back(&mut self) -> Answered
         requires some { 0 < vec_len self.old.journal }
         ensures entry { self.old.journal.items ≡ self.new.journal.items ++ result ∷ [] }
-        ensures taken { self.new.taken ≡ self.old.taken }
-        ensures out { self.new.out ≡ self.old.out }
-        ensures steps { self.new.steps ≡ self.old.steps }
+        ensures same { logs.IsWider self.old self.new }
     {
         let Some(entry) = self.journal.pop() else {
             unreachable!();

@@ -72,6 +72,7 @@ fn turn_with_room<S: Ledger>(
 }
 
 /// The turn over the journal with an entry more, which is then its last one.
+#[tactic(auto, using(crate::proofs::Running::turn_steps))]
 fn next_turn<S: Ledger>(
     alloc: Global,
     over: &Over,
@@ -100,6 +101,7 @@ fn next_turn<S: Ledger>(
 
 impl Core {
     /// A run of the main workflow for these inputs below the directory `site`. Nothing is taken yet.
+    #[tactic(auto, using(crate::proofs::Running::start_steps))]
     pub fn new<S: Ledger>(
         alloc: Global,
         checked: Checked,
@@ -123,6 +125,7 @@ impl Core {
 
     /// Takes a job of the flow over the journal that was not taken: its place and attempt are new. `None` exactly where a fault
     /// stands, the flow is past its limits, or each of its jobs was taken. It takes no memory.
+    #[tactic(auto, using(crate::proofs::Running::take_steps))]
     pub fn take(&mut self) -> Option<Job>
         ensures taken { MatchOption result ((spec.idle_at self.old ≡ true) × (self.new ≡ self.old)) (λ j. Takes self.old j self.new) }
     {
@@ -133,6 +136,7 @@ impl Core {
     }
 
     /// Settles the answer of a job that is out, whatever its status: the journal gains its entry.
+    #[tactic(auto, using(crate::proofs::Running::settle_steps))]
     pub fn settle<S: Ledger>(
         &mut self,
         alloc: Global,
@@ -199,6 +203,7 @@ impl Core {
     }
 
     /// Whether a job with the job's request is out; that request is then one of the flow over the journal. It takes no memory.
+    #[tactic(auto, using(crate::proofs::Running::out_steps))]
     pub fn is_out(&self, job: &Job) -> bool
         ensures out { MatchBool result (Contains (spec.requests self.now.out) job.now.request) (¬ (Contains (spec.requests self.now.out) job.now.request)) }
         ensures job { result ≡ true → Contains (spec.flow_of self.now).jobs job.now.request }

@@ -99,6 +99,34 @@ fn past_limits(alloc: Global) -> Turn
     }
 }
 
+/// The first of the faults.
+fn first_of(mut faults: Items<Fault>) -> Option<Fault>
+    ensures first { result ≡ turns.first_fault faults }
+{
+    if faults.is_empty() {
+        None
+    } else {
+        Some(faults.remove(0))
+    }
+}
+
+/// The same, and none where there is a fault.
+fn ready_unless(
+    alloc: Global,
+    fault: &Option<Fault>,
+    jobs: Items<Request>,
+    codes: Items<Success>,
+    taken: &[Job],
+) -> Result<Vec<Pending>, NoMemory>
+    requires paired { length codes ≡ length jobs }
+    ensures ready { IfOk result (λ r. r.items ≡ reverse (turns.unless_fault fault.now (spec.left_over taken.now (spec.paired jobs (map successes_of codes))))) }
+{
+    match fault {
+        Some(_) => Ok(Vec::new(alloc)),
+        None => ready_of(alloc, jobs, codes, taken),
+    }
+}
+
 /// What a flow within its limits comes to.
 fn turn_of(alloc: Global, flow: Flow, taken: &[Job]) -> Result<Turn, NoMemory>
     requires paired { length flow.codes ≡ length flow.jobs }
@@ -108,22 +136,15 @@ fn turn_of(alloc: Global, flow: Flow, taken: &[Job]) -> Result<Turn, NoMemory>
         known: _,
         jobs,
         codes,
-        mut faults,
+        faults,
         waits: _,
         outputs,
     } = flow;
-    if !faults.is_empty() {
-        return Ok(Turn {
-            ready: Vec::new(alloc),
-            fault: Some(faults.remove(0)),
-            many: false,
-            outcome: outputs,
-        });
-    }
-    let ready = ready_of(alloc, jobs, codes, taken)?;
+    let fault = first_of(faults);
+    let ready = ready_unless(alloc, &fault, jobs, codes, taken)?;
     Ok(Turn {
         ready,
-        fault: None,
+        fault,
         many: false,
         outcome: outputs,
     })
