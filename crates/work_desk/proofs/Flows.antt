@@ -64,11 +64,10 @@ job_stays o journal more r c = (grows o journal more).jobs r c
 
 -- ---- jobs by place and attempt
 
-same_job : Request → Request → Bool
+abbrev same_job : Request → Request → Bool
 same_job r s = is_job_at r.place r.attempt s
 
 same_parts : (r s : Request) → same_job r s ≡ true → (s.place ≡ r.place) × (s.attempt ≡ r.attempt)
-unfolding same_job
 same_parts r s h = let p = and_parts (same_place s.place r.place) (s.attempt == r.attempt) h in (place_same s.place r.place p.0, (Decides-eqb s.attempt r.attempt).0 p.1)
 
 both : (a b : Bool) → (a ≡ true → b ≡ true) → (b ≡ true → a ≡ true) → a ≡ b
@@ -77,7 +76,6 @@ both false true f g = g refl
 both false false f g = refl
 
 same_laws : IsEquivalence same_job
-unfolding same_job
 same_laws =
     record {
       refl = λ x. job_at x x.place x.attempt refl refl;
@@ -92,16 +90,15 @@ same_laws =
     moved x y z e f = let p = same_parts x y e in let q = same_parts x z f in job_at z y.place y.attempt (q.0 ∙ sym p.0) (q.1 ∙ sym p.1)
 
 job_member : (rs : List Request) (r : Request) → is_member same_job rs r ≡ has_job rs r.place r.attempt
-unfolding same_job
 job_member [] r = refl
 job_member (x ∷ rs) r = ap (λ b. is_job_at r.place r.attempt x || b) (job_member rs r)
 
 apart_from : (r : Request) (rs : List Request) → has_job rs r.place r.attempt ≡ false → AllByRecursion (λ y. same_job r y ≡ false) rs
-unfolding same_job
 apart_from r [] h = tt
 apart_from r (x ∷ rs) h = let p = or_parts (is_job_at r.place r.attempt x) (has_job rs r.place r.attempt) h in (p.0, apart_from r rs p.1)
 
 distinct : (rs : List Request) → jobs_differ rs ≡ true → IsDistinct same_job rs
+unfolding IsDistinct
 distinct [] h = tt
 distinct (r ∷ rs) h =
     let p = and_parts (not (has_job rs r.place r.attempt)) (jobs_differ rs) h in
@@ -118,22 +115,19 @@ no_more xs ys h among = length-le_from_is_member same_laws xs ys (distinct xs h)
 
 -- ---- the entries of a journal by place and attempt
 
-asked_in : List Entry → List Request
+abbrev asked_in : List Entry → List Request
 asked_in = map (λ (e : Entry). e.request)
 
 row_is_job : (es : List Entry) (place : List Segment) (attempt : ℕ) → has_row (table es) place attempt ≡ has_job (asked_in es) place attempt
-unfolding asked_in
 row_is_job [] place attempt = refl
 row_is_job (e ∷ es) place attempt = ap (λ b. is_job_at place attempt e.request || b) (row_is_job es place attempt)
 
 journal_differs : (es : List Entry) → is_journal es ≡ jobs_differ (asked_in es)
-unfolding asked_in
 journal_differs [] = refl
 journal_differs (e ∷ es) =
     ap (λ b. not b && is_journal es) (row_is_job es e.request.place e.request.attempt) ∙ ap (λ b. not (has_job (asked_in es) e.request.place e.request.attempt) && b) (journal_differs es)
 
 asked_by : (es : List Entry) (r : Request) → Contains (asked_in es) r → (e : Entry) × Contains es e × (e.request ≡ r)
-unfolding asked_in
 asked_by [] r c = absurd (none_within r c)
 asked_by (e ∷ es) r c = by_case (asked_by es r) (first_or_later e.request (asked_in es) r c)
   where
@@ -199,7 +193,7 @@ idle_parts true many all f m h = absurd (false≢true (sym f))
 pub all_settled : (c : CoreState) → fed_at c.origin c.journal ≡ true → length c.journal ≡ length c.taken → has_fault (flow_of c) ≡ false → too_many (flow_of c) ≡ false → idle_at c ≡ true
     → is_clean (flow_of c) ≡ true
 unfolding flow_after
-all_settled c fed even sound few idle = by_main c.origin.checked.main refl
+all_settled c asked even sound few idle = by_main c.origin.checked.main refl
   where
     lib : Library
     lib = library_of c.origin.checked
@@ -210,7 +204,7 @@ all_settled c fed even sound few idle = by_main c.origin.checked.main refl
         let o = c.origin in
         let g = flow_over lib k o.inputs o.site c.journal in
         let same : flow_of c ≡ g = ap (λ (m : Option ℕ). flow_in lib m o.inputs o.site c.journal) e in
-        let fed_there : fed lib k o.inputs o.site c.journal ≡ true = ap (λ (m : Option ℕ). fed_after (λ (j : List Entry). flow_in lib m o.inputs o.site j) [] c.journal) (sym e) ∙ fed in
+        let fed_there : fed lib k o.inputs o.site c.journal ≡ true = ap (λ (m : Option ℕ). fed_after (λ (j : List Entry). flow_in lib m o.inputs o.site j) [] c.journal) (sym e) ∙ asked in
         let kept = o.checked.kept in
         let all : all_taken g c.taken ≡ true = idle_parts (has_fault g) (too_many g) (all_taken g c.taken) (ap has_fault (sym same) ∙ sound) (ap too_many (sym same) ∙ few) (ap (λ (f : Flowing). has_fault f || (too_many f || all_taken f c.taken)) (sym same) ∙ idle) in
         ap is_clean same

@@ -6,40 +6,48 @@ use Rattle.std.specs.Ordering.{is_lt, nat_cmp, ordering_then}
 use Rattle.std.specs.Cmp.Lexicographic.{slice_cmp}
 use Rattle.std.specs.declared.cmp.Ordering.{Ordering}
 use Rattle.std.specs.declared.cmp.Ordering.TheVariants.{Less, Equal, Greater}
-use Rattle.std.proofs.lemmas.Bool.{and_from, false≢true, or_left, or_parts, or_right}
+use Rattle.std.proofs.lemmas.Bool.{and_from, and_parts, false≢true, or_left, or_parts, or_right}
 use Rattle.std.proofs.lemmas.Bool.Decides.{Decides-eqb}
-use Rattle.std.proofs.lemmas.List.Elements.{Contains-append_cases, Contains-append_left}
+use Rattle.std.proofs.lemmas.List.Elements.{Contains-append_cases, Contains-append_left, Contains-append_right}
 use Rattle.std.proofs.lemmas.List.Folds.{list_any-append}
 use Rattle.std.proofs.lemmas.Map.Lookups.{exact_bytes, exact_unsigned}
 use Rattle.std.proofs.Math.Nat.{le-min, min-le_left, min-le_right}
 use Rattle.std.specs.List.{list_any}
 use Rattle.wdl_base.specs.declared.answer.Answer.{Answer}
 use Rattle.wdl_base.specs.declared.entry.Entry.{Entry}
+use Rattle.wdl_base.specs.declared.entry.Source.{Source}
+use Rattle.wdl_base.specs.declared.entry.Source.TheVariants.{Launched, Kept}
 use Rattle.wdl_base.specs.declared.place.Segment.{Segment}
 use Rattle.wdl_base.specs.declared.request.Request.{Request}
 use Rattle.wdl_base.specs.PlaceReading.{IsPlace}
 use Rattle.wdl_base.specs.Places.{place_text}
-use Rattle.wdl_base.specs.Same.{same_place}
+use Rattle.wdl_base.specs.Same.{same_place, same_request}
 use Rattle.wdl_base.proofs.PlaceLemmas as places
 use Rattle.wdl_value.specs.Tables.{has_row, row_of, table}
+use Rattle.wdl_typed.specs.Requests.{is_success}
 use Rattle.wdl_port.specs.Causes.{Rose}
-use Rattle.wdl_port.specs.Rows.{kept_row, placed, put_row, request_order, row_order, with_entry}
-use Rattle.flow_laws.proofs.Elements.{contains_first, contains_later, first_or_later, none_within}
+use Rattle.wdl_port.specs.Rows.{are_kept, is_kept, kept_row, placed, put_row, request_order, row_order, with_entry}
+use Rattle.flow_laws.proofs.Elements.{contains_first, contains_later, first_or_later, none_within, only_one}
 use Rattle.flow_laws.proofs.Rows.{at_same, has_the_row}
-use Rattle.flow_laws.proofs.SameRequests.{place_itself}
-use Rattle.ready_core.specs.Cores.{CoreState, Takes, is_taken, requests}
-use Rattle.ready_core.specs.Rows.{TakenJob}
+use Rattle.flow_laws.proofs.SameRequests.{place_itself, request_same}
+use Rattle.ready_core.specs.Cores.{AreHeld, CoreState, Origin, Settles, Takes, is_taken, requests, started}
+use Rattle.ready_core.specs.Rows.{TakenJob, is_usable, kept_as}
 use Rattle.work_desk.specs.declared.stop.Stop.{Stop}
-use Rattle.work_desk.specs.declared.stop.Stop.TheVariants.{Keep}
-use Rattle.work_desk.specs.Keeping.{AreFrom, AreKept, AreLeft, ArePlaced, Holding, KeeperView, RowsWent, Went}
+use Rattle.work_desk.specs.declared.stop.Stop.TheVariants.{Failed, NoMemory, Launch, Keep, TooMany}
+use Rattle.work_desk.specs.Keeping.{AreFrom, AreKept, AreLeft, ArePlaced, Holding, IsReady, KeeperView, RowsWent, Went}
+use Rattle.work_desk.specs.Run.{Tells}
 use Rattle.work_desk.specs.Settling.{Settling}
-use Rattle.work_desk.specs.Stops.{NotKeep, halted}
+use Rattle.work_desk.specs.Stops.{Judges, NotKeep, halted}
 
 -- ---- stops
 
 pub halted_none : (s : Option Stop) (why : Stop) → halted s why ≡ None → ⊥
 halted_none None why e = absurd (true≢false (sym (ap is_none e)))
 halted_none (Some s) why e = absurd (true≢false (sym (ap is_none e)))
+
+pub halted_keeps : (s : Option Stop) → NotKeep s (halted s NoMemory)
+halted_keeps None = record { keep = λ e. cc; stays = λ e. refl }
+halted_keeps (Some s) = record { keep = λ e. e; stays = λ e. e }
 
 -- ---- counts of faults
 
@@ -51,6 +59,72 @@ rose_before f g h earlier rose =
     let top : ℕ = 2 ^ 64 - 1 in
     let one : min (f + 1) top ≤ g + 1 = omega (arith, min-le_left (f + 1) top, earlier) in
     omega (arith, le-min one (min-le_right (f + 1) top), rose)
+
+-- ---- one settle
+
+-- the job of a request
+pub job_of : (taken : List TakenJob) (r : Request) → Contains (requests taken) r → (j : TakenJob) × Contains taken j × (j.request ≡ r)
+job_of [] r c = absurd (none_within r c)
+job_of (x ∷ xs) r c = by_case (job_of xs r) (first_or_later x.request (requests xs) r c)
+  where
+    by_case : (Contains (requests xs) r → (j : TakenJob) × Contains xs j × (j.request ≡ r)) → (x.request ≡ r) ⊎ Contains (requests xs) r → (j : TakenJob) × Contains (x ∷ xs) j × (j.request ≡ r)
+    by_case rest (inl same) = (x, contains_first x xs, same)
+    by_case rest (inr d) = let p = rest d in (p.0, contains_later x xs p.0 p.1, p.2)
+
+judged_keeps : (c : CoreState) (s t : Option Stop) → Judges c s t → NotKeep s t
+judged_keeps c None None m = record { keep = λ e. e; stays = λ e. e }
+judged_keeps c None (Some Failed) m = record { keep = λ e. cc; stays = λ e. refl }
+judged_keeps c None (Some TooMany) m = record { keep = λ e. cc; stays = λ e. refl }
+judged_keeps c None (Some NoMemory) m = absurd m
+judged_keeps c None (Some Keep) m = absurd m
+judged_keeps c None (Some (Launch p)) m = absurd m
+judged_keeps c (Some s) t m = record { keep = λ e. sym m ∙ e; stays = λ e. sym m ∙ e }
+
+-- a settle, and the look at the flow behind it
+pub settles_well : (c d : CoreState) (e : Entry) (s t : Option Stop) → Settles c e d → Judges d s t → Settling e c s d t
+settles_well c d e s t h m = record {
+  held = h.held;
+  origin = h.origin;
+  taken = ap (λ (x : CoreState). x.taken) h.after;
+  journal = λ x at. among x (Contains-append_cases c.journal (e ∷ []) x (subst (λ (y : CoreState). Contains y.journal x) h.after at));
+  stop = judged_keeps d s t m;
+} where
+  among : (x : Entry) → Contains c.journal x ⊎ Contains (e ∷ []) x → Contains c.journal x ⊎ (x ≡ e)
+  among x (inl old) = inl old
+  among x (inr new) = inr (sym (only_one new))
+
+pub taken_itself : (c d : CoreState) (j : TakenJob) → Takes c j d → Contains d.taken j
+taken_itself c d j t = subst (λ (x : CoreState). Contains x.taken j) (sym t.after) (Contains-append_right c.taken (j ∷ []) j (contains_first j []))
+
+-- the row of an entry that was made of a usable row
+pub kept_row_of : (rows : List Entry) (row : Entry) (j : TakenJob) (e : Entry) → Contains rows row → are_kept rows ≡ true → is_usable j row ≡ true → e ≡ kept_as j.request row.answer → Contains rows (kept_row e)
+kept_row_of rows row j e at kept usable is =
+    let asked = request_same row.request j.request (and_parts (same_request row.request j.request) (is_success j.codes row.answer.status) usable).0 in
+    let same : row ≡ kept_row e = row_is (source_kept row.source (kept_source rows row kept at)) asked ∙ sym (ap kept_row is) in
+    subst (Contains rows) same at
+  where
+    source_kept : (s : Source) → is_kept s ≡ true → s ≡ Kept
+    source_kept Kept h = refl
+    source_kept Launched h = absurd (false≢true h)
+
+    row_is : row.source ≡ Kept → row.request ≡ j.request → row ≡ kept_as j.request row.answer
+    row_is s r = ap (λ (x : Source). record row { source = x }) s ∙ ap (λ (x : Request). record row { request = x; source = Kept }) r
+
+    kept_source : (xs : List Entry) (x : Entry) → are_kept xs ≡ true → Contains xs x → is_kept x.source ≡ true
+    kept_source [] x h c = absurd (none_within x c)
+    kept_source (y ∷ ys) x h c = let p = and_parts (is_kept y.source) (are_kept ys) h in by_case p.0 (kept_source ys x p.1) (first_or_later y ys x c)
+      where
+        by_case : is_kept y.source ≡ true → (Contains ys x → is_kept x.source ≡ true) → (y ≡ x) ⊎ Contains ys x → is_kept x.source ≡ true
+        by_case first rest (inl same) = subst (λ (z : Entry). is_kept z.source ≡ true) same first
+        by_case first rest (inr d) = rest d
+
+-- what is out was taken, and has no entry
+pub held_parts : (c : CoreState) (r : Request) → AreHeld c → Contains (requests c.out) r → Contains (requests c.taken) r × (has_row (table c.journal) r.place r.attempt ≡ false)
+unfolding AreHeld
+held_parts c r h out = h r out
+
+pub out_taken : (c : CoreState) (r : Request) → AreHeld c → Contains (requests c.out) r → (j : TakenJob) × Contains c.taken j × (j.request ≡ r)
+out_taken c r h out = job_of c.taken r (held_parts c r h out).0
 
 -- ---- rows by place and attempt
 
@@ -114,15 +188,6 @@ request_more (x ∷ xs) j r c = by_case (request_more xs j r) (first_or_later x.
     by_case : (Contains (requests xs) r → Contains (requests (xs ++ j ∷ [])) r) → (x.request ≡ r) ⊎ Contains (requests xs) r → Contains (requests (x ∷ xs ++ j ∷ [])) r
     by_case rest (inl same) = subst (Contains (requests (x ∷ xs ++ j ∷ []))) same (contains_first x.request (requests (xs ++ j ∷ [])))
     by_case rest (inr d) = contains_later x.request (requests (xs ++ j ∷ [])) r (rest d)
-
--- the job of a request
-pub job_of : (taken : List TakenJob) (r : Request) → Contains (requests taken) r → (j : TakenJob) × Contains taken j × (j.request ≡ r)
-job_of [] r c = absurd (none_within r c)
-job_of (x ∷ xs) r c = by_case (job_of xs r) (first_or_later x.request (requests xs) r c)
-  where
-    by_case : (Contains (requests xs) r → (j : TakenJob) × Contains xs j × (j.request ≡ r)) → (x.request ≡ r) ⊎ Contains (requests xs) r → (j : TakenJob) × Contains (x ∷ xs) j × (j.request ≡ r)
-    by_case rest (inl same) = (x, contains_first x xs, same)
-    by_case rest (inr d) = let p = rest d in (p.0, contains_later x xs p.0 p.1, p.2)
 
 untaken_before : (taken : List TakenJob) (j : TakenJob) (r : Request) → is_taken (taken ++ j ∷ []) r ≡ false → is_taken taken r ≡ false
 untaken_before taken j r h = (or_parts _ _ (sym (list_any-append (λ (x : TakenJob). same_place x.request.place r.place && x.request.attempt == r.attempt) taken (j ∷ [])) ∙ h)).0
@@ -323,3 +388,59 @@ module _ (gives : Request → Answer → Type 0) (rows : List Entry) (k : Keeper
   hold_failed c d s t l m e h path later same rose place g =
       hold_grown c d (halted s Keep) t m e (hold_left c s (halted s Keep) l m h path later same (λ is. inr rose) (λ none. absurd (halted_none s Keep none))) g place
       (λ before after p q whole. elim whole [ inl none ↦ absurd (halted_none s Keep (g.stop.stays none)) | inr flat ↦ absurd (flat (rose_before k.faults l.faults m.faults h.went.faults rose)) ])
+
+-- ---- from the beginning to the end
+
+-- before anything was taken or put
+pub went_started : (gives : Request → Answer → Type 0) (o : Origin) (s : Option Stop) (k : KeeperView) → ¬ (s ≡ Some Keep) → Went gives (started o) s k k
+unfolding AreFrom AreKept AreLeft
+went_started gives o s k other =
+    record {
+      path = refl;
+      faults = omega arith;
+      keep = λ is. absurd (other is);
+      told = refl;
+      rows = λ before after p q. rows_same before after (sym p ∙ q);
+    }
+  where
+    rows_or : Option (List Entry) → List Entry
+    rows_or None = []
+    rows_or (Some xs) = xs
+
+    rows_same : (before after : List Entry) → Some before ≡ Some after → RowsWent gives (started o) ((s ≡ None) ⊎ ¬ (Rose k.faults k.faults)) before after
+    rows_same before after e =
+        let same : before ≡ after = ap rows_or e in
+        record {
+          from = λ row at. inl (subst (λ (xs : List Entry). Contains xs row) (sym same) at);
+          left = λ row at untaken. subst (λ (xs : List Entry). Contains xs row) same at;
+          journal = λ whole x at. absurd (none_within x at);
+        }
+
+pub none_other : {A : Type 0} {x : A} → None ≡ Some x → ⊥
+none_other e = true≢false (ap is_none e)
+
+pub hold_started : (gives : Request → Answer → Type 0) (rows : List Entry) (k : KeeperView) (o : Origin) (s : Option Stop) → IsReady rows k → ArePlaced rows → Judges (started o) None s
+    → Holding gives rows k (started o) s k
+unfolding ArePlaced
+hold_started gives rows k o s ready placed m = record {
+  ready = ready;
+  placed = placed;
+  settled = λ x at. absurd (none_within x at);
+  went = went_started gives o s k (λ is. none_other ((judged_keeps (started o) None s m).keep is));
+}
+
+pub went_tells : (g : Request → Answer → Type 0) (f : Request → Type 0) (h : Request → Answer → Type 0) (l : Request → Type 0) (c : CoreState) (s : Option Stop) (k m : KeeperView)
+    → Tells g f h l → Went g c s k m → Went h c s k m
+unfolding AreFrom
+went_tells g f h l c s k m t w =
+    record {
+      path = w.path;
+      faults = w.faults;
+      keep = w.keep;
+      told = w.told;
+      rows = λ before after p q. let r = w.rows before after p q in record {
+        from = λ row at. elim (r.from row at) [ inl old ↦ inl old | inr new ↦ inr (new.0, t.gives row.request row.answer new.1) ];
+        left = r.left;
+        journal = r.journal;
+      };
+    }

@@ -1,5 +1,5 @@
 -- Rows by place and attempt.
-use Rattle.std.proofs.Common.{◌≡◌, ℕ, Bool, true, false, cond, ◌&&◌, ◌||◌, ◌==◌, List, [], ◌∷◌, Contains, Option, Some, None, drop, is_some, sym, ap, ◌∙◌, refl}
+use Rattle.std.proofs.Common.{◌≡◌, ℕ, Bool, true, false, cond, ◌&&◌, ◌||◌, ◌==◌, List, [], ◌∷◌, Contains, Option, Some, None, drop, is_some, sym, ap, ◌∙◌, subst, refl}
 use Rattle.std.specs.declared.cmp.Ordering.{Ordering}
 use Rattle.std.specs.declared.cmp.Ordering.TheVariants.{Less, Equal, Greater}
 use Rattle.std.specs.Ordering.{is_lt, ordering_reverse}
@@ -102,6 +102,9 @@ looked (x ∷ xs) j h =
         → (o : Option Entry) → Looks xs j o → Looks (x ∷ xs) j (cond b (Some x) o)
     by_test true e rest o l = (contains_first x xs, or_none (is_usable j x) (usable xs j) (rest e))
     by_test false e rest o l = behind (elsewhere j x e) o l
+
+pub looked_at : (rows : List Entry) (j : TakenJob) (r : Request) (o : Option Entry) → o ≡ row_at rows r.place r.attempt → r ≡ j.request → rises rows ≡ true → Looks rows j o
+looked_at rows j r o found asked h = subst (Looks rows j) (sym (found ∙ ap (λ (x : Request). row_at rows x.place x.attempt) asked)) (looked rows j h)
 
 -- ---- rows of places
 

@@ -19,7 +19,7 @@ use crate::rows::Rows;
 use crate::state::Finished;
 use crate::stop::{Stop, halt, judge};
 use crate::worker::{launch, wait_for_good};
-use ready_core::{Answered, Core, SettleFault, Unlaunched};
+use ready_core::{Answered, Core, Job, SettleFault, Unlaunched};
 use std::alloc::Global;
 use std::sync::Wait;
 use std::sync::ledger::Ledger;
@@ -159,6 +159,29 @@ impl<P: Pact> Caller<P> {
         }
     }
 
+    // Stops at a job that the launcher refused.
+    fn refuse<R: Wait>(&mut self, rt: &R, alloc: Global, rows: &Rows, job: Job)
+        requires run { IsRun P.workers P.gives P.refuses rows.now 1 self.old.core self.old.shares self.old.stop }
+        requires refused { P.refuses job.request }
+        requires held { AreHeld self.old.core }
+        ensures run { IsRun P.workers P.gives P.refuses rows.now 0 self.new.core self.new.shares self.new.stop }
+        ensures shares { self.new.shares ≡ self.old.shares }
+        ensures core { self.new.core ≡ self.old.core }
+        ensures stop { NotKeep self.old.stop self.new.stop }
+    {
+        if self.stop.is_some() {
+            return;
+        }
+        if !self.core.is_out(&job) {
+            wait_for_good(rt);
+            return;
+        }
+        match copy_place(alloc, &job.request().place) {
+            Ok(place) => halt(&mut self.stop, Stop::Launch(place)),
+            Err(_) => halt(&mut self.stop, Stop::NoMemory),
+        }
+    }
+
     // Stops at a job that was not launched.
     fn give_up<R: Wait>(&mut self, rt: &R, alloc: Global, rows: &Rows, unlaunched: Unlaunched)
         requires run { IsRun P.workers P.gives P.refuses rows.now 1 self.old.core self.old.shares self.old.stop }
@@ -170,20 +193,9 @@ impl<P: Pact> Caller<P> {
         ensures stop { NotKeep self.old.stop self.new.stop }
     {
         let Unlaunched { job, fault } = unlaunched;
-        if let LaunchFault::NoMemory = fault {
-            halt(&mut self.stop, Stop::NoMemory);
-            return;
-        }
-        if self.stop.is_some() {
-            return;
-        }
-        if !self.core.is_out(&job) {
-            wait_for_good(rt);
-            return;
-        }
-        match copy_place(alloc, &job.request().place) {
-            Ok(place) => halt(&mut self.stop, Stop::Launch(place)),
-            Err(_) => halt(&mut self.stop, Stop::NoMemory),
+        match fault {
+            LaunchFault::Refused => self.refuse(rt, alloc, rows, job),
+            LaunchFault::NoMemory => halt(&mut self.stop, Stop::NoMemory),
         }
     }
 

@@ -105,7 +105,9 @@ impl Rows {
             (λ row. Contains self.now row × (is_usable job.now row ≡ true) × (usable self.now job.now ≡ true)) }
         ensures kept { are_kept self.now ≡ true }
     {
-        let row = self.at(job.request())?;
+        let Some(row) = self.at(job.request()) else {
+            return None;
+        };
         if is_usable_for(row, job) {
             Some(row)
         } else {

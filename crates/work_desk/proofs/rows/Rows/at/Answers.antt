@@ -11,6 +11,6 @@ returns-clause-row c =
     let place = c.args.request.now.place in
     let attempt = c.args.request.now.attempt in
     searched (λ es. row_at es place attempt) entry_marks (place_mark attempt place) (row_at-skip place attempt)
-    (option_copied c.row_among.result) c.as_slice-entries.result.now c.self.inside.entries c.args.self.now c.self.inside.marks c.place_mark.result c.place-from.result
-    c.row_among.ensures.row c.as_slice-entries.ensures c.self.view_is c.place-from.ensures.place c.self.invariant.0
+    (option_copied c.row_among.result) c.as_slice-2.result.now c.self.inside.entries c.args.self.now c.self.inside.marks c.place_mark.result c.place-from.result
+    c.row_among.ensures.row c.as_slice-2.ensures c.self.view_is c.place-from.ensures.place c.self.invariant.0
     (c.place_mark.ensures ∙ ap (place_mark attempt) c.as_slice.ensures)
