@@ -5,8 +5,10 @@ use Rattle.wdl_base.specs.declared.request.Request.{Request}
 use Rattle.wdl_typed.specs.declared.flow.FlowDef.{FlowDef}
 use Rattle.wdl_typed.specs.Flow.{Flowing}
 use Rattle.wdl_typed.specs.Journal.{inputs_fit}
+use Rattle.ready_core.specs.declared.log.Log.{Log}
 use Rattle.ready_core.specs.declared.ready.Core.TheInside.{Inside}
 use Rattle.ready_core.specs.declared.turn.Over.{Over}
+use Rattle.ready_core.specs.declared.turn.Turn.{Turn}
 use Rattle.ready_core.specs.Cores.{CoreState, Origin, fed_at, flow_at, is_taking, met_after}
 use Rattle.ready_core.specs.Logs.{HasRoom}
 use Rattle.ready_core.specs.Rows.{TakenJob}
@@ -15,15 +17,11 @@ use Rattle.ready_core.specs.Turns.{IsTurn}
 abbrev pub origin_of : Over → Origin
 origin_of o = record { checked = o.checked; inputs = o.inputs; site = o.site }
 
+abbrev pub state : Over → Log → CoreState
+state o l = record { origin = origin_of o; journal = l.journal.items; taken = l.taken.items; out = l.out.items; steps = l.steps.items }
+
 abbrev pub state_of : Inside → CoreState
-state_of c =
-    record {
-      origin = origin_of c.over;
-      journal = c.log.journal.items;
-      taken = c.log.taken.items;
-      out = c.log.out.items;
-      steps = c.log.steps.items;
-    }
+state_of c = state c.over c.log
 
 -- of the requests of each kind, those that were taken are those that are out and those that were settled
 unfoldable pub Balances : List TakenJob → List Entry → List TakenJob → Type 0
@@ -48,10 +46,14 @@ pub record Stands (o : Origin) (journal : List Entry) (taken out : List TakenJob
   pub counted : length out + length journal ≡ length taken
   pub few : length taken ≤ 20000
 
-pub record IsCore (c : Inside) : Type 0 where
-  pub main : IsSome c.over.checked.main
-  pub fit : (k : ℕ) (main : FlowDef) → c.over.checked.main ≡ Some k → slice_get c.over.checked.flows k ≡ Some main → inputs_fit c.over.checked.structs main.inputs c.over.inputs ≡ true
-  pub stands : Stands (origin_of c.over) c.log.journal.items c.log.taken.items c.log.out.items
-  pub turn : IsTurn c.over.checked (flow_at (origin_of c.over) c.log.journal.items) c.log.taken.items c.turn
-  pub met : is_some c.turn.fault ≡ met_after (flow_at (origin_of c.over)) [] c.log.journal.items
-  pub room : HasRoom (vec_len c.turn.ready) (vec_len c.turn.ready) c.log
+-- what the fields of a core say of each other
+pub record IsRun (o : Over) (l : Log) (t : Turn) : Type 0 where
+  pub main : IsSome o.checked.main
+  pub fit : (k : ℕ) (main : FlowDef) → o.checked.main ≡ Some k → slice_get o.checked.flows k ≡ Some main → inputs_fit o.checked.structs main.inputs o.inputs ≡ true
+  pub stands : Stands (origin_of o) l.journal.items l.taken.items l.out.items
+  pub turn : IsTurn o.checked (flow_at (origin_of o) l.journal.items) l.taken.items t
+  pub met : is_some t.fault ≡ met_after (flow_at (origin_of o)) [] l.journal.items
+  pub room : HasRoom (vec_len t.ready) (vec_len t.ready) l
+
+abbrev pub IsCore : Inside → Type 0
+IsCore c = IsRun c.over c.log c.turn

@@ -1,5 +1,5 @@
 -- What the calls of a log do.
-use Rattle.std.specs.Prelude.{◌≡◌, ℕ, ◌+◌, ◌<◌, ◌≤◌, false, List, [], ◌∷◌, ◌++◌, All, Option, Some, None, length, remove, slice_index_or, vec_capacity, vec_len}
+use Rattle.std.specs.Prelude.{◌≡◌, ℕ, ◌+◌, ◌<◌, ◌≤◌, true, false, List, [], ◌∷◌, ◌++◌, All, Option, Some, None, length, remove, slice_index_or, vec_capacity, vec_len}
 use Rattle.wdl_base.specs.declared.request.Request.{Request}
 use Rattle.wdl_base.specs.declared.step.Step.{Step}
 use Rattle.wdl_base.specs.declared.step.Step.TheVariants as step
@@ -22,10 +22,10 @@ pub record IsEmpty (l : Log) : Type 0 where
   pub steps_len : vec_len l.steps ≡ 0
 
 -- room for so many jobs, and for so many steps
-pub record HasRoom (jobs steps : ℕ) (l : Log) : Type 0 where
-  pub taken : vec_len l.taken + jobs ≤ vec_capacity l.taken
-  pub out : vec_len l.out + jobs ≤ vec_capacity l.out
-  pub steps : vec_len l.steps + steps ≤ vec_capacity l.steps
+pub record HasRoom (m n : ℕ) (l : Log) : Type 0 where
+  pub taken : vec_len l.taken + m ≤ vec_capacity l.taken
+  pub out : vec_len l.out + m ≤ vec_capacity l.out
+  pub steps : vec_len l.steps + n ≤ vec_capacity l.steps
 
 -- the same jobs and steps, with no less room
 pub record IsWider (a b : Log) : Type 0 where

@@ -1,15 +1,17 @@
 -- What a flow comes to for a core.
-use Rattle.std.specs.Prelude.{◌≡◌, ◌⊎◌, Bool, true, false, ◌||◌, not, List, [], ◌∷◌, Contains, Option, Some, None, if◌then◌else◌, is_some, length, map, reverse}
+use Rattle.std.specs.Prelude.{◌≡◌, ◌⊎◌, Bool, true, false, ◌||◌, not, List, [], ◌∷◌, Contains, Option, Some, None, Result, Ok, Err, ⊤, if◌then◌else◌, is_some, length, map, reverse}
 use Rattle.wdl_base.specs.declared.fault.Fault.{Fault}
 use Rattle.wdl_base.specs.declared.request.Request.{Request}
 use Rattle.wdl_typed.specs.declared.checked.Checked.{Checked}
 use Rattle.wdl_typed.specs.Flow.{Flowing, is_empty, too_many}
 use Rattle.wdl_typed.specs.Requests.{Successes}
 use Rattle.wdl_typed.specs.Statuses.{successes_of}
+use Rattle.wdl_flow.specs.declared.fault.PlainFault.{PlainFault}
+use Rattle.wdl_flow.specs.declared.fault.PlainFault.TheVariants as plain
 use Rattle.wdl_plain.specs.declared.flow.Flow.{Flow}
 use Rattle.ready_core.specs.declared.turn.Turn.{Turn}
 use Rattle.ready_core.specs.Cores.{has_fault, is_taken, jobs_of, left_over, paired, shows_fault}
-use Rattle.ready_core.specs.Flows.{outcome_of}
+use Rattle.ready_core.specs.Flows.{outcome_of, outputs_if_clean}
 use Rattle.ready_core.specs.Rows.{TakenJob}
 
 -- the job, unless it was taken
@@ -40,6 +42,19 @@ pub record IsTurn (c : Checked) (f : Flowing) (taken : List TakenJob) (t : Turn)
 pub record IsFreshTurn (c : Checked) (f : Flowing) (taken : List TakenJob) (t : Turn) : Type 0 where
   pub turn : IsTurn c f taken t
   pub shows : is_some t.fault ≡ shows_fault f
+
+-- the jobs with their statuses of success, the faults, and the outputs where the flow is clean
+pub record IsSeen (c : Checked) (f : Flowing) (seen : Flow) : Type 0 where
+  pub few : too_many f ≡ false
+  pub jobs : seen.jobs ≡ f.jobs
+  pub codes : map successes_of seen.codes ≡ f.codes
+  pub faults : seen.faults ≡ f.faults
+  pub outputs : seen.outputs ≡ outputs_if_clean c f
+
+abbrev pub Sees : Checked → Flowing → Result Flow PlainFault → Type 0
+Sees c f (Ok seen) = IsSeen c f seen
+Sees c f (Err plain.TooMany) = too_many f ≡ true
+Sees c f (Err plain.NoMemory) = ⊤
 
 pub record IsPastLimits (t : Turn) : Type 0 where
   pub fault : t.fault ≡ None

@@ -9,7 +9,7 @@ use std::alloc::Global;
 use wdl_value::{Entry, Items, NoMemory, Request, Step, same_request};
 
 /// What a run has done: its entries, the jobs that were taken, those of them that are out, and the steps.
-#[derive(Debug, Drop)]
+#[derive(Drop)]
 pub struct Log {
     pub journal: Vec<Entry>,
     pub taken: Vec<Job>,

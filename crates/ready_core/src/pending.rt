@@ -9,7 +9,7 @@ use wdl_typed::Success;
 use wdl_value::{NoMemory, Request, Step, copy_place};
 
 /// A job that may be taken, with all that taking it needs.
-#[derive(Debug, Drop)]
+#[derive(Drop)]
 pub struct Pending {
     job: Job,
     out: Job,
@@ -30,7 +30,7 @@ impl Model for Pending {
 }
 
 /// A job, with the copies that the core keeps and the step.
-#[derive(Debug, Drop)]
+#[derive(Drop)]
 pub struct Taking {
     pub job: Job,
     pub out: Job,

@@ -22,7 +22,7 @@ use wdl_value::{Entry, Env, Fault, NoMemory, Step, Steps, Text};
 
 /// A run of the main workflow: its journal, the jobs that were taken, those of them that are out, and the steps so far. What it
 /// answers of faults, outputs and jobs is that of the flow over its journal.
-#[derive(Debug, Drop)]
+#[derive(Drop)]
 pub struct Core {
     over: Over,
     log: Log,
@@ -33,6 +33,12 @@ impl Model for Core {
     ghost use Rattle.ready_core.specs.Cores.{CoreState};
 
     ghost Value = { CoreState };
+
+    ghost use Rattle.std.specs.Coded.{codes};
+    ghost use Rattle.wdl_typed.specs.contracts.checked.Checked as checked;
+    ghost use Rattle.wdl_value.specs.contracts.env.Bind as bind;
+
+    ghost coded = { Prim.hlevel (codes, checked.the_row.coded, bind.the_row.coded) };
 
     ghost use Rattle.ready_core.specs.Inside.{IsCore, state_of};
 
@@ -152,6 +158,7 @@ impl Core {
 
     /// A fault of the flow over the journal. `None` only where it has none or is past its limits; once there is a fault, one
     /// stays. It takes no memory.
+    #[tactic(auto, using(crate::proofs::Running::fault_some, crate::proofs::Running::fault_none))]
     pub fn fault(&self) -> Option<&Fault>
         ensures fault { IfSome (option_copied result) (λ f. Contains (spec.flow_of self.now).faults f) }
         ensures none { IfNone (option_copied result) (((spec.flow_of self.now).faults ≡ []) ⊎ (flow.too_many (spec.flow_of self.now) ≡ true)) }

@@ -16,7 +16,7 @@ use wdl_typed::{Checked, Success};
 use wdl_value::{Entry, Env, Fault, Items, NoMemory, Request, Steps, Text};
 
 /// What a run is of.
-#[derive(Debug, Drop)]
+#[derive(Drop)]
 pub struct Over {
     pub checked: Checked,
     pub inputs: Env,
@@ -25,7 +25,7 @@ pub struct Over {
 
 /// What the flow over a journal comes to: the jobs that may be taken, the next one last, a fault, whether it is past its limits,
 /// and the outputs where it is clean. There are no such jobs where it has a fault or is past its limits.
-#[derive(Debug, Drop)]
+#[derive(Drop)]
 pub struct Turn {
     pub ready: Vec<Pending>,
     pub fault: Option<Fault>,
@@ -52,24 +52,38 @@ fn offer<'a>(
 }
 
 /// The jobs that were not taken, the first one last.
-fn ready_of(
+#[tactic(auto, using(crate::proofs::Leftover::offers))]
+fn ready_among<'a>(
     alloc: Global,
     mut jobs: Items<Request>,
     mut codes: Items<Success>,
+    taken: &Taken<'a>,
+) -> Result<Vec<Pending>, NoMemory>
+    requires paired { length codes ≡ length jobs }
+    ensures ready { IfOk result (λ r. r.items ≡ reverse (spec.left_over taken.now (spec.paired jobs (map successes_of codes)))) }
+{
+    let mut ready = Vec::new(alloc);
+    while let Some(request) = jobs.pop() {
+        let Some(codes) = codes.pop() else {
+            unreachable!();
+        };
+        offer(alloc, request, codes, taken, &mut ready)?;
+    }
+    Ok(ready)
+}
+
+/// The same, with the jobs that were taken as a list.
+fn ready_of(
+    alloc: Global,
+    jobs: Items<Request>,
+    codes: Items<Success>,
     taken: &[Job],
 ) -> Result<Vec<Pending>, NoMemory>
     requires paired { length codes ≡ length jobs }
     ensures ready { IfOk result (λ r. r.items ≡ reverse (spec.left_over taken.now (spec.paired jobs (map successes_of codes)))) }
 {
     let taken = Taken::new(alloc, taken)?;
-    let mut ready = Vec::new(alloc);
-    while let Some(request) = jobs.pop() {
-        let Some(codes) = codes.pop() else {
-            unreachable!();
-        };
-        offer(alloc, request, codes, &taken, &mut ready)?;
-    }
-    Ok(ready)
+    ready_among(alloc, jobs, codes, &taken)
 }
 
 /// A flow past its limits.
@@ -115,7 +129,31 @@ fn turn_of(alloc: Global, flow: Flow, taken: &[Job]) -> Result<Turn, NoMemory>
     })
 }
 
+/// The flow of the main workflow over the journal.
+#[tactic(auto, using(crate::proofs::Turning::shown_is_seen))]
+fn flow_over<S: Ledger>(
+    alloc: Global,
+    over: &Over,
+    journal: &[Entry],
+    steps: &mut Steps<S>,
+) -> Result<Flow, PlainFault>
+    requires main { IsSome over.now.checked.main }
+    requires fit { (k : ℕ) (main : FlowDef) → over.now.checked.main ≡ Some k → slice_get over.now.checked.flows k ≡ Some main → inputs_fit over.now.checked.structs main.inputs over.now.inputs ≡ true }
+    ensures seen { turns.Sees over.now.checked (flow_after over.now.checked over.now.inputs over.now.site journal.now) result }
+    ensures paired { IfOk result (λ f. length f.codes ≡ length f.jobs) }
+{
+    flow_now(
+        alloc,
+        &over.checked,
+        &over.inputs,
+        &over.site,
+        journal,
+        steps,
+    )
+}
+
 /// What the flow over a journal comes to, where these jobs were taken.
+#[tactic(auto, using(crate::proofs::Turning::turn_steps))]
 pub fn turn_over<S: Ledger>(
     alloc: Global,
     over: &Over,
@@ -127,14 +165,7 @@ pub fn turn_over<S: Ledger>(
     requires fit { (k : ℕ) (main : FlowDef) → over.now.checked.main ≡ Some k → slice_get over.now.checked.flows k ≡ Some main → inputs_fit over.now.checked.structs main.inputs over.now.inputs ≡ true }
     ensures turn { IfOk result (turns.IsFreshTurn over.now.checked (flow_after over.now.checked over.now.inputs over.now.site journal.now) taken.now) }
 {
-    match flow_now(
-        alloc,
-        &over.checked,
-        &over.inputs,
-        &over.site,
-        journal,
-        steps,
-    ) {
+    match flow_over(alloc, over, journal, steps) {
         Ok(flow) => turn_of(alloc, flow, taken),
         Err(PlainFault::TooMany) => Ok(past_limits(alloc)),
         Err(PlainFault::NoMemory) => Err(NoMemory),

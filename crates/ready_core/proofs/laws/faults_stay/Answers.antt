@@ -1,0 +1,7 @@
+use Rattle.ready_core.proofs.Marking.{taken-skip}
+use Rattle.ready_core.proofs.Running.{state_settled}
+use Rattle.ready_core.proofs.Turning.{faults_stay}
+use Rattle.ready_core.proofs.laws.faults_stay.Goals as goal
+
+pub returns : goal.returns
+returns c = record { stay = faults_stay }
