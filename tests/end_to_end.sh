@@ -315,26 +315,8 @@ script program
 script moving
 script cwl
 grep '^cwltool' out
-
-echo "journals"
-# A journal is a database that the shell of SQLite reads, and that is read again after that.
-sample="$top/crates/journal_sample/out/journal_sample"
-if command -v sqlite3 >/dev/null 2>&1; then
-  [ -x "$sample" ] || (cd "$top/crates/journal_sample" && rt run >"$work/sample.log" 2>&1 </dev/null)
-  row='{"attempt":0,"command":"echo hi","dir":"/tmp/wdl-run/say","err":null,"files":[],"laid":[],"out":"68690a","place":"scatter-0/%s/say","status":0,"v":2}'
-  printf "3 rows\n$row\n$row\n" 0 2 >want_out
-  printf "scatter-0/%s/say|0|$row\n" 0 0 1 1 2 2 >want_rows
-  echo ok >>want_rows
-  "$sample" journal >out 2>&1 &&
-    sqlite3 journal 'SELECT place, attempt, body FROM entry ORDER BY place, attempt; PRAGMA integrity_check' >rows 2>&1
-  "$sample" journal 0 >again 2>&1
-  if cmp -s out want_out && cmp -s rows want_rows && cmp -s again want_out; then pass; else
-    fail "a journal that sqlite3 reads"
-    diff want_out out
-    diff want_rows rows
-    diff want_out again
-  fi
-fi
+script journal
+grep '^skipped' out
 
 echo "$passed passed, $failed failed"
 [ "$failed" = 0 ]

@@ -1,5 +1,5 @@
 -- What is gathered, item by item.
-use Rattle.std.proofs.Common.{◌≡◌, ℕ, ◌+◌, ◌<◌, suc, zero, Bool, true, false, ◌&&◌, List, [], ◌∷◌, ◌++◌, length, take, drop, map, Option, Some, None, option_and_then, sym, ap, ◌∙◌, subst, refl, arith}
+use Rattle.std.proofs.Common.{◌≡◌, ℕ, ◌+◌, Bool, true, ◌&&◌, List, [], ◌∷◌, ◌++◌, length, map, Option, Some, option_and_then, sym, ap, ◌∙◌, subst, refl, arith}
 use Rattle.std.specs.List.{list_all}
 use Rattle.std.proofs.lemmas.List.{map-append}
 use Rattle.wdl_base.specs.declared.name.Key.{Key}
@@ -14,7 +14,7 @@ use Rattle.wdl_flow.specs.declared.known.Ended.{Ended}
 use Rattle.wdl_flow.specs.declared.known.Known.{Known}
 use Rattle.wdl_flow.specs.Gathered as code
 use Rattle.wdl_flow.specs.Gathers.{IsGathered, calls_in, names_in}
-use Rattle.wdl_flow.specs.Views.{endeds_of, env_in, flowing_of, knowns_of}
+use Rattle.wdl_flow.specs.Views.{endeds_of, flowing_of, knowns_of}
 use Rattle.wdl_flow.specs.Flows.{quiet}
 use Rattle.wdl_flow.proofs.Limits.{many_left, many_right}
 use Rattle.wdl_flow.proofs.Turns.{counted_zero, together_assoc, together_nothing}

@@ -9,7 +9,7 @@ use Rattle.wdl_typed.specs.declared.flow.Target.{Target}
 use Rattle.wdl_typed.specs.declared.flow.Target.TheVariants as target
 use Rattle.wdl_typed.specs.declared.task.TaskDef.{TaskDef}
 use Rattle.wdl_typed.specs.Bodies.{Library, signature, task_signature, flow_signature}
-use Rattle.wdl_typed.specs.Flow.{Callee, Names, Part, Run, all_given, body_names, names_of_part, signature_keys, statement_step, output_keys}
+use Rattle.wdl_typed.specs.Flow.{Callee, Names, Part, Run, body_names, names_of_part, signature_keys, statement_step, output_keys}
 use Rattle.wdl_flow.specs.Given.{all_names, both, flow_outputs, names_in, names_step, outputs_of, task_outputs}
 
 abbrev named : List Key → List (List ℕ) → Names

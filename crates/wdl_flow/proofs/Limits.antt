@@ -1,7 +1,7 @@
 -- What is past a limit stays past it where more is added.
-use Rattle.std.proofs.Common.{◌≡◌, ℕ, ◌+◌, ◌<◌, ◌≤◌, nat_lt, Bool, true, false, ◌||◌, List, [], ◌∷◌, ◌++◌, length, length-append, sym, ap, ◌∙◌, refl, arith}
+use Rattle.std.proofs.Common.{◌≡◌, ◌<◌, ◌≤◌, nat_lt, Bool, true, false, ◌||◌, List, ◌++◌, length, length-append, ap, ◌∙◌, refl, arith}
 use Rattle.std.proofs.lemmas.Bool.{lt-ltb, ltb-true}
-use Rattle.wdl_typed.specs.Flow.{Flowing, all_together, gathered, Names, together, too_many}
+use Rattle.wdl_typed.specs.Flow.{Flowing, together, too_many}
 
 or_true : (b : Bool) → (b || true) ≡ true
 or_true true = refl

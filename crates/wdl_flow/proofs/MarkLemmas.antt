@@ -1,5 +1,5 @@
 -- Searches by keys, calls and places may begin where their marks first stand.
-use Rattle.std.proofs.Common.{◌≡◌, ℕ, suc, zero, Bool, true, false, cond, ◌&&◌, ◌||◌, ◌==◌, List, [], ◌∷◌, Option, Some, None, drop, map, sym, ap, ◌∙◌, refl}
+use Rattle.std.proofs.Common.{◌≡◌, ℕ, true, false, cond, ◌==◌, List, [], ◌∷◌, Option, Some, None, drop, ap, ◌∙◌, refl}
 use Rattle.std.specs.Str.{bytes_eq}
 use Rattle.std.proofs.lemmas.Bool.{false≢true, and_parts, eqb-true}
 use Rattle.std.proofs.lemmas.Slice.Eq.{bytes_eq-Decides}
@@ -15,7 +15,7 @@ use Rattle.wdl_typed.specs.Scope.{lookup, same_key, same_second}
 use Rattle.wdl_names.specs.Marks.{first_place}
 use Rattle.wdl_flow.specs.declared.known.Ended.{Ended}
 use Rattle.wdl_flow.specs.declared.known.Known.{Known}
-use Rattle.wdl_flow.specs.Marks.{bit, call_mark, call_marks, entry_mark, entry_marks, key_mark, known_mark, known_marks, name_mark, place_mark}
+use Rattle.wdl_flow.specs.Marks.{call_mark, call_marks, entry_mark, entry_marks, key_mark, known_mark, known_marks, name_mark, place_mark}
 use Rattle.wdl_flow.specs.Views.{endeds_of, env_in}
 use Rattle.wdl_flow.proofs.Skip.{apart, skip}
 

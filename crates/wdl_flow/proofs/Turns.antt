@@ -1,37 +1,59 @@
 -- Statements, inputs or outputs one after the other.
-use Rattle.std.proofs.Common.{◌≡◌, ℕ, ◌+◌, ◌≤◌, Bool, true, false, List, [], ◌∷◌, ◌++◌, add-zero, zero-add, add_assoc, append_assoc, append-nil, sym, ap, ◌∙◌, subst, refl}
+use Rattle.std.proofs.Common.{◌≡◌, ℕ, ◌+◌, true, false, List, [], ◌∷◌, ◌++◌, add-zero, zero-add, add_assoc, append_assoc, append-nil, sym, ap, ◌∙◌}
+use Rattle.std.proofs.lemmas.List.{map-append}
 use Rattle.wdl_base.specs.declared.fault.Fault.{Fault}
 use Rattle.wdl_base.specs.declared.place.Segment.{Segment}
 use Rattle.wdl_base.specs.declared.request.Request.{Request}
-use Rattle.wdl_typed.specs.Flow.{Ended, Flowing, Known, Runner, Sight, in_turn, nothing, seeing, together, too_many, with_count}
+use Rattle.wdl_typed.specs.Flow.{Ended, Flowing, Known, Runner, Sight, in_turn, nothing, seeing, together, too_many}
+use Rattle.wdl_typed.specs.Requests.{Successes}
+use Rattle.wdl_flow.specs.declared.flowing.Flowing.{Flowing as Made}
+use Rattle.wdl_flow.specs.declared.job.AskedJob.{AskedJob}
+use Rattle.wdl_flow.specs.declared.known.Ended.{Ended as MadeEnded}
+use Rattle.wdl_flow.specs.declared.known.Known.{Known as MadeKnown}
 use Rattle.wdl_flow.specs.Flows.{counted}
+use Rattle.wdl_flow.specs.Views.{codes_in, codes_of, ended_of, endeds_of, flowing_of, known_of, knowns_of, request_of, requests_in}
 use Rattle.wdl_flow.proofs.Limits.{many_left, many_right}
 
 -- ---- lists of flows
 
-abbrev make : List Known → List Ended → List Request → List Fault → List (List Segment) → ℕ → Flowing
-make names calls jobs faults waits count = record { names = names; calls = calls; jobs = jobs; faults = faults; waits = waits; count = count }
+abbrev make : List Known → List Ended → List Request → List Successes → List Fault → List (List Segment) → ℕ → Flowing
+make names calls jobs codes faults waits count = record { names = names; calls = calls; jobs = jobs; codes = codes; faults = faults; waits = waits; count = count }
 
 pub together_assoc : (f g h : Flowing) → together (together f g) h ≡ together f (together g h)
 together_assoc f g h =
-    ap (λ x. make x ((f.calls ++ g.calls) ++ h.calls) ((f.jobs ++ g.jobs) ++ h.jobs) ((f.faults ++ g.faults) ++ h.faults) ((f.waits ++ g.waits) ++ h.waits) ((f.count + g.count) + h.count)) (append_assoc f.names g.names h.names)
-    ∙ ap (λ x. make (f.names ++ (g.names ++ h.names)) x ((f.jobs ++ g.jobs) ++ h.jobs) ((f.faults ++ g.faults) ++ h.faults) ((f.waits ++ g.waits) ++ h.waits) ((f.count + g.count) + h.count)) (append_assoc f.calls g.calls h.calls)
-    ∙ ap (λ x. make (f.names ++ (g.names ++ h.names)) (f.calls ++ (g.calls ++ h.calls)) x ((f.faults ++ g.faults) ++ h.faults) ((f.waits ++ g.waits) ++ h.waits) ((f.count + g.count) + h.count)) (append_assoc f.jobs g.jobs h.jobs)
-    ∙ ap (λ x. make (f.names ++ (g.names ++ h.names)) (f.calls ++ (g.calls ++ h.calls)) (f.jobs ++ (g.jobs ++ h.jobs)) x ((f.waits ++ g.waits) ++ h.waits) ((f.count + g.count) + h.count)) (append_assoc f.faults g.faults h.faults)
-    ∙ ap (λ x. make (f.names ++ (g.names ++ h.names)) (f.calls ++ (g.calls ++ h.calls)) (f.jobs ++ (g.jobs ++ h.jobs)) (f.faults ++ (g.faults ++ h.faults)) x ((f.count + g.count) + h.count)) (append_assoc f.waits g.waits h.waits)
-    ∙ ap (λ x. make (f.names ++ (g.names ++ h.names)) (f.calls ++ (g.calls ++ h.calls)) (f.jobs ++ (g.jobs ++ h.jobs)) (f.faults ++ (g.faults ++ h.faults)) (f.waits ++ (g.waits ++ h.waits)) x) (add_assoc f.count g.count h.count)
+    ap (λ x. make x ((f.calls ++ g.calls) ++ h.calls) ((f.jobs ++ g.jobs) ++ h.jobs) ((f.codes ++ g.codes) ++ h.codes) ((f.faults ++ g.faults) ++ h.faults) ((f.waits ++ g.waits) ++ h.waits) ((f.count + g.count) + h.count)) (append_assoc f.names g.names h.names)
+    ∙ ap (λ x. make (f.names ++ (g.names ++ h.names)) x ((f.jobs ++ g.jobs) ++ h.jobs) ((f.codes ++ g.codes) ++ h.codes) ((f.faults ++ g.faults) ++ h.faults) ((f.waits ++ g.waits) ++ h.waits) ((f.count + g.count) + h.count)) (append_assoc f.calls g.calls h.calls)
+    ∙ ap (λ x. make (f.names ++ (g.names ++ h.names)) (f.calls ++ (g.calls ++ h.calls)) x ((f.codes ++ g.codes) ++ h.codes) ((f.faults ++ g.faults) ++ h.faults) ((f.waits ++ g.waits) ++ h.waits) ((f.count + g.count) + h.count)) (append_assoc f.jobs g.jobs h.jobs)
+    ∙ ap (λ x. make (f.names ++ (g.names ++ h.names)) (f.calls ++ (g.calls ++ h.calls)) (f.jobs ++ (g.jobs ++ h.jobs)) x ((f.faults ++ g.faults) ++ h.faults) ((f.waits ++ g.waits) ++ h.waits) ((f.count + g.count) + h.count)) (append_assoc f.codes g.codes h.codes)
+    ∙ ap (λ x. make (f.names ++ (g.names ++ h.names)) (f.calls ++ (g.calls ++ h.calls)) (f.jobs ++ (g.jobs ++ h.jobs)) (f.codes ++ (g.codes ++ h.codes)) x ((f.waits ++ g.waits) ++ h.waits) ((f.count + g.count) + h.count)) (append_assoc f.faults g.faults h.faults)
+    ∙ ap (λ x. make (f.names ++ (g.names ++ h.names)) (f.calls ++ (g.calls ++ h.calls)) (f.jobs ++ (g.jobs ++ h.jobs)) (f.codes ++ (g.codes ++ h.codes)) (f.faults ++ (g.faults ++ h.faults)) x ((f.count + g.count) + h.count)) (append_assoc f.waits g.waits h.waits)
+    ∙ ap (λ x. make (f.names ++ (g.names ++ h.names)) (f.calls ++ (g.calls ++ h.calls)) (f.jobs ++ (g.jobs ++ h.jobs)) (f.codes ++ (g.codes ++ h.codes)) (f.faults ++ (g.faults ++ h.faults)) (f.waits ++ (g.waits ++ h.waits)) x) (add_assoc f.count g.count h.count)
 
 pub together_nothing : (f : Flowing) → together f nothing ≡ f
 together_nothing f =
-    ap (λ x. make x (f.calls ++ []) (f.jobs ++ []) (f.faults ++ []) (f.waits ++ []) (f.count + 0)) (append-nil f.names)
-    ∙ ap (λ x. make f.names x (f.jobs ++ []) (f.faults ++ []) (f.waits ++ []) (f.count + 0)) (append-nil f.calls)
-    ∙ ap (λ x. make f.names f.calls x (f.faults ++ []) (f.waits ++ []) (f.count + 0)) (append-nil f.jobs)
-    ∙ ap (λ x. make f.names f.calls f.jobs x (f.waits ++ []) (f.count + 0)) (append-nil f.faults)
-    ∙ ap (λ x. make f.names f.calls f.jobs f.faults x (f.count + 0)) (append-nil f.waits)
-    ∙ ap (λ x. make f.names f.calls f.jobs f.faults f.waits x) (add-zero f.count)
+    ap (λ x. make x (f.calls ++ []) (f.jobs ++ []) (f.codes ++ []) (f.faults ++ []) (f.waits ++ []) (f.count + 0)) (append-nil f.names)
+    ∙ ap (λ x. make f.names x (f.jobs ++ []) (f.codes ++ []) (f.faults ++ []) (f.waits ++ []) (f.count + 0)) (append-nil f.calls)
+    ∙ ap (λ x. make f.names f.calls x (f.codes ++ []) (f.faults ++ []) (f.waits ++ []) (f.count + 0)) (append-nil f.jobs)
+    ∙ ap (λ x. make f.names f.calls f.jobs x (f.faults ++ []) (f.waits ++ []) (f.count + 0)) (append-nil f.codes)
+    ∙ ap (λ x. make f.names f.calls f.jobs f.codes x (f.waits ++ []) (f.count + 0)) (append-nil f.faults)
+    ∙ ap (λ x. make f.names f.calls f.jobs f.codes f.faults x (f.count + 0)) (append-nil f.waits)
+    ∙ ap (λ x. make f.names f.calls f.jobs f.codes f.faults f.waits x) (add-zero f.count)
 
 pub counted_zero : (f : Flowing) → together (counted 0) f ≡ f
-counted_zero f = ap (λ x. make f.names f.calls f.jobs f.faults f.waits x) (zero-add f.count)
+counted_zero f = ap (λ x. make f.names f.calls f.jobs f.codes f.faults f.waits x) (zero-add f.count)
+
+-- what the code appends, list by list
+pub appended : (f g : Made) (ns : List MadeKnown) (es : List MadeEnded) (js : List AskedJob) (faults : List Fault) (waits : List (List Segment)) → ns ≡ f.names ++ g.names → es ≡ f.calls ++ g.calls
+    → js ≡ f.jobs ++ g.jobs → faults ≡ f.faults ++ g.faults → waits ≡ f.waits ++ g.waits
+    → flowing_of (record { names = ns; calls = es; jobs = js; faults = faults; waits = waits; count = f.count + g.count }) ≡ together (flowing_of f) (flowing_of g)
+appended f g ns es js faults waits names calls jobs failed waited =
+    let made : List Known → List Ended → List Request → List Successes → Flowing = λ n c j s. make n c j s (f.faults ++ g.faults) (f.waits ++ g.waits) (f.count + g.count) in
+    ap (λ x. make (knowns_of ns) (endeds_of es) (requests_in js) (codes_in js) x waits (f.count + g.count)) failed
+    ∙ ap (λ x. make (knowns_of ns) (endeds_of es) (requests_in js) (codes_in js) (f.faults ++ g.faults) x (f.count + g.count)) waited
+    ∙ ap (λ x. made x (endeds_of es) (requests_in js) (codes_in js)) (ap knowns_of names ∙ map-append known_of f.names g.names)
+    ∙ ap (λ x. made (knowns_of f.names ++ knowns_of g.names) x (requests_in js) (codes_in js)) (ap endeds_of calls ∙ map-append ended_of f.calls g.calls)
+    ∙ ap (λ x. made (knowns_of f.names ++ knowns_of g.names) (endeds_of f.calls ++ endeds_of g.calls) x (codes_in js)) (ap requests_in jobs ∙ map-append request_of f.jobs g.jobs)
+    ∙ ap (λ x. made (knowns_of f.names ++ knowns_of g.names) (endeds_of f.calls ++ endeds_of g.calls) (requests_in f.jobs ++ requests_in g.jobs) x) (ap codes_in jobs ∙ map-append codes_of f.jobs g.jobs)
 
 -- ---- what is seen
 

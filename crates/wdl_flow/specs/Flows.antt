@@ -12,7 +12,7 @@ Flows f (Ok g) = (flowing_of g ≡ f) × (flow.too_many f ≡ false)
 Flows f (Err e) = e ≡ TooMany → flow.too_many f ≡ true
 
 abbrev pub counted : ℕ → flow.Flowing
-counted n = record { names = []; calls = []; jobs = []; faults = []; waits = []; count = n }
+counted n = record { names = []; calls = []; jobs = []; codes = []; faults = []; waits = []; count = n }
 
 -- a flow without its names and calls
 abbrev pub quiet : flow.Flowing → flow.Flowing

@@ -1,5 +1,5 @@
 -- What a scatter gathers, item by item.
-use Rattle.std.specs.Prelude.{◌≡◌, List, [], map}
+use Rattle.std.specs.Prelude.{◌≡◌, List, map}
 use Rattle.wdl_typed.specs.Flow as flow
 use Rattle.wdl_flow.specs.declared.gathering.Gathering.{Gathering}
 use Rattle.wdl_flow.specs.Views.{endeds_of, flowing_of, knowns_of}

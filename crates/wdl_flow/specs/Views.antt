@@ -1,12 +1,16 @@
 -- What the code holds, as the definitions have it.
 use Rattle.std.specs.Prelude.{ℕ, List, map, take}
+use Rattle.wdl_base.specs.declared.request.Request.{Request}
 use Rattle.wdl_value.specs.declared.env.Bind.{Bind}
 use Rattle.wdl_value.specs.Tables.{table}
 use Rattle.wdl_typed.specs.Bodies.{library}
 use Rattle.wdl_typed.specs.Flow as flow
+use Rattle.wdl_typed.specs.Requests.{Successes}
+use Rattle.wdl_typed.specs.Statuses.{successes_of}
 use Rattle.wdl_flow.specs.declared.flowing.Flowing.{Flowing}
 use Rattle.wdl_flow.specs.declared.given.Given.{Given}
 use Rattle.wdl_flow.specs.declared.ground.Ground.{Ground}
+use Rattle.wdl_flow.specs.declared.job.AskedJob.{AskedJob}
 use Rattle.wdl_flow.specs.declared.known.Ended.{Ended}
 use Rattle.wdl_flow.specs.declared.known.Known.{Known}
 use Rattle.wdl_flow.specs.declared.sight.Sight.{Sight}
@@ -27,12 +31,26 @@ ended_of e = record { call = e.call; ended = e.ended }
 abbrev pub endeds_of : List Ended → List flow.Ended
 endeds_of = map ended_of
 
+abbrev pub request_of : AskedJob → Request
+request_of j = j.request
+
+abbrev pub requests_in : List AskedJob → List Request
+requests_in = map request_of
+
+abbrev pub codes_of : AskedJob → Successes
+codes_of j = successes_of j.codes
+
+-- the statuses of success of each job
+abbrev pub codes_in : List AskedJob → List Successes
+codes_in = map codes_of
+
 abbrev pub flowing_of : Flowing → flow.Flowing
 flowing_of f =
     record {
       names = knowns_of f.names;
       calls = endeds_of f.calls;
-      jobs = f.jobs;
+      jobs = requests_in f.jobs;
+      codes = codes_in f.jobs;
       faults = f.faults;
       waits = f.waits;
       count = f.count;

@@ -1,15 +1,14 @@
 ghost use Rattle.std.specs.Prelude.{◌≡◌, ◌∷◌, [], false, true, IfOk, OnOk};
 ghost use Rattle.wdl_typed.specs.Flow as flow;
 ghost use Rattle.wdl_flow.specs.Flows.{Flows, counted};
-ghost use Rattle.wdl_flow.specs.Views.{flowing_of};
+ghost use Rattle.wdl_flow.specs.Views.{codes_in, flowing_of, requests_in};
 ghost use Rattle.wdl_flow.specs.declared.fault.PlainFault.TheVariants.{TooMany as PastLimits};
 
 use crate::fault::PlainFault;
+use crate::job::AskedJob;
 use crate::known::{Ended, Known};
 use std::alloc::Global;
-use wdl_value::{
-    EvalCode, Fault, Items, Key, Name, NoMemory, Place, Request, Value, Why, copy_place,
-};
+use wdl_value::{EvalCode, Fault, Items, Key, Name, NoMemory, Place, Value, Why, copy_place};
 
 /// The most jobs that a flow may have.
 pub const JOB_LIMIT: usize = 20_000;
@@ -17,13 +16,13 @@ pub const JOB_LIMIT: usize = 20_000;
 /// The most instances of statements that a flow may have.
 pub const COUNT_LIMIT: u64 = 1_000_000;
 
-/// What statements give: names, calls, requests, faults, the places that wait for an answer, and how many instances of
+/// What statements give: names, calls, jobs, faults, the places that wait for an answer, and how many instances of
 /// statements were entered.
 #[derive(Debug, Drop)]
 pub struct Flowing {
     pub names: Items<Known>,
     pub calls: Items<Ended>,
-    pub jobs: Items<Request>,
+    pub jobs: Items<AskedJob>,
     pub faults: Items<Fault>,
     pub waits: Items<Place>,
     pub count: u64,
@@ -146,9 +145,9 @@ pub fn waiting(alloc: Global, place: Place, given: Flowing) -> Result<Flowing, N
     })
 }
 
-/// What is given, with requests before those that it has.
-pub fn with_jobs(mut jobs: Items<Request>, given: Flowing) -> Result<Flowing, NoMemory>
-    ensures { IfOk result (λ f. flowing_of f ≡ flow.with_jobs jobs (flowing_of given)) }
+/// What is given, with jobs before those that it has.
+pub fn with_jobs(mut jobs: Items<AskedJob>, given: Flowing) -> Result<Flowing, NoMemory>
+    ensures { IfOk result (λ f. flowing_of f ≡ flow.with_jobs (requests_in jobs) (codes_in jobs) (flowing_of given)) }
 {
     jobs.append(given.jobs)?;
     Ok(Flowing {

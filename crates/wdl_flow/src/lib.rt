@@ -1,4 +1,4 @@
-//! What flows of statements are made of: names with their values, calls, requests, faults and waits, what a statement sees of
+//! What flows of statements are made of: names with their values, calls, jobs, faults and waits, what a statement sees of
 //! them, and what a scatter gathers. Names, calls and answers are found in logarithmic time.
 #![tactic(auto)]
 
@@ -9,6 +9,7 @@ mod flowing;
 mod gathering;
 mod given;
 mod ground;
+mod job;
 mod known;
 mod mark;
 mod names;
@@ -23,6 +24,7 @@ pub use flowing::{
 pub use gathering::Gathering;
 pub use given::{Given, ended_as, output_key};
 pub use ground::Ground;
+pub use job::AskedJob;
 pub use known::{Ended, Known};
 pub use mark::place_mark;
 pub use names::Names;

@@ -117,6 +117,20 @@ Fetches told refused rose number (Err source.Failed) = refused × rose
 Fetches told refused rose number (Err (source.Bad code s)) = (bytes : List ℕ) × IsFile told bytes × IsTextFault number bytes code s
 Fetches told refused rose number (Err source.NoMemory) = Unit {0}
 
+-- no fault was counted where the bytes were read, whatever they are
+abbrev pub FetchCounts : Result Document SourceFault → ℕ → ℕ → Type 0
+FetchCounts (Ok d) before now = now ≡ before
+FetchCounts (Err source.Failed) before now = Unit {0}
+FetchCounts (Err (source.Bad code s)) before now = now ≡ before
+FetchCounts (Err source.NoMemory) before now = Unit {0}
+
+-- no fault was counted where all bytes were read that the answer rests on
+abbrev pub Counts : {A : Type 0} → Result A ImportFault → ℕ → ℕ → Type 0
+Counts (Ok a) before now = now ≡ before
+Counts (Err (import.Read p)) before now = Unit {0}
+Counts (Err (import.Bad code p s)) before now = now ≡ before
+Counts (Err import.NoMemory) before now = Unit {0}
+
 -- ---- one step
 
 -- the source at a path, or why there is none

@@ -3,7 +3,7 @@
 ghost use Rattle.std.specs.Prelude.{◌≡◌, ◌↔◌, ◌≤◌, ℕ, List};
 ghost use Rattle.wdl_port.specs.Causes.{Rose};
 ghost use Rattle.wdl_sources.specs.Reading as spec;
-ghost use Rattle.wdl_sources.specs.Walks.{Fetches};
+ghost use Rattle.wdl_sources.specs.Walks.{FetchCounts, Fetches};
 
 use std::alloc::Global;
 use wdl_ast::Document;
@@ -60,6 +60,7 @@ pub fn fetch<F: Shelf>(
     number: u32,
 ) -> Result<Document, SourceFault>
     ensures outcome { Fetches (F.tells shelf.old path.now) (F.refuses shelf.old path.now) (Rose (F.faults shelf.old) (F.faults shelf.new)) number result }
+    ensures counted { FetchCounts result (F.faults shelf.old) (F.faults shelf.new) }
     ensures later { F.faults shelf.old ≤ F.faults shelf.new }
     ensures same_files { (p : List ℕ) → F.tells shelf.new p ≡ F.tells shelf.old p }
     ensures same_refusals { (p : List ℕ) → F.refuses shelf.new p ↔ F.refuses shelf.old p }

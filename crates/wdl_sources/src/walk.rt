@@ -74,6 +74,7 @@ fn source_at<F: Shelf>(
     number: u32,
 ) -> Result<Source, ImportFault>
     ensures outcome { spec.IsSource (F.tells shelf.old path) (F.refuses shelf.old path) (Rose (F.faults shelf.old) (F.faults shelf.new)) path number result }
+    ensures counted { spec.Counts result (F.faults shelf.old) (F.faults shelf.new) }
     ensures later { F.faults shelf.old ≤ F.faults shelf.new }
     ensures same_files { (p : List ℕ) → F.tells shelf.new p ≡ F.tells shelf.old p }
     ensures same_refusals { (p : List ℕ) → F.refuses shelf.new p ↔ F.refuses shelf.old p }
@@ -110,6 +111,7 @@ fn take<F: Shelf>(
 ) -> Result<(), ImportFault>
     ensures outcome { spec.Takes (F.tells shelf.old step.path) (F.refuses shelf.old step.path) (Rose (F.faults shelf.old) (F.faults shelf.new)) step
         sources.old sources.new (reverse waiting.old.items) (reverse waiting.new.items) result }
+    ensures counted { spec.Counts result (F.faults shelf.old) (F.faults shelf.new) }
     ensures later { F.faults shelf.old ≤ F.faults shelf.new }
     ensures same_files { (p : List ℕ) → F.tells shelf.new p ≡ F.tells shelf.old p }
     ensures same_refusals { (p : List ℕ) → F.refuses shelf.new p ↔ F.refuses shelf.old p }
@@ -132,7 +134,7 @@ fn take<F: Shelf>(
 
 /// All documents that the one at a path leads to, depth first in the order of the imports, each once. `Read` is answered only for a
 /// path that the shelf refuses, and only where its count of faults rose; it is the given path, or that of an import of a document
-/// that was read before.
+/// that was read before. With documents, or with `Bad`, each read succeeded: the shelf has counted no fault.
 pub fn read_all<F: Shelf>(
     alloc: Global,
     shelf: &mut F,
@@ -140,6 +142,7 @@ pub fn read_all<F: Shelf>(
 ) -> Result<Items<Source>, ImportFault>
     requires { has_nul path.now ≡ false }
     ensures outcome { spec.Gathers (F.tells shelf.old) (F.refuses shelf.old) (Rose (F.faults shelf.old) (F.faults shelf.new)) path.now result }
+    ensures counted { spec.Counts result (F.faults shelf.old) (F.faults shelf.new) }
     ensures later { F.faults shelf.old ≤ F.faults shelf.new }
     ensures same_files { (p : List ℕ) → F.tells shelf.new p ≡ F.tells shelf.old p }
     ensures same_refusals { (p : List ℕ) → F.refuses shelf.new p ↔ F.refuses shelf.old p }

@@ -59,3 +59,18 @@ pub record Went (gives : Request → Answer → Type 0) (c : CoreState) (stop : 
   pub keep : stop ≡ Some Keep → Rose k.faults l.faults
   pub told : is_some l.kept ≡ is_some k.kept
   pub rows : (before after : List Entry) → k.kept ≡ Some before → l.kept ≡ Some after → RowsWent gives c ((stop ≡ None) ⊎ ¬ (Rose k.faults l.faults)) before after
+
+-- A keeper all along a run of rows that were its own.
+pub record Holding (gives : Request → Answer → Type 0) (rows : List Entry) (k : KeeperView) (c : CoreState) (stop : Option Stop) (l : KeeperView) : Type 0 where
+  pub ready : IsReady rows k
+  pub placed : ArePlaced rows
+  pub settled : ArePlaced c.journal
+  pub went : Went gives c stop k l
+
+-- what holds of a keeper before holds of it after, wherever it began
+abbrev pub Holds : (Request → Answer → Type 0) → List Entry → CoreState → Option Stop → KeeperView → CoreState → Option Stop → KeeperView → Type 0
+Holds gives rows c s k d t l = (begin : KeeperView) → Holding gives rows begin c s k → Holding gives rows begin d t l
+
+-- the same, of any keeper that is not called
+abbrev pub HoldsAny : (Request → Answer → Type 0) → List Entry → CoreState → Option Stop → CoreState → Option Stop → Type 0
+HoldsAny gives rows c s d t = (k : KeeperView) → Holds gives rows c s k d t k

@@ -1,11 +1,13 @@
 -- What holds all along a run.
-use Rattle.std.specs.Prelude.{◌≡◌, ℕ, ◌+◌, ◌≤◌, Bool, true, not, List, length, All, Contains, count_by, Option, IfNone}
+use Rattle.std.specs.Prelude.{◌≡◌, ℕ, ◌+◌, ◌≤◌, Bool, true, not, List, [], ◌∷◌, length, All, Contains, count_by, Option, Some, None, IfNone, if◌then◌else◌}
 use Rattle.std.specs.List.{list_any}
 use Rattle.wdl_base.specs.declared.answer.Answer.{Answer}
 use Rattle.wdl_base.specs.declared.entry.Entry.{Entry}
 use Rattle.wdl_base.specs.declared.entry.Source.{Source}
 use Rattle.wdl_base.specs.declared.entry.Source.TheVariants.{Launched, Kept}
+use Rattle.wdl_base.specs.declared.place.Segment.{Segment}
 use Rattle.wdl_base.specs.declared.request.Request.{Request}
+use Rattle.wdl_value.specs.Tables.{is_at, row_of}
 use Rattle.ready_core.specs.Cores.{CoreState, fed_at}
 use Rattle.ready_core.specs.Rows.{TakenJob, is_usable}
 use Rattle.work_desk.specs.Held.{Held}
@@ -16,6 +18,11 @@ use Rattle.work_desk.specs.declared.stop.Stop.{Stop}
 -- some row has the job's place, attempt and request, and a status that is a success of it
 abbrev pub usable : List Entry → TakenJob → Bool
 usable rows j = list_any (is_usable j) rows
+
+-- the first row of a place and attempt
+abbrev pub row_at : List Entry → List Segment → ℕ → Option Entry
+row_at [] place attempt = None
+row_at (row ∷ rows) place attempt = if is_at place attempt (row_of row) then Some row else row_at rows place attempt
 
 -- how many of these jobs have no usable row
 abbrev pub unkept : List Entry → List TakenJob → ℕ

@@ -1,5 +1,5 @@
 -- Why a run stops.
-use Rattle.std.specs.Prelude.{◌≡◌, Bool, true, false, if◌then◌else◌, Option, Some, None, Contains, ⊤}
+use Rattle.std.specs.Prelude.{◌≡◌, Bool, true, false, Option, Some, None, Contains, ⊤}
 use Rattle.wdl_base.specs.declared.request.Request.{Request}
 use Rattle.wdl_typed.specs.Flow.{too_many}
 use Rattle.ready_core.specs.Cores.{CoreState, flow_of, has_fault}
@@ -21,10 +21,15 @@ abbrev pub halted : Option Stop → Stop → Option Stop
 halted None why = Some why
 halted (Some s) why = Some s
 
--- the stop after a settle, by whether a fault stands, and whether the flow is too many
-abbrev pub judged : Option Stop → Bool → Bool → Option Stop
-judged None fault many = if fault then Some Failed else if many then Some TooMany else None
-judged (Some s) fault many = Some s
+-- The stop after a look at the flow over the journal: the first one stays, and without one there is none in the flow.
+abbrev pub Judges : CoreState → Option Stop → Option Stop → Type 0
+Judges c None None = (has_fault (flow_of c) ≡ false) × (too_many (flow_of c) ≡ false)
+Judges c None (Some Failed) = has_fault (flow_of c) ≡ true
+Judges c None (Some TooMany) = too_many (flow_of c) ≡ true
+Judges c None (Some NoMemory) = ⊥
+Judges c None (Some Keep) = ⊥
+Judges c None (Some (Launch p)) = ⊥
+Judges c (Some s) t = t ≡ Some s
 
 -- a stop comes only with its cause, and without a stop there is none in the flow over the journal
 abbrev pub Caused : (Request → Type 0) → CoreState → Option Stop → Type 0
@@ -35,3 +40,8 @@ Caused refuses c (Some (Launch p)) =
     (j : TakenJob) × Contains c.taken j × (j.request.place ≡ p) × refuses j.request × Contains (flow_of c).jobs j.request
 Caused refuses c (Some NoMemory) = ⊤
 Caused refuses c (Some Keep) = ⊤
+
+-- the stop is Keep only if it was so before, and there is none only if there was none before
+pub record NotKeep (s t : Option Stop) : Type 0 where
+  pub keep : t ≡ Some Keep → s ≡ Some Keep
+  pub stays : t ≡ None → s ≡ None

@@ -1,11 +1,12 @@
-ghost use Rattle.std.specs.Prelude.{◌≡◌, true, false, Contains, IfOk, MatchOption};
+ghost use Rattle.std.specs.Prelude.{◌≡◌, true, false, All, Contains, IfOk, OnOk, MatchOption};
 ghost use Rattle.std.specs.Option.{option_copied};
 ghost use Rattle.wdl_value.specs.Tables as tables;
+ghost use Rattle.wdl_base.specs.PlaceReading.{IsPlace};
 ghost use Rattle.wdl_flow.specs.Marks.{entry_marks};
-ghost use Rattle.wdl_port.specs.Rows.{rises};
+ghost use Rattle.wdl_port.specs.Rows.{are_kept, rises};
 ghost use Rattle.ready_core.specs.Rows.{is_usable};
 ghost use Rattle.work_desk.specs.Keeping.{ArePlaced};
-ghost use Rattle.work_desk.specs.Run.{usable};
+ghost use Rattle.work_desk.specs.Run.{row_at, usable};
 
 use crate::placed::see_place;
 use ready_core::{Job, is_usable_for};
@@ -25,15 +26,15 @@ pub(crate) struct Rows {
 impl Model for Rows {
     ghost use Rattle.std.specs.Prelude.{◌≡◌, List, true};
     ghost use Rattle.wdl_base.specs.declared.entry.Entry.{Entry};
+    ghost use Rattle.wdl_base.specs.PlaceReading.{IsPlace};
     ghost use Rattle.wdl_flow.specs.Marks.{entry_marks};
-    ghost use Rattle.wdl_port.specs.Rows.{rises};
-    ghost use Rattle.work_desk.specs.Keeping.{ArePlaced};
+    ghost use Rattle.wdl_port.specs.Rows.{are_kept, rises};
 
     ghost Value = { List Entry };
 
     ghost view = { λ r. r.entries };
 
-    ghost invariant = { λ r. (r.marks ≡ entry_marks r.entries) × (rises r.entries ≡ true) × ArePlaced r.entries };
+    ghost invariant = { λ r. (r.marks ≡ entry_marks r.entries) × (rises r.entries ≡ true) × (are_kept r.entries ≡ true) };
 }
 
 fn marks_of(alloc: Global, entries: &[Entry]) -> Result<Places, NoMemory>
@@ -48,7 +49,7 @@ fn marks_of(alloc: Global, entries: &[Entry]) -> Result<Places, NoMemory>
 }
 
 fn see_rows(entries: &[Entry])
-    ensures placed { ArePlaced entries.now }
+    ensures placed { All (λ e. IsPlace e.request.place) entries.now }
 {
     for entry in entries {
         see_place(&entry.request.place);
@@ -62,19 +63,13 @@ fn is_at(entry: &Entry, request: &Request) -> bool
         && entry.request.attempt == request.attempt
 }
 
-// The row of the job's place and attempt, where it is usable.
-fn row_among<'a>(entries: &'a [Entry], job: &Job) -> Option<&'a Entry>
-    requires rise { rises entries.now ≡ true }
-    ensures found { MatchOption (option_copied result) (usable entries.now job.now ≡ false)
-        (λ row. Contains entries.now row × (is_usable job.now row ≡ true)) }
+// The first row of the request's place and attempt.
+fn row_among<'a>(entries: &'a [Entry], request: &Request) -> Option<&'a Entry>
+    ensures row { option_copied result ≡ row_at entries.now request.now.place request.now.attempt }
 {
     for entry in entries {
-        if is_at(entry, job.request()) {
-            return if is_usable_for(entry, job) {
-                Some(entry)
-            } else {
-                None
-            };
+        if is_at(entry, request) {
+            return Some(entry);
         }
     }
     None
@@ -83,23 +78,38 @@ fn row_among<'a>(entries: &'a [Entry], job: &Job) -> Option<&'a Entry>
 impl Rows {
     pub(crate) fn new(alloc: Global, entries: Items<Entry>) -> Result<Rows, NoMemory>
         requires rise { rises entries ≡ true }
+        requires kept { are_kept entries ≡ true }
         ensures rows { IfOk result (λ r. r ≡ entries) }
+        ensures placed { OnOk result (ArePlaced entries) }
     {
         see_rows(entries.as_slice());
         let marks = marks_of(alloc, entries.as_slice())?;
         Ok(Rows { entries, marks })
     }
 
-    /// The row that is usable for a job. It takes no memory.
-    pub(crate) fn find(&self, job: &Job) -> Option<&Entry>
-        ensures found { MatchOption (option_copied result) (usable self.now job.now ≡ false)
-            (λ row. Contains self.now row × (is_usable job.now row ≡ true)) }
-        ensures placed { ArePlaced self.now }
+    // The row of the request's place and attempt.
+    fn at(&self, request: &Request) -> Option<&Entry>
+        ensures row { option_copied result ≡ row_at self.now request.now.place request.now.attempt }
+        ensures rise { rises self.now ≡ true }
+        ensures kept { are_kept self.now ≡ true }
     {
-        let request = job.request();
         let from = self
             .marks
             .place(place_mark(request.place.as_slice(), request.attempt));
-        row_among(&self.entries[from..], job)
+        row_among(&self.entries.as_slice()[from..], request)
+    }
+
+    /// The row that is usable for a job. It takes no memory.
+    pub(crate) fn find(&self, job: &Job) -> Option<&Entry>
+        ensures found { MatchOption (option_copied result) (usable self.now job.now ≡ false)
+            (λ row. Contains self.now row × (is_usable job.now row ≡ true) × (usable self.now job.now ≡ true)) }
+        ensures kept { are_kept self.now ≡ true }
+    {
+        let row = self.at(job.request())?;
+        if is_usable_for(row, job) {
+            Some(row)
+        } else {
+            None
+        }
     }
 }

@@ -3,7 +3,7 @@ ghost use Rattle.std.proofs.Common.{inl, inr};
 ghost use Rattle.wdl_port.specs.Rows.{rises, are_kept};
 ghost use Rattle.ready_core.specs.Cores.{started};
 ghost use Rattle.work_desk.specs.Held.{held};
-ghost use Rattle.work_desk.specs.Keeping.{IsReady, Went, keeper_view};
+ghost use Rattle.work_desk.specs.Keeping.{ArePlaced, IsReady, Went, keeper_view};
 ghost use Rattle.work_desk.specs.Ran.{HasRun};
 ghost use Rattle.work_desk.specs.Run.{Tells};
 ghost use Rattle.work_desk.specs.Views.{AllEqual};
@@ -13,7 +13,7 @@ use crate::caller::Caller;
 use crate::desk::{Desk, Opened};
 use crate::pact::{Pact, Shares};
 use crate::rows::Rows;
-use crate::stop::Stop;
+use crate::stop::{Stop, judge};
 use crate::unkept::Unkept;
 use crate::worker::work;
 use ready_core::Core;
@@ -32,6 +32,178 @@ pub struct Ran {
     pub core: Core,
     pub stop: Option<Stop>,
     pub counts: Counts,
+}
+
+/// A run for which there was no memory.
+fn unstarted(core: Core) -> Ran
+    ensures core { result.core ≡ core }
+    ensures stop { result.stop ≡ Some stop.NoMemory }
+    ensures counts { AllEqual result.counts 0 }
+{
+    Ran {
+        core,
+        stop: Some(Stop::NoMemory),
+        counts: Counts {
+            put: 0,
+            picked: 0,
+            finished: 0,
+            collected: 0,
+        },
+    }
+}
+
+/// The caller's part of a run, from its beginning to its end.
+fn conduct<P: Pact, L: Launcher, K: Keeper, S: Ledger, R: Wait>(
+    rt: &R,
+    alloc: Global,
+    desk: &Desk<P>,
+    launcher: &L,
+    rows: &Rows,
+    workers: u32,
+    alone: bool,
+    keeper: &mut K,
+    core: Core,
+    shares: Shares<P>,
+    steps: &mut Steps<S>,
+) -> Ran
+    requires core { core ≡ started core.origin }
+    requires shares { shares ≡ held 0 0 }
+    requires workers { (workers ≡ P.workers) × (0 < workers) }
+    requires there { Tells (L.gives launcher.now) (L.refuses launcher.now) P.gives P.refuses }
+    requires back { Tells P.gives P.refuses (L.gives launcher.now) (L.refuses launcher.now) }
+    requires ready { IsReady rows.now (keeper_view (K.kept keeper.old) (K.path keeper.old) (K.faults keeper.old)) }
+    requires placed { ArePlaced rows.now }
+    ensures run { HasRun workers (L.gives launcher.now) (L.refuses launcher.now) rows.now result.core result.stop result.counts }
+    ensures origin { result.core.origin ≡ core.origin }
+    ensures keeper { Went (L.gives launcher.now) result.core result.stop (keeper_view (K.kept keeper.old) (K.path keeper.old) (K.faults keeper.old)) (keeper_view (K.kept keeper.new) (K.path keeper.new) (K.faults keeper.new)) }
+{
+    let mut caller = Caller {
+        core,
+        shares,
+        stop: None,
+    };
+    judge(&mut caller.stop, &caller.core);
+    caller.drive(
+        rt, alloc, desk, launcher, rows, workers, alone, keeper, steps,
+    );
+    desk.close(rt);
+    let counts = desk.counts(rt, &mut caller.shares);
+    Ran {
+        core: caller.core,
+        stop: caller.stop,
+        counts,
+    }
+}
+
+/// Starts the workers, and conducts the run.
+fn in_threads<
+    'k,
+    's,
+    P: Pact + Send + Sync,
+    L: Launcher + Sync,
+    K: Keeper,
+    S: Ledger,
+    R: Threads + Wait + Sync,
+>(
+    rt: &R,
+    alloc: Global,
+    desk: &Desk<P>,
+    launcher: &L,
+    keeper: &'k mut K,
+    rows: &Rows,
+    workers: u32,
+    core: Core,
+    shares: Shares<P>,
+    steps: &'s mut Steps<S>,
+) -> Ran
+    requires core { core ≡ started core.origin }
+    requires shares { shares ≡ held 0 0 }
+    requires workers { (workers ≡ P.workers) × (0 < workers) }
+    requires there { Tells (L.gives launcher.now) (L.refuses launcher.now) P.gives P.refuses }
+    requires back { Tells P.gives P.refuses (L.gives launcher.now) (L.refuses launcher.now) }
+    requires ready { IsReady rows.now (keeper_view (K.kept keeper.old) (K.path keeper.old) (K.faults keeper.old)) }
+    requires placed { ArePlaced rows.now }
+    ensures run { HasRun workers (L.gives launcher.now) (L.refuses launcher.now) rows.now result.core result.stop result.counts }
+    ensures origin { result.core.origin ≡ core.origin }
+    ensures keeper { Went (L.gives launcher.now) result.core result.stop (keeper_view (K.kept keeper.old) (K.path keeper.old) (K.faults keeper.old)) (keeper_view (K.kept keeper.new) (K.path keeper.new) (K.faults keeper.new)) }
+{
+    let (ran, _keeper, _steps) = thread::scope(
+        thread::scope_env(),
+        rt,
+        move |scope| -> (Ran, &mut K, &mut Steps<S>)
+            requires { (core ≡ started core.origin) × (shares ≡ held 0 0) × (workers ≡ P.workers) × (0 < workers)
+                × Tells (L.gives launcher.now) (L.refuses launcher.now) P.gives P.refuses
+                × Tells P.gives P.refuses (L.gives launcher.now) (L.refuses launcher.now)
+                × IsReady rows.now (keeper_view (K.kept keeper.now) (K.path keeper.now) (K.faults keeper.now)) × ArePlaced rows.now }
+            ensures { HasRun workers (L.gives launcher.entry.now) (L.refuses launcher.entry.now) rows.entry.now result.0.core result.0.stop result.0.counts × (result.0.core.origin ≡ core.origin)
+                × Went (L.gives launcher.entry.now) result.0.core result.0.stop (keeper_view (K.kept keeper.entry.now) (K.path keeper.entry.now) (K.faults keeper.entry.now)) (keeper_view (K.kept result.1.now) (K.path result.1.now) (K.faults result.1.now)) × (result.1.ghost_name ≡ keeper.entry.ghost_name) }
+        {
+            let mut alone = true;
+            for _ in 0..workers {
+                let worker = move ||
+                    requires { Tells (L.gives launcher.now) (L.refuses launcher.now) P.gives P.refuses }
+                { work(rt, alloc, desk, launcher) };
+                if scope.spawn(worker).is_ok() {
+                    alone = false;
+                }
+            }
+            let ran = conduct(
+                rt,
+                alloc,
+                desk,
+                launcher,
+                rows,
+                workers,
+                alone,
+                &mut *keeper,
+                core,
+                shares,
+                &mut *steps,
+            );
+            (ran, keeper, steps)
+        },
+    );
+    ran
+}
+
+/// The run of the pact P.
+fn run_with<
+    'a,
+    P: Pact + Send + Sync,
+    L: Launcher + Sync,
+    K: Keeper,
+    S: Ledger,
+    R: Threads + Wait + Sync,
+>(
+    rt: &'a R,
+    alloc: Global,
+    core: Core,
+    launcher: &'a L,
+    keeper: &mut K,
+    rows: &'a Rows,
+    workers: u32,
+    put: Blank,
+    collected: Blank,
+    steps: &mut Steps<S>,
+) -> Ran
+    requires core { core ≡ started core.origin }
+    requires workers { (workers ≡ P.workers) × (0 < workers) × (workers ≤ 64) }
+    requires put { (put.name ≡ P.put_name) × (put.parts ≡ P.put_parts) × (0 < put.parts) }
+    requires collected { (collected.name ≡ P.collected_name) × (collected.parts ≡ P.collected_parts) × (0 < collected.parts) }
+    requires there { Tells (L.gives launcher.now) (L.refuses launcher.now) P.gives P.refuses }
+    requires back { Tells P.gives P.refuses (L.gives launcher.now) (L.refuses launcher.now) }
+    requires ready { IsReady rows.now (keeper_view (K.kept keeper.old) (K.path keeper.old) (K.faults keeper.old)) }
+    requires placed { ArePlaced rows.now }
+    ensures run { HasRun workers (L.gives launcher.now) (L.refuses launcher.now) rows.now result.core result.stop result.counts }
+    ensures origin { result.core.origin ≡ core.origin }
+    ensures keeper { Went (L.gives launcher.now) result.core result.stop (keeper_view (K.kept keeper.old) (K.path keeper.old) (K.faults keeper.old)) (keeper_view (K.kept keeper.new) (K.path keeper.new) (K.faults keeper.new)) }
+{
+    let Ok(Opened { desk, shares }) = Desk::<P>::new(alloc, workers, put, collected) else {
+        return unstarted(core);
+    };
+    in_threads(
+        rt, alloc, &desk, launcher, keeper, rows, workers, core, shares, steps,
+    )
 }
 
 /// Runs a core that has just been made by so many workers, 1 to 64, with the rows of an earlier run in rising order, which are those
@@ -58,6 +230,21 @@ pub fn run_kept<'a, L: Launcher + Sync, K: Keeper, S: Ledger, R: Threads + Wait 
     ensures origin { result.core.origin ≡ core.origin }
     ensures keeper { Went (L.gives launcher.now) result.core result.stop (keeper_view (K.kept keeper.old) (K.path keeper.old) (K.faults keeper.old)) (keeper_view (K.kept keeper.new) (K.path keeper.new) (K.faults keeper.new)) }
 {
+    let Ok(rows) = Rows::new(alloc, rows) else {
+        return unstarted(core);
+    };
+    run_with::<Brand, L, K, S, R>(
+        rt,
+        alloc,
+        core,
+        launcher,
+        keeper,
+        &rows,
+        workers,
+        Blank::new(1),
+        Blank::new(1),
+        steps,
+    )
 }
 
 /// As `run_kept`, with a keeper or without one. Without one the rows serve all the same.
@@ -73,7 +260,7 @@ pub fn run_all<'a, L: Launcher + Sync, K: Keeper, S: Ledger, R: Threads + Wait +
 ) -> Ran
     requires core { core ≡ started core.origin }
     requires workers { (0 < workers) × (workers ≤ 64) }
-    requires ready { MatchOption keeper.entry ⊤ (λ k. IsReady rows (keeper_view (K.kept k.now) (K.path k.now) (K.faults k.now))) }
+    requires ready { MatchOption keeper ⊤ (λ k. IsReady rows (keeper_view (K.kept k.now) (K.path k.now) (K.faults k.now))) }
     requires rise { rises rows ≡ true }
     requires kept { are_kept rows ≡ true }
     ensures run { HasRun workers (L.gives launcher.now) (L.refuses launcher.now) rows result.core result.stop result.counts }

@@ -1,6 +1,7 @@
 ghost use Rattle.std.specs.Prelude.{◌≡◌};
-ghost use Rattle.work_desk.specs.Stops.{halted, judged};
+ghost use Rattle.work_desk.specs.Stops.{Judges, halted};
 
+use ready_core::Core;
 use wdl_value::Place;
 
 /// Why a run stopped. What was out then was awaited, and nothing new was taken.
@@ -26,15 +27,16 @@ pub(crate) fn halt(stop: &mut Option<Stop>, why: Stop)
     }
 }
 
-/// Stops where a fault stands, or where the flow is too many.
-pub(crate) fn judge(stop: &mut Option<Stop>, fault: bool, many: bool)
-    ensures judged { stop.new ≡ judged stop.old fault many }
+/// Stops where the flow over the journal has a fault or is past its limits.
+pub(crate) fn judge(stop: &mut Option<Stop>, core: &Core)
+    ensures judged { Judges core.now stop.old stop.new }
 {
-    if stop.is_none() {
-        if fault {
-            *stop = Some(Stop::Failed);
-        } else if many {
-            *stop = Some(Stop::TooMany);
-        }
+    if stop.is_some() {
+        return;
+    }
+    if core.fault().is_some() {
+        *stop = Some(Stop::Failed);
+    } else if core.too_many() {
+        *stop = Some(Stop::TooMany);
     }
 }

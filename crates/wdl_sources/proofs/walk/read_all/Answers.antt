@@ -23,6 +23,7 @@ walk-preserved g c =
       omega (arith, l.invariant.2, c.in_ok-take.ensures.later),
       λ p. c.in_ok-take.ensures.same_files p ∙ l.invariant.3 p,
       λ p. (λ x. (l.invariant.4 p).0 ((c.in_ok-take.ensures.same_refusals p).0 x), λ x. (c.in_ok-take.ensures.same_refusals p).1 ((l.invariant.4 p).1 x)),
+      c.in_ok-take.ensures.counted ∙ l.invariant.5,
     )
 
 pub walk-smaller : goal.walk-smaller
@@ -41,6 +42,7 @@ walk-init g c = (
   omega arith,
   λ p. refl,
   λ p. (λ x. x, λ x. x),
+  refl,
 )
 
 pub returns-in_err-take-clause-outcome : goal.returns-in_err-take-clause-outcome

@@ -9,6 +9,7 @@ invariant-walk g l =
     × (g.F.Shelf.faults l.fn.shelf ≤ g.F.Shelf.faults l.shelf)
     × ((p : List ℕ) → g.F.Shelf.tells l.shelf p ≡ g.F.Shelf.tells l.fn.shelf p)
     × ((p : List ℕ) → g.F.Shelf.refuses l.shelf p ↔ g.F.Shelf.refuses l.fn.shelf p)
+    × (g.F.Shelf.faults l.shelf ≡ g.F.Shelf.faults l.fn.shelf)
 
 abbrev pub decreases-walk : goal.decreases-walk
 decreases-walk g l = (most_documents - length l.sources) * 2 ^ 64 + length l.waiting.items

@@ -1,4 +1,4 @@
-use Rattle.std.proofs.Common.{List, map, take, sym, ap, ◌∙◌}
+use Rattle.std.proofs.Common.{List, take, sym, ap, ◌∙◌}
 use Rattle.std.proofs.lemmas.List.{take-map}
 use Rattle.wdl_base.specs.declared.place.Segment.{Segment}
 use Rattle.wdl_typed.specs.Flow as flow

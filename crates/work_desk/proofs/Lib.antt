@@ -1,0 +1,5 @@
+pub mod Flows
+pub mod Greed
+pub mod Kept
+pub mod Looks
+pub mod Runs

@@ -1,0 +1,256 @@
+ghost use Rattle.std.specs.Prelude.{◌≡◌, ◌<◌, ◌≤◌, true, None, Some, IsSome, length};
+ghost use Rattle.std.specs.Bool.{OnFalse};
+ghost use Rattle.wdl_base.specs.declared.entry.Source.TheVariants.{Launched};
+ghost use Rattle.ready_core.specs.Cores.{AreHeld, idle_at, started};
+ghost use Rattle.ready_core.specs.Launches.{Refusal};
+ghost use Rattle.work_desk.specs.Greedy.{Busy};
+ghost use Rattle.work_desk.specs.Held.{held};
+ghost use Rattle.work_desk.specs.Keeping.{Holds, HoldsAny, keeper_view};
+ghost use Rattle.work_desk.specs.Ran.{IsDone};
+ghost use Rattle.work_desk.specs.Run.{IsGiven, IsRun, Tells};
+ghost use Rattle.work_desk.specs.Settling.{Settling};
+ghost use Rattle.work_desk.specs.Stops.{NotKeep, is_strict};
+ghost use Rattle.work_desk.specs.Views.{Good};
+
+use crate::desk::Desk;
+use crate::pact::{Pact, Shares};
+use crate::placed::see_place;
+use crate::rows::Rows;
+use crate::state::Finished;
+use crate::stop::{Stop, halt, judge};
+use crate::worker::{launch, wait_for_good};
+use ready_core::{Answered, Core, SettleFault, Unlaunched};
+use std::alloc::Global;
+use std::sync::Wait;
+use std::sync::ledger::Ledger;
+use wdl_port::{KeepFault, Keeper, LaunchFault, Launcher};
+use wdl_value::{Steps, copy_place};
+
+/// What the caller of a run has: the core and the shares of the desk's ledgers, which are its own alone, and the first stop.
+#[derive(Drop)]
+pub(crate) struct Caller<P: Pact> {
+    pub core: Core,
+    pub shares: Shares<P>,
+    pub stop: Option<Stop>,
+}
+
+impl<P: Pact> Caller<P> {
+    // Settles an answer, and looks at the flow.
+    fn settle<S: Ledger, R: Wait>(
+        &mut self,
+        rt: &R,
+        alloc: Global,
+        rows: &Rows,
+        answered: Answered,
+        steps: &mut Steps<S>,
+    )
+        requires run { IsRun P.workers P.gives P.refuses rows.now 1 self.old.core self.old.shares self.old.stop }
+        requires given { IsGiven P.gives rows.now self.old.core.taken answered }
+        requires eager { answered.source ≡ Launched → is_strict self.old.stop ≡ true → Busy self.old.core.origin P.workers self.old.core.journal self.old.core.taken }
+        ensures run { IsRun P.workers P.gives P.refuses rows.now 0 self.new.core self.new.shares self.new.stop }
+        ensures shares { self.new.shares ≡ self.old.shares }
+        ensures settling { Settling answered self.old.core self.old.stop self.new.core self.new.stop }
+    {
+        match self.core.settle(alloc, answered, steps) {
+            Ok(()) => judge(&mut self.stop, &self.core),
+            Err(SettleFault::NoMemory(_)) => halt(&mut self.stop, Stop::NoMemory),
+            Err(SettleFault::Stranger(_)) => wait_for_good(rt),
+        }
+    }
+
+    // Takes a job, if one is to be taken, and puts it on the desk, or settles it by its row. False where there was none.
+    fn take_one<S: Ledger, R: Wait>(
+        &mut self,
+        rt: &R,
+        alloc: Global,
+        desk: &Desk<P>,
+        rows: &Rows,
+        steps: &mut Steps<S>,
+    ) -> bool
+        requires run { IsRun P.workers P.gives P.refuses rows.now 0 self.old.core self.old.shares self.old.stop }
+        requires goes_on { self.old.stop ≡ None }
+        requires free { length self.old.core.out < P.workers }
+        ensures run { IsRun P.workers P.gives P.refuses rows.now 0 self.new.core self.new.shares self.new.stop }
+        ensures origin { self.new.core.origin ≡ self.old.core.origin }
+        ensures holds { HoldsAny P.gives rows.now self.old.core self.old.stop self.new.core self.new.stop }
+        ensures idle { OnFalse result ((idle_at self.new.core ≡ true) × (self.new.core ≡ self.old.core)) }
+    {
+        let Some(job) = self.core.take() else {
+            return false;
+        };
+        let Some(found) = rows.find(&job) else {
+            desk.put(rt, job, &mut self.shares);
+            return true;
+        };
+        let Ok(row) = found.copy(alloc) else {
+            halt(&mut self.stop, Stop::NoMemory);
+            return true;
+        };
+        let Ok(answered) = job.kept(row) else {
+            unreachable!();
+        };
+        self.settle(rt, alloc, rows, answered, steps);
+        true
+    }
+
+    // Takes jobs until as many are out as there are workers, or nothing more is to be taken, or the run stops.
+    fn fill<S: Ledger, R: Wait>(
+        &mut self,
+        rt: &R,
+        alloc: Global,
+        desk: &Desk<P>,
+        rows: &Rows,
+        workers: u32,
+        steps: &mut Steps<S>,
+    )
+        requires run { IsRun P.workers P.gives P.refuses rows.now 0 self.old.core self.old.shares self.old.stop }
+        requires workers { workers ≡ P.workers }
+        ensures run { IsRun P.workers P.gives P.refuses rows.now 0 self.new.core self.new.shares self.new.stop }
+        ensures origin { self.new.core.origin ≡ self.old.core.origin }
+        ensures holds { HoldsAny P.gives rows.now self.old.core self.old.stop self.new.core self.new.stop }
+        ensures busy { self.new.stop ≡ None → Busy self.new.core.origin P.workers self.new.core.journal self.new.core.taken }
+        ensures held { AreHeld self.new.core }
+    {
+        for _ in rt.forever() {
+            let out = self.core.out();
+            if self.stop.is_some() {
+                return;
+            }
+            if out >= workers {
+                return;
+            }
+            if !self.take_one(rt, alloc, desk, rows, steps) {
+                return;
+            }
+        }
+        unreachable!()
+    }
+
+    // Puts an answer that was launched into the keeper, and settles it.
+    fn keep<K: Keeper, S: Ledger, R: Wait>(
+        &mut self,
+        rt: &R,
+        alloc: Global,
+        rows: &Rows,
+        keeper: &mut K,
+        answered: Answered,
+        steps: &mut Steps<S>,
+    )
+        requires run { IsRun P.workers P.gives P.refuses rows.now 1 self.old.core self.old.shares self.old.stop }
+        requires launched { answered.source ≡ Launched }
+        requires given { P.gives answered.request answered.answer }
+        requires busy { self.old.stop ≡ None → Busy self.old.core.origin P.workers self.old.core.journal self.old.core.taken }
+        requires held { AreHeld self.old.core }
+        requires started { IsSome (K.path keeper.old) }
+        ensures run { IsRun P.workers P.gives P.refuses rows.now 0 self.new.core self.new.shares self.new.stop }
+        ensures shares { self.new.shares ≡ self.old.shares }
+        ensures origin { self.new.core.origin ≡ self.old.core.origin }
+        ensures path { K.path keeper.new ≡ K.path keeper.old }
+        ensures holds { Holds P.gives rows.now self.old.core self.old.stop (keeper_view (K.kept keeper.old) (K.path keeper.old) (K.faults keeper.old)) self.new.core self.new.stop (keeper_view (K.kept keeper.new) (K.path keeper.new) (K.faults keeper.new)) }
+    {
+        see_place(&answered.entry().request.place);
+        match keeper.put(alloc, answered.entry()) {
+            Ok(()) => self.settle(rt, alloc, rows, answered, steps),
+            Err(KeepFault::Failed) => {
+                halt(&mut self.stop, Stop::Keep);
+                self.settle(rt, alloc, rows, answered, steps);
+            }
+            Err(KeepFault::NoMemory) => halt(&mut self.stop, Stop::NoMemory),
+        }
+    }
+
+    // Stops at a job that was not launched.
+    fn give_up<R: Wait>(&mut self, rt: &R, alloc: Global, rows: &Rows, unlaunched: Unlaunched)
+        requires run { IsRun P.workers P.gives P.refuses rows.now 1 self.old.core self.old.shares self.old.stop }
+        requires good { Refusal unlaunched.fault (P.refuses unlaunched.job.request) }
+        requires held { AreHeld self.old.core }
+        ensures run { IsRun P.workers P.gives P.refuses rows.now 0 self.new.core self.new.shares self.new.stop }
+        ensures shares { self.new.shares ≡ self.old.shares }
+        ensures core { self.new.core ≡ self.old.core }
+        ensures stop { NotKeep self.old.stop self.new.stop }
+    {
+        let Unlaunched { job, fault } = unlaunched;
+        if let LaunchFault::NoMemory = fault {
+            halt(&mut self.stop, Stop::NoMemory);
+            return;
+        }
+        if self.stop.is_some() {
+            return;
+        }
+        if !self.core.is_out(&job) {
+            wait_for_good(rt);
+            return;
+        }
+        match copy_place(alloc, &job.request().place) {
+            Ok(place) => halt(&mut self.stop, Stop::Launch(place)),
+            Err(_) => halt(&mut self.stop, Stop::NoMemory),
+        }
+    }
+
+    // Keeps and settles an answer that was collected, or stops at a job that was not launched.
+    fn absorb<K: Keeper, S: Ledger, R: Wait>(
+        &mut self,
+        rt: &R,
+        alloc: Global,
+        rows: &Rows,
+        keeper: &mut K,
+        finished: Finished,
+        steps: &mut Steps<S>,
+    )
+        requires run { IsRun P.workers P.gives P.refuses rows.now 1 self.old.core self.old.shares self.old.stop }
+        requires good { Good P.gives P.refuses finished }
+        requires busy { self.old.stop ≡ None → Busy self.old.core.origin P.workers self.old.core.journal self.old.core.taken }
+        requires held { AreHeld self.old.core }
+        requires started { IsSome (K.path keeper.old) }
+        ensures run { IsRun P.workers P.gives P.refuses rows.now 0 self.new.core self.new.shares self.new.stop }
+        ensures shares { self.new.shares ≡ self.old.shares }
+        ensures origin { self.new.core.origin ≡ self.old.core.origin }
+        ensures path { K.path keeper.new ≡ K.path keeper.old }
+        ensures holds { Holds P.gives rows.now self.old.core self.old.stop (keeper_view (K.kept keeper.old) (K.path keeper.old) (K.faults keeper.old)) self.new.core self.new.stop (keeper_view (K.kept keeper.new) (K.path keeper.new) (K.faults keeper.new)) }
+    {
+        match finished {
+            Finished::Done(answered) => self.keep(rt, alloc, rows, keeper, answered, steps),
+            Finished::Undone(unlaunched) => self.give_up(rt, alloc, rows, unlaunched),
+        }
+    }
+
+    /// The caller's part of a run, up to the point where nothing is out and nothing more is to be taken, or, after a stop, all that
+    /// was out has come back. With `alone` it launches the jobs itself.
+    pub(crate) fn drive<L: Launcher, K: Keeper, S: Ledger, R: Wait>(
+        &mut self,
+        rt: &R,
+        alloc: Global,
+        desk: &Desk<P>,
+        launcher: &L,
+        rows: &Rows,
+        workers: u32,
+        alone: bool,
+        keeper: &mut K,
+        steps: &mut Steps<S>,
+    )
+        requires run { IsRun P.workers P.gives P.refuses rows.now 0 self.old.core self.old.shares self.old.stop }
+        requires workers { (workers ≡ P.workers) × (0 < workers) }
+        requires tells { Tells (L.gives launcher.now) (L.refuses launcher.now) P.gives P.refuses }
+        requires started { IsSome (K.path keeper.old) }
+        ensures run { IsRun P.workers P.gives P.refuses rows.now 0 self.new.core self.new.shares self.new.stop }
+        ensures origin { self.new.core.origin ≡ self.old.core.origin }
+        ensures even { self.new.shares.put ≡ self.new.shares.collected }
+        ensures done { self.new.stop ≡ None → IsDone self.new.core }
+        ensures holds { Holds P.gives rows.now self.old.core self.old.stop (keeper_view (K.kept keeper.old) (K.path keeper.old) (K.faults keeper.old)) self.new.core self.new.stop (keeper_view (K.kept keeper.new) (K.path keeper.new) (K.faults keeper.new)) }
+    {
+        for _ in rt.forever() {
+            self.fill(rt, alloc, desk, rows, workers, steps);
+            if desk.out(rt, &mut self.shares) == 0 {
+                return;
+            }
+            if alone {
+                if let Some(job) = desk.job_now(rt) {
+                    launch(rt, alloc, desk, launcher, job);
+                }
+            }
+            let finished = desk.take_answer(rt, &mut self.shares);
+            self.absorb(rt, alloc, rows, keeper, finished, steps);
+        }
+        unreachable!()
+    }
+}
