@@ -16,7 +16,7 @@ use Rattle.wdl_flow.specs.declared.flowing.Flowing.{Flowing as Made}
 use Rattle.wdl_flow.specs.Flows.{Flows}
 use Rattle.wdl_flow.specs.Views.{flowing_of}
 use Rattle.wdl_plain.specs.declared.flow.Flow.{Flow}
-use Rattle.wdl_plain.specs.Shown.{IsShown, Shows, library_of, shown}
+use Rattle.wdl_plain.specs.Shown.{IsShown, IsShownAs, Shows, library_of}
 
 -- the flow that the code goes over
 pub over_is : (lib : Library) (k : ℕ) (site : List ℕ) (es journal : List Entry) (env given : List Bind) (place : List Segment) → es ≡ journal → env ≡ given → place ≡ []
@@ -27,8 +27,8 @@ over_is lib k site es journal env given place e f p =
     ∙ ap (λ (q : List Segment). flow.flow (record { library = lib; site = site; table = table journal }) 25 k given q) p
 
 -- what is shown of a flow, by the flow that the code made
-pub shows : (f : flow.Flowing) (main : FlowDef) (made : Made) (s : Flow) → Flows f (Ok made) → s ≡ shown (flowing_of made) main → Shows f main (Ok s)
-shows f main made s h e = (e ∙ ap (λ (z : flow.Flowing). shown z main) h.0, h.1)
+pub shows : (f : flow.Flowing) (main : FlowDef) (made : Made) (s : Flow) → Flows f (Ok made) → IsShownAs (flowing_of made) main s → Shows f main (Ok s)
+shows f main made s h is = (subst (λ (z : flow.Flowing). IsShownAs z main s) h.0 is, h.1)
 
 pub refuses : (f : flow.Flowing) (main : FlowDef) (result : Result Flow PlainFault) (e : PlainFault) → IsErr result × IsErrAnd result (λ y. y ≡ e) → Flows f (Err e) → Shows f main result
 refuses f main (Ok s) e h p = absurd h.1

@@ -1,12 +1,12 @@
 -- What one attempt of a call gives.
-use Rattle.std.specs.Prelude.{◌≡◌, ◌<◌, ◌==◌, ℕ, List, Option, Result, Ok, Err}
+use Rattle.std.specs.Prelude.{◌≡◌, ◌<◌, ◌==◌, Option}
 use Rattle.wdl_base.specs.declared.answer.Answer.{Answer}
-use Rattle.wdl_base.specs.declared.error.NoMemory.{NoMemory}
 use Rattle.wdl_typed.specs.Flow as flow
 use Rattle.wdl_typed.specs.Requests.{request}
 use Rattle.wdl_task.specs.declared.request.Prepared.{Prepared}
 use Rattle.wdl_task.specs.Readiness.{IsTold}
 use Rattle.wdl_task.specs.Views.{asked_of}
+use Rattle.wdl_flow.specs.declared.job.AskedJob.{AskedJob}
 use Rattle.wdl_plain.specs.declared.attempt.Attempt.{Attempt}
 use Rattle.wdl_plain.specs.declared.attempt.Attempt.TheVariants.{Ends, Goes}
 use Rattle.wdl_plain.specs.declared.attempt.TaskCall.{TaskCall}
@@ -24,6 +24,10 @@ attempted r n call p answer later =
 
 abbrev pub attempts : flow.Run → flow.Names → TaskCall → Prepared → flow.Flowing
 attempts r n call p = flow.attempts r n call.place.now call.task.now call.name.now (asked_of p) p.retries 0
+
+-- the job of an attempt that was prepared
+abbrev pub job_of : Prepared → AskedJob
+job_of p = record { request = p.request; codes = p.codes }
 
 -- what was prepared for this call, below the site
 pub record IsPrepared (r : flow.Run) (call : TaskCall) (p : Prepared) : Type 0 where

@@ -19,7 +19,7 @@ use Rattle.wdl_typed.specs.declared.task.TInput.{TInput}
 use Rattle.wdl_typed.specs.declared.task.TaskDef.{TaskDef}
 use Rattle.wdl_typed.specs.Bodies.{Library, Seen, all_declared, body_gives, body_nests, items_differ}
 use Rattle.wdl_typed.specs.Declarations.{plain_key, task_typed}
-use Rattle.wdl_typed.specs.Flow.{Known, Run, Sight, all_known, declaration, env_of, input_of, item_sight, seeing}
+use Rattle.wdl_typed.specs.Flow.{Known, Sight, all_known, declaration, env_of, input_of, item_sight, seeing}
 use Rattle.wdl_typed.specs.Kept.{flow_typed}
 use Rattle.wdl_typed.specs.Lists.{has_name}
 use Rattle.wdl_typed.specs.Scope.{lookup, type_in}

@@ -6,7 +6,7 @@ use Rattle.wdl_typed.specs.declared.flow.TCall.{TCall}
 use Rattle.wdl_typed.specs.declared.flow.TIf.{TIf}
 use Rattle.wdl_typed.specs.declared.flow.TScatter.{TScatter}
 use Rattle.wdl_typed.specs.Bodies.{signature}
-use Rattle.wdl_typed.specs.Flow.{Flowing, Names, Part, Run, Runner, Sight, body_names, body_run, call_of, each_item, flow, gathered, if_run, item_sight as entering, run_of_part, scatter_run, signature_keys, statement_step}
+use Rattle.wdl_typed.specs.Flow.{Names, Part, Run, Runner, Sight, body_names, body_run, call_of, each_item, flow, gathered, if_run, item_sight as entering, run_of_part, scatter_run, signature_keys, statement_step}
 
 abbrev pub part_of : Run → ℕ → Statement → Part
 part_of r depth = fold-Statement Part (statement_step r (flow r depth))

@@ -14,7 +14,7 @@ ghost use Rattle.wdl_flow.specs.Views.{flowing_of, given_of, known_of, knowns_of
 use std::alloc::Global;
 use std::sync::ledger::Ledger;
 use wdl_flow::{
-    Flowing, Given, Ground, Known, ended_as, output_key, waiting, with_fault, with_jobs,
+    AskedJob, Flowing, Given, Ground, Known, ended_as, output_key, waiting, with_fault, with_jobs,
 };
 use wdl_task::{CallFault, Prepared, conclude, prepare, retry};
 use wdl_typed::TaskDef;
@@ -167,6 +167,15 @@ fn attempted<'a, L: Ledger>(
     }
 }
 
+/// What is asked for what was prepared.
+fn job_of(alloc: Global, prepared: &Prepared) -> Result<AskedJob, NoMemory>
+    ensures { IfOk result (λ j. j ≡ spec.job_of prepared.now) }
+{
+    let request = prepared.request.copy(alloc)?;
+    let codes = prepared.codes.copy(alloc)?;
+    Ok(AskedJob { request, codes })
+}
+
 /// The attempts of a call, from the first on.
 fn attempts<'a, L: Ledger>(
     alloc: Global,
@@ -182,7 +191,7 @@ fn attempts<'a, L: Ledger>(
 {
     let mut jobs = Items::new(alloc);
     'tries: loop {
-        jobs.push(prepared.request.copy(alloc)?)?;
+        jobs.push(job_of(alloc, &prepared)?)?;
         match attempted(alloc, call, given, &prepared, ground, steps)? {
             Attempt::Ends(ends) => return with_jobs(jobs, ends),
             Attempt::Goes(back) => given = back,

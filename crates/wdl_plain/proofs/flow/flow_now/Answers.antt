@@ -19,26 +19,20 @@ flow_of-requires g c =
           (λ f there. ap (inputs_fit d.structs f.inputs) (c.in_ok-given.ensures ∙ c.as_slice.ensures) ∙ c.requires.fit c.in-Some.k f c.in-Some.is there);
     }
 
-pub returns-in_err-flow : goal.returns-in_err-flow
-returns-in_err-flow g c =
+pub returns-in_err-flow-clause-shown : goal.returns-in_err-flow-clause-shown
+returns-in_err-flow-clause-shown g c =
     let d = c.args.checked.now in
     let there : slice_get d.flows c.in-Some.k ≡ Some c.in-Some-get.main.now = search rules in
     let over = over_is (library_of d) c.in-Some.k c.args.site.now c.in_ok-new.field-0 c.args.journal.now (env_in c.in_ok-given.given) c.args.inputs.now c.new-2.result c.in_ok-new.ensures (c.in_ok-given.ensures ∙ c.as_slice.ensures) c.new-2.ensures in
-    record {
-      shown =
-          is_shown d c.args.inputs.now c.args.site.now c.args.journal.now c.from_residual-in_err-flow.result c.in-Some.k c.in-Some-get.main.now c.in-Some.is there
-          (refuses (flow_over (library_of d) c.in-Some.k c.args.inputs.now c.args.site.now c.args.journal.now) c.in-Some-get.main.now c.from_residual-in_err-flow.result c.in_err-flow.field-0.0
-          c.from_residual-in_err-flow.ensures (λ is. sym (ap flow.too_many over) ∙ c.in_err-flow.ensures is));
-    }
+    is_shown d c.args.inputs.now c.args.site.now c.args.journal.now c.from_residual-in_err-flow.result c.in-Some.k c.in-Some-get.main.now c.in-Some.is there
+    (refuses (flow_over (library_of d) c.in-Some.k c.args.inputs.now c.args.site.now c.args.journal.now) c.in-Some-get.main.now c.from_residual-in_err-flow.result c.in_err-flow.field-0.0
+    c.from_residual-in_err-flow.ensures (λ is. sym (ap flow.too_many over) ∙ c.in_err-flow.ensures is))
 
-pub returns : goal.returns
-returns g c =
+pub returns-clause-shown : goal.returns-clause-shown
+returns-clause-shown g c =
     let d = c.args.checked.now in
     let there : slice_get d.flows c.in-Some.k ≡ Some c.in-Some-get.main.now = search rules in
     let over = over_is (library_of d) c.in-Some.k c.args.site.now c.in_ok-new.field-0 c.args.journal.now (env_in c.in_ok-given.given) c.args.inputs.now c.new-2.result c.in_ok-new.ensures (c.in_ok-given.ensures ∙ c.as_slice.ensures) c.new-2.ensures in
-    record {
-      shown =
-          is_shown d c.args.inputs.now c.args.site.now c.args.journal.now (Ok c.in_ok-shown.field-0) c.in-Some.k c.in-Some-get.main.now c.in-Some.is there
-          (shows (flow_over (library_of d) c.in-Some.k c.args.inputs.now c.args.site.now c.args.journal.now) c.in-Some-get.main.now c.in_ok-flow.flow c.in_ok-shown.field-0
-          (as_flow _ _ (Ok c.in_ok-flow.flow) (sym over) c.in_ok-flow.ensures) c.in_ok-shown.ensures);
-    }
+    is_shown d c.args.inputs.now c.args.site.now c.args.journal.now (Ok c.in_ok-shown.field-0) c.in-Some.k c.in-Some-get.main.now c.in-Some.is there
+    (shows (flow_over (library_of d) c.in-Some.k c.args.inputs.now c.args.site.now c.args.journal.now) c.in-Some-get.main.now c.in_ok-flow.flow c.in_ok-shown.field-0
+    (as_flow _ _ (Ok c.in_ok-flow.flow) (sym over) c.in_ok-flow.ensures) c.in_ok-shown.ensures.shown)

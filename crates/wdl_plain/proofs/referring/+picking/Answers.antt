@@ -3,7 +3,7 @@ use Rattle.std.proofs.lemmas.List.{drop_all, drop_more}
 use Rattle.std.proofs.lemmas.Result.{on_ok_weaker}
 use Rattle.wdl_base.specs.declared.name.Key.{Key}
 use Rattle.wdl_plain.proofs.PickLemmas.{picked_all, picked_more, picked_none, picked_one, picked_two}
-use Rattle.wdl_plain.specs.Referring.{pick, picked, piece_names}
+use Rattle.wdl_plain.specs.Referring.{picked, piece_names}
 use Rattle.wdl_typed.specs.Scope.{all_names, field_names, names_of, row_names}
 use Rattle.wdl_typed.specs.declared.expr.TExpr.{TExpr, the_lemmas}
 use Rattle.wdl_typed.specs.declared.expr.TField.{TField}
