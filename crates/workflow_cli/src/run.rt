@@ -88,6 +88,7 @@ fn status_of(alloc: Global, core: &Core, why: Stop) -> Status
 }
 
 /// What the end of a run comes to.
+#[tactic(auto, using(crate::proofs::Starting::stop_turns))]
 fn work_of(alloc: Global, name: &Name, core: &Core, why: Option<Stop>) -> Work
     requires done { why ≡ None → IsDone core.now }
     requires failed { why ≡ Some end.Failed → has_fault (flow_of core.now) ≡ true }
@@ -149,6 +150,7 @@ pub struct Begun {
 }
 
 /// Begins a run of the main workflow.
+#[tactic(auto, using(crate::proofs::Starting::has_main, crate::proofs::Starting::fits_main, crate::proofs::Starting::begun_is))]
 fn begin<S: Ledger>(
     alloc: Global,
     prepared: Prepared,
