@@ -1,15 +1,18 @@
 -- A keeper that was started, whose rows were read, and over which a run then went.
-use Rattle.std.proofs.Common.{◌≡◌, ◌≤◌, ◌⊎◌, inl, inr, ℕ, List, [], Option, Some, None, Contains, is_some, arith, ap, sym, subst, ◌∙◌, refl}
+use Rattle.std.proofs.Common.{◌≡◌, ◌≤◌, ◌⊎◌, inl, inr, ℕ, List, [], Option, Some, None, Result, Ok, Err, Contains, is_some, arith, ap, sym, subst, ◌∙◌, refl}
 use Rattle.wdl_base.specs.declared.answer.Answer.{Answer}
 use Rattle.wdl_base.specs.declared.entry.Entry.{Entry}
 use Rattle.wdl_base.specs.declared.request.Request.{Request}
+use Rattle.report_text.specs.declared.status.Status.{Status}
+use Rattle.report_text.specs.declared.status.Status.TheVariants as status
 use Rattle.wdl_port.specs.Causes.{Rose}
+use Rattle.wdl_port.specs.Rows.{AreRows}
 use Rattle.ready_core.specs.Cores.{CoreState}
 use Rattle.ready_core.specs.Rows.{TakenJob}
 use Rattle.work_desk.specs.Keeping.{AreFrom, AreKept, AreLeft, KeeperView, RowsWent, Went, keeper_view}
 use Rattle.work_desk.specs.declared.stop.Stop.{Stop}
 use Rattle.work_desk.specs.declared.stop.Stop.TheVariants as end
-use Rattle.workflow_cli.specs.Stages.{IsOpened}
+use Rattle.workflow_cli.specs.Stages.{IsOpened, OpenStops, Opens}
 use Rattle.workflow_cli.proofs.Started.{rose_later}
 
 no_entry : (e : Entry) → Contains [] e → ⊥
@@ -64,3 +67,33 @@ module _ (gives : Request → Answer → Type 0) (c : CoreState) (why : Option S
       told = w.told ∙ ap is_some o.same;
       rows = λ before after b a. let r = w.rows before after (o.same ∙ b) a in record { from = r.from; left = r.left; journal = λ h. r.journal (settled h) };
     }
+
+-- ---- the rows that are read
+
+module _ (path : List ℕ) (k m l : KeeperView) (same : m.kept ≡ k.kept) (later : k.faults ≤ m.faults) where
+  stops_before : (s : Status) → OpenStops path m l s → OpenStops path k l s
+  stops_before status.Keep h = (h.0, rose_later k.faults m.faults l.faults later h.1)
+  stops_before status.NoMemory h = h
+  stops_before status.Ok h = absurd h
+  stops_before (status.Failed fault) h = absurd h
+  stops_before status.Usage h = absurd h
+  stops_before (status.Document code span) h = absurd h
+  stops_before (status.Inputs code name) h = absurd h
+  stops_before (status.Read p) h = absurd h
+  stops_before status.Write h = absurd h
+  stops_before (status.NotInSubset rule span) h = absurd h
+  stops_before (status.Launch place) h = absurd h
+  stops_before status.TooMany h = absurd h
+  stops_before status.NotBuilt h = absurd h
+
+  -- from before the keeper was started
+  pub opens_before : (r : Result (List Entry) Status) → Opens path m l r → Opens path k l r
+  opens_before (Ok rows) h = record {
+    opened = h.opened;
+    same = h.same ∙ same;
+    later = omega (arith, later, h.later);
+    told = subst (λ x. AreRows x rows) same h.told;
+    order = h.order;
+    sources = h.sources;
+  }
+  opens_before (Err s) h = (h.0 ∙ same, stops_before s h.1)

@@ -7,8 +7,8 @@ use Rattle.wdl_base.specs.declared.entry.Entry.{Entry}
 use Rattle.wdl_base.specs.declared.request.Request.{Request}
 use Rattle.wdl_base.specs.declared.step.Counts.{Counts}
 use Rattle.wdl_base.specs.declared.step.Step.{Step}
+use Rattle.report_text.specs.declared.status.Status.{Status}
 use Rattle.report_text.specs.declared.status.Status.TheVariants as status
-use Rattle.wdl_port.specs.Rows.{AreRows}
 use Rattle.wdl_typed.specs.Flow.{Flowing, is_empty, too_many}
 use Rattle.ready_core.specs.Cores.{CoreState, Origin, flow_of, has_fault}
 use Rattle.ready_core.specs.Flows.{outcome_of, outputs_if_clean, outputs_in}
@@ -19,8 +19,8 @@ use Rattle.work_desk.specs.Views.{AllEqual}
 use Rattle.work_desk.specs.declared.stop.Stop.{Stop}
 use Rattle.work_desk.specs.declared.stop.Stop.TheVariants as end
 use Rattle.workflow_cli.specs.declared.ended.Work.{Work}
-use Rattle.workflow_cli.specs.Running.{AreRowsOf, KeepsRows, Main, Trace, core_of, origin_of}
-use Rattle.workflow_cli.specs.Stages.{HasLeft, IsOpened, Turns, stops}
+use Rattle.workflow_cli.specs.Running.{AreRowsOf, IsIdle, IsOn, KeepsRows, Main, Trace, core_of, origin_of}
+use Rattle.workflow_cli.specs.Stages.{HasLeft, IsOpened, OpenStops, RunsMain, Turns, stops}
 use Rattle.workflow_cli.proofs.Kept.{went_from, went_none}
 
 -- a core whose run did not stop has its outputs
@@ -101,12 +101,44 @@ module _ (gives : Request → Answer → Type 0) (refuses : Request → Type 0) 
 
   -- ---- with one
 
-  module _ (path : List ℕ) (named : m.options.journal ≡ Some path) (k : KeeperView) (rows : List Entry) (o : IsOpened path t.keeper k rows) where
-    pub its_rows : AreRowsOf t.keeper m.options.journal rows
-    its_rows = subst (λ j. AreRowsOf t.keeper j rows) (sym named) o.told
+  module _ (path : List ℕ) (named : m.options.journal ≡ Some path) where
+    pub its_rows : (k : KeeperView) (rows : List Entry) → IsOpened path t.keeper k rows → AreRowsOf t.keeper m.options.journal rows
+    its_rows k rows o = subst (λ j. AreRowsOf t.keeper j rows) (sym named) o.told
 
-    pub keeps : (c : CoreState) (why : Option Stop) → Went gives c why k t.keeper_now → Keeps c why
-    keeps c why h = subst (λ j. KeepsRows gives c why j t.keeper t.keeper_now) (sym named) (went_from gives c why path t.keeper k t.keeper_now rows o h)
+    pub keeps : (k : KeeperView) (rows : List Entry) → IsOpened path t.keeper k rows → (c : CoreState) (why : Option Stop) → Went gives c why k t.keeper_now → Keeps c why
+    keeps k rows o c why h = subst (λ j. KeepsRows gives c why j t.keeper t.keeper_now) (sym named) (went_from gives c why path t.keeper k t.keeper_now rows o h)
 
-    pub keeps_none : t.journal ≡ [] → t.keeper_now ≡ k → Keeps (core_of m t [] []) starved
-    keeps_none journal same = keeps (core_of m t [] []) starved (subst (Went gives (core_of m t [] []) starved k) (sym same) (went_none gives (core_of m t [] []) starved journal refl k))
+    pub keeps_none : (k : KeeperView) (rows : List Entry) → IsOpened path t.keeper k rows → t.journal ≡ [] → t.keeper_now ≡ k → Keeps (core_of m t [] []) starved
+    keeps_none k rows o journal same = keeps k rows o (core_of m t [] []) starved (subst (Went gives (core_of m t [] []) starved k) (sym same) (went_none gives (core_of m t [] []) starved journal refl k))
+
+    -- the keeper failed before the run
+    pub unopened : (s : Status) → IsIdle t → OpenStops path t.keeper t.keeper_now s → w ≡ stops s → RunsMain gives refuses t m w
+    unopened status.Keep idle h e = inr (inl (record { idle = idle; path = path; named = named; opened = h.0; counted = h.1 }, e))
+    unopened status.NoMemory idle h e = inl (idle, e)
+    unopened status.Ok idle h e = absurd h
+    unopened (status.Failed fault) idle h e = absurd h
+    unopened status.Usage idle h e = absurd h
+    unopened (status.Document code span) idle h e = absurd h
+    unopened (status.Inputs code name) idle h e = absurd h
+    unopened (status.Read p) idle h e = absurd h
+    unopened status.Write idle h e = absurd h
+    unopened (status.NotInSubset rule span) idle h e = absurd h
+    unopened (status.Launch place) idle h e = absurd h
+    unopened status.TooMany idle h e = absurd h
+    unopened status.NotBuilt idle h e = absurd h
+
+-- a keeper that failed is started on no other path
+pub stopped_on : (path : List ℕ) (k l : KeeperView) (s : Status) → OpenStops path k l s → IsOn path l.path
+stopped_on path k l status.Keep h = inl h.0
+stopped_on path k l status.NoMemory h = h
+stopped_on path k l status.Ok h = absurd h
+stopped_on path k l (status.Failed fault) h = absurd h
+stopped_on path k l status.Usage h = absurd h
+stopped_on path k l (status.Document code span) h = absurd h
+stopped_on path k l (status.Inputs code name) h = absurd h
+stopped_on path k l (status.Read p) h = absurd h
+stopped_on path k l status.Write h = absurd h
+stopped_on path k l (status.NotInSubset rule span) h = absurd h
+stopped_on path k l (status.Launch place) h = absurd h
+stopped_on path k l status.TooMany h = absurd h
+stopped_on path k l status.NotBuilt h = absurd h

@@ -10,6 +10,7 @@ mod Forms
 mod Started
 mod Simulated
 mod Kept
+pub mod Starting
 pub mod Left
 mod Ends
 mod Opened

@@ -1,5 +1,5 @@
 -- From the stages to the work of a command.
-use Rattle.std.proofs.Common.{◌≡◌, inl, inr, ℕ, List, Option, Some, None, sym, subst, refl}
+use Rattle.std.proofs.Common.{◌≡◌, ◌⊎◌, inl, inr, ℕ, List, Option, Some, None, sym, subst, refl}
 use Rattle.wdl_base.specs.declared.answer.Answer.{Answer}
 use Rattle.wdl_base.specs.declared.request.Request.{Request}
 use Rattle.report_text.specs.declared.status.Status.{Status}
@@ -9,9 +9,9 @@ use Rattle.workflow_cli.specs.declared.ended.Stop.{Stop}
 use Rattle.workflow_cli.specs.declared.ended.Work.{Work}
 use Rattle.workflow_cli.specs.declared.ended.Work.TheVariants as work
 use Rattle.workflow_cli.specs.Asking.{AskStops, IsCheckOf, IsCwlOf, IsForInputs, IsForMain, IsRunOf, Words}
-use Rattle.workflow_cli.specs.Causes.{Cause, CauseOf, IsWork, Names}
+use Rattle.workflow_cli.specs.Causes.{Cause, CauseOf, IsWork, Names, UsesJournal}
 use Rattle.workflow_cli.specs.Documents.{CheckStops, MainStops, Tells}
-use Rattle.workflow_cli.specs.Running.{IsIdle, IsStarted, Trace}
+use Rattle.workflow_cli.specs.Running.{IsIdle, IsStarted, NamesJournal, Trace}
 use Rattle.workflow_cli.specs.Stages.{Accepts, HasStopped, PrepareStops, RunsFile, main_with}
 use Rattle.workflow_cli.specs.Translating.{DocumentStops, ObjectStops, Translates, WritesDocument, WritesObject}
 use Rattle.workflow_cli.proofs.Ends.{main_is_work}
@@ -20,6 +20,12 @@ use Rattle.workflow_cli.proofs.Ends.{main_is_work}
 pub for_main : (words : Words) (file : List ℕ) (inputs : Option (List ℕ)) → IsForInputs words file inputs → IsForMain words file inputs
 for_main words file inputs (inl h) = inl h
 for_main words file inputs (inr h) = inr h.2
+
+-- the keeper of a run of these words
+pub uses_journal : (words : Words) (file : List ℕ) (inputs : Option (List ℕ)) (options : RunOptions) (same : Type 0) (at : Option (List ℕ)) → IsRunOf words file inputs options
+    → same ⊎ NamesJournal options.journal at → same ⊎ UsesJournal words at
+uses_journal words file inputs options same at asked (inl h) = inl h
+uses_journal words file inputs options same at asked (inr h) = inr (h.0, record { file = file; inputs = inputs; options = options; asked = asked; named = h.1 }, h.2)
 
 module _ (tells : Tells) (refused : List ℕ → Type 0) (rose : Type 0) (gives : Request → Answer → Type 0) (refuses : Request → Type 0) (words : Words) (t : Trace) where
   abbrev Said : Status → List (List ℕ) → Type 0

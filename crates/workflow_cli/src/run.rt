@@ -88,6 +88,7 @@ fn status_of(alloc: Global, core: &Core, why: Stop) -> Status
 }
 
 /// What the end of a run comes to.
+#[tactic(auto, using(crate::proofs::Starting::stop_turns))]
 fn work_of(alloc: Global, name: &Name, core: &Core, why: Option<Stop>) -> Work
     requires done { why ≡ None → IsDone core.now }
     requires failed { why ≡ Some end.Failed → has_fault (flow_of core.now) ≡ true }
@@ -143,13 +144,14 @@ fn worked(alloc: Global, name: &Name, ran: Ran) -> Worked
 
 /// The core of the main workflow before anything is taken, and the name of the workflow.
 #[derive(Drop)]
-struct Begun {
-    core: Core,
-    name: Name,
+pub struct Begun {
+    pub core: Core,
+    pub name: Name,
 }
 
 /// Begins a run of the main workflow.
-fn begun<S: Ledger>(
+#[tactic(auto, using(crate::proofs::Starting::has_main, crate::proofs::Starting::fits_main, crate::proofs::Starting::begun_is))]
+fn begin<S: Ledger>(
     alloc: Global,
     prepared: Prepared,
     root: &Text,
@@ -190,7 +192,7 @@ fn run_plain<L: Launcher + Sync, R: Threads + Wait + Sync, S: Ledger>(
         (main_with prepared.checked prepared.given options.now f) result.work }
     ensures paths { HasPaths result.work }
 {
-    let Ok(Begun { core, name }) = begun(alloc, prepared, &options.root, steps) else {
+    let Ok(Begun { core, name }) = begin(alloc, prepared, &options.root, steps) else {
         return idle(alloc, Work::Stop(stop(alloc, Status::NoMemory)));
     };
     let ran = run_all(
@@ -229,7 +231,7 @@ fn run_over<L: Launcher + Sync, K: Keeper, R: Threads + Wait + Sync, S: Ledger>(
     ensures paths { HasPaths result.work }
     ensures path { K.path keeper.new ≡ K.path keeper.old }
 {
-    let Ok(Begun { core, name }) = begun(alloc, prepared, &options.root, steps) else {
+    let Ok(Begun { core, name }) = begin(alloc, prepared, &options.root, steps) else {
         return idle(alloc, Work::Stop(stop(alloc, Status::NoMemory)));
     };
     let ran = run_all(

@@ -1,4 +1,6 @@
+use std::sync::Wait;
 use std::test::Fail;
+use std::thread::Threads;
 use workflow_cases::first_mistake;
 
 /// Inputs between newlines, each with the line that it gets.
@@ -12,7 +14,11 @@ const INPUTS: &str = r#"{=401 NotJson
 /// A workflow with two inputs.
 const BEFORE: &str = "version workflow w { input { Boolean c Array[String] xs } }\nfile w.wdl";
 
-fn of_inputs(rt: &HostRuntime, inputs: &str, line: &str) -> Result<String, Fail> {
+fn of_inputs<R: Threads + Wait + Sync + AllocGlobal>(
+    rt: &R,
+    inputs: &str,
+    line: &str,
+) -> Result<String, Fail> {
     let alloc = rt.alloc();
     let case = format!(in alloc;
         "{BEFORE}\ninputs {inputs}\n$ run --inputs i.json w.wdl\n> 4 0\n> ! inputs: {line}"

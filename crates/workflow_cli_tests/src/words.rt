@@ -1,4 +1,6 @@
+use std::sync::Wait;
 use std::test::Fail;
+use std::thread::Threads;
 use workflow_cases::first_mistake;
 
 /// Words without a reading.
@@ -10,7 +12,11 @@ run --inputs w.wdl|check|cwl|cwl --inputs w.wdl|cwl --root /a w.wdl|load 0|load 
 const NOT_BUILT: &str = "load 1|load 10000|bundle w.wdl";
 
 /// What is wrong with the first of these words, between bars, of which the call shows anything else.
-fn first_wrong(rt: &HostRuntime, all: &str, expected: &str) -> Result<String, Fail> {
+fn first_wrong<R: Threads + Wait + Sync + AllocGlobal>(
+    rt: &R,
+    all: &str,
+    expected: &str,
+) -> Result<String, Fail> {
     let alloc = rt.alloc();
     for words in all.split('|') {
         let case = format!(in alloc;

@@ -1,6 +1,8 @@
 use report_text::number_of;
 use std::alloc::Global;
+use std::sync::Wait;
 use std::test::Fail;
+use std::thread::Threads;
 use workflow_cases::{Case, Outcome, read_case, run_case, shown};
 
 /// A document of scatters in one another.
@@ -96,20 +98,25 @@ fn case_of(alloc: Global, document: &[u8], more: &str) -> Result<Case, Fail> {
     Ok(case)
 }
 
-fn lanes(rt: &HostRuntime, more: &str) -> Result<Outcome, Fail> {
+fn lanes<R: Threads + Wait + Sync + AllocGlobal>(rt: &R, more: &str) -> Result<Outcome, Fail> {
     let alloc = rt.alloc();
     run_case(rt, alloc, case_of(alloc, LANES.as_bytes(), more)?)
 }
 
 /// Whether the run, with these lines more, ends with that status and that error line.
-fn ends(rt: &HostRuntime, more: &str, status: u8, line: &str) -> Result<bool, Fail> {
+fn ends<R: Threads + Wait + Sync + AllocGlobal>(
+    rt: &R,
+    more: &str,
+    status: u8,
+    line: &str,
+) -> Result<bool, Fail> {
     let outcome = lanes(rt, more)?;
     let is_said = str::from_utf8(outcome.err.bytes.as_slice())? == line;
     Ok(is_said && number_of(&outcome.ended.status) == status)
 }
 
 /// Whether the call of this place, where it is refused, ends the run.
-fn ends_at(rt: &HostRuntime, place: &str) -> Result<bool, Fail> {
+fn ends_at<R: Threads + Wait + Sync + AllocGlobal>(rt: &R, place: &str) -> Result<bool, Fail> {
     let alloc = rt.alloc();
     let more = format!(in alloc; "refuse {place}")?;
     let line = format!(in alloc; "cannot launch {place}\n")?;
@@ -174,7 +181,10 @@ fn a_job_that_is_refused_has_status_9(rt: HostRuntime) -> Result<(), Fail> {
 }
 
 /// What is seen of the run of another document.
-fn seen_of(rt: &HostRuntime, document: &[u8]) -> Result<String, Fail> {
+fn seen_of<R: Threads + Wait + Sync + AllocGlobal>(
+    rt: &R,
+    document: &[u8],
+) -> Result<String, Fail> {
     let alloc = rt.alloc();
     shown(rt, alloc, case_of(alloc, document, "")?)
 }

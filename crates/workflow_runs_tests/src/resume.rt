@@ -1,5 +1,7 @@
 use report_text::number_of;
+use std::sync::Wait;
 use std::test::Fail;
+use std::thread::Threads;
 use wdl_port::MapKeeper;
 use workflow_cases::{Outcome, read_case, run_case};
 
@@ -20,8 +22,8 @@ $ run --workers 1 --journal j w.wdl"#;
 const ANSWERS: &str = "answer a 0 0 A\nanswer b 0 0 B\nanswer c 0 0 C";
 
 /// A run of a document with these answers, or more lines of a case, over the rows of an earlier run, if any.
-fn run(
-    rt: &HostRuntime,
+fn run<R: Threads + Wait + Sync + AllocGlobal>(
+    rt: &R,
     document: &str,
     answers: &str,
     earlier: Option<MapKeeper>,

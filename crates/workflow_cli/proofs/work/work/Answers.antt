@@ -1,9 +1,6 @@
 use Rattle.std.proofs.Common.{refl}
-use Rattle.workflow_cli.proofs.Works.{check_is_work, cwl_is_work, run_is_work}
+use Rattle.workflow_cli.proofs.Works.{check_is_work, cwl_is_work, run_is_work, uses_journal}
 use Rattle.workflow_cli.proofs.work.work.Goals as goal
-
-pub run-requires : goal.run-requires
-run-requires g c = let limits = rw c.in-Ok-Run.field-0-is at c.in-Ok-Run.ensures.limits in record { workers = (limits.0, limits.1); fresh = c.requires.fresh }
 
 pub returns-in-Ok-Run-clause-cause : goal.returns-in-Ok-Run-clause-cause
 returns-in-Ok-Run-clause-cause g c =
@@ -21,3 +18,8 @@ returns-in-Ok-Cwl-clause-cause g c =
     let asked = rw c.in-Ok-Cwl.field-0-is at c.in-Ok-Cwl.ensures.value in
     let i = c.idle-in-Ok-Cwl.ensures in
     rw i.work (cwl_is_work _ _ _ _ _ _ _ (record { no_answer = i.journal; no_job = i.steps; no_count = i.counts; no_step = refl; no_row = refl }) _ _ asked c.cwl.result c.cwl.ensures.value)
+
+pub returns-in-Ok-Run-clause-keeper : goal.returns-in-Ok-Run-clause-keeper
+returns-in-Ok-Run-clause-keeper g c =
+    let asked = rw c.in-Ok-Run.field-0-is at c.in-Ok-Run.ensures.value in
+    uses_journal _ _ _ _ _ _ asked c.run.ensures.keeper
