@@ -3,4 +3,4 @@ use Rattle.wdl_port.specs.Rows.{are_kept}
 use Rattle.keeper_sql.proofs.database.read_all.Given as goal
 
 abbrev pub invariant-loop : goal.invariant-loop
-invariant-loop g l = are_kept l.all ≡ true
+invariant-loop l = are_kept l.all ≡ true
