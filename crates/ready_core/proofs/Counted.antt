@@ -1,5 +1,5 @@
 -- Jobs of which no place and attempt was taken twice are no more than the flow has.
-use Rattle.std.proofs.Common.{◌≡◌, ◌≤◌, ◌<◌, ◌+◌, ℕ, true, cond, ◌⊎◌, inl, inr, List, [], ◌∷◌, ◌++◌, map, Contains, count_by, length, length-append, arith, sym, ap, ◌∙◌, subst, refl}
+use Rattle.std.proofs.Common.{◌≡◌, ◌≤◌, ℕ, true, cond, ◌⊎◌, inl, inr, List, [], ◌∷◌, ◌++◌, Contains, count_by, length, length-append, arith, sym, ap, subst, refl}
 use Rattle.std.proofs.lemmas.List.{length-map}
 use Rattle.std.proofs.lemmas.List.Elements.{Contains-append_cases, Contains-append_left, Contains-append_right}
 use Rattle.wdl_base.specs.declared.request.Request.{Request}

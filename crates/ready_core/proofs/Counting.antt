@@ -1,5 +1,5 @@
 -- How many elements of a list pass a test.
-use Rattle.std.proofs.Common.{suc, ◌≡◌, ◌<◌, ◌≤◌, ◌+◌, ℕ, Bool, true, false, cond, ◌||◌, List, [], ◌∷◌, ◌++◌, Contains, map, length, take, drop, remove, count_by, sum_by, slice_index_or, arith, sym, ap, ◌∙◌, refl, subst, ◌⊎◌, inl, inr}
+use Rattle.std.proofs.Common.{suc, ◌≡◌, ◌<◌, ◌+◌, ℕ, Bool, true, false, cond, List, [], ◌∷◌, ◌++◌, Contains, length, take, drop, remove, count_by, slice_index_or, arith, sym, ap, ◌∙◌, refl, ◌⊎◌, inl, inr}
 use Rattle.std.specs.List.{list_all, list_any}
 use Rattle.std.proofs.lemmas.Bool.{or_parts, and_parts}
 use Rattle.std.proofs.lemmas.List.{set-get_or, set_split}

@@ -1,12 +1,11 @@
 -- The jobs of a flow that were not taken.
-use Rattle.std.proofs.Common.{◌≡◌, ℕ, Bool, true, false, cond, ◌||◌, ◌&&◌, ◌==◌, ◌⊎◌, inl, inr, List, [], ◌∷◌, ◌++◌, map, reverse, Contains, length, append_assoc, append-nil, length-append, arith, sym, ap, ◌∙◌, subst, refl}
-use Rattle.std.specs.List.{list_all, list_any}
+use Rattle.std.proofs.Common.{◌≡◌, Bool, true, false, cond, ◌||◌, ◌&&◌, ◌==◌, ◌⊎◌, inl, inr, List, [], ◌∷◌, ◌++◌, map, reverse, Contains, length, append_assoc, length-append, arith, sym, ap, ◌∙◌, subst, refl}
+use Rattle.std.specs.List.{list_all}
 use Rattle.std.proofs.lemmas.Bool.{false≢true, and_parts, false_from_ne_true, not-true}
 use Rattle.std.proofs.lemmas.Bool.Decides.{Decides-eqb}
 use Rattle.std.proofs.lemmas.List.{length-map, map-append, reverse-append}
 use Rattle.std.proofs.lemmas.List.Folds.{list_any-append}
 use Rattle.std.specs.Prelude.{not}
-use Rattle.wdl_base.specs.declared.place.Segment.{Segment}
 use Rattle.wdl_base.specs.declared.request.Request.{Request}
 use Rattle.wdl_base.specs.Same.{same_place}
 use Rattle.wdl_typed.specs.declared.success.Success.{Success}
@@ -19,7 +18,7 @@ use Rattle.flow_laws.proofs.SameRequests.{place_same}
 use Rattle.ready_core.specs.Cores.{is_taken, is_taking, left_over, paired, requests}
 use Rattle.ready_core.specs.Rows.{TakenJob}
 use Rattle.ready_core.specs.Turns.{offered}
-use Rattle.ready_core.proofs.Counted.{request_in, taking_itself}
+use Rattle.ready_core.proofs.Counted.{taking_itself}
 
 -- ---- a job more
 

@@ -1,5 +1,5 @@
 -- A search among jobs may begin where their mark first stands.
-use Rattle.std.proofs.Common.{◌≡◌, ℕ, true, ◌||◌, List, drop, ap, ◌∙◌}
+use Rattle.std.proofs.Common.{◌≡◌, true, ◌||◌, List, drop, ap, ◌∙◌}
 use Rattle.wdl_base.specs.declared.request.Request.{Request}
 use Rattle.wdl_names.specs.Marks.{first_place}
 use Rattle.wdl_flow.specs.Marks.{place_mark}

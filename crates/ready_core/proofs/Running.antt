@@ -319,12 +319,8 @@ module _ (o : Over) (log wide next : Log) (t fresh after : Turn) (at : ℕ) (e :
             ∙ ap (λ (q : Request). log.steps.items ++ step.Settled q.place ∷ []) same_job);
       }
 
-pub ruleset start_steps = (run_started, state_started)
-
 pub ruleset take_steps = (run_idle, room_one)
 
 pub ruleset turn_steps = (given_back, wider_one, wider_both)
 
 pub ruleset settle_steps = (run_kept, state_kept, room_step)
-
-pub ruleset out_steps = (none_out)

@@ -1,9 +1,8 @@
 -- The laws of flows, for the flow of a run.
-use Rattle.std.proofs.Common.{◌≡◌, ℕ, true, false, ◌||◌, not, List, [], ◌∷◌, ◌++◌, Contains, Option, Some, None, IsSome, sym, ap, ◌∙◌, subst, refl}
+use Rattle.std.proofs.Common.{◌≡◌, ℕ, true, false, List, [], ◌∷◌, ◌++◌, Option, Some, None, IsSome, sym, ap, subst, refl}
 use Rattle.std.proofs.lemmas.Bool.{false≢true}
 use Rattle.wdl_base.specs.declared.entry.Entry.{Entry}
 use Rattle.wdl_value.specs.Tables.{has_row, table}
-use Rattle.wdl_typed.specs.Bodies.{Library}
 use Rattle.wdl_typed.specs.Flow.{Flowing}
 use Rattle.wdl_typed.specs.Journal.{fed_after, flow_over, is_asked}
 use Rattle.wdl_plain.specs.Shown.{library_of}

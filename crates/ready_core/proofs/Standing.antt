@@ -1,25 +1,24 @@
 -- What a core keeps of its entries and jobs, as a job is taken and as an answer is settled.
-use Rattle.std.proofs.Common.{zero, suc, ◌≡◌, ℕ, ◌+◌, ◌<◌, ◌≤◌, Bool, true, false, cond, ◌⊎◌, inl, inr, List, [], ◌∷◌, ◌++◌, Contains, IsSome, count_by, length, length-append, nat_lt, not, ◌||◌, remove, slice_index_or, arith, sym, ap, ◌∙◌, subst, refl}
+use Rattle.std.proofs.Common.{zero, suc, ◌≡◌, ℕ, ◌<◌, ◌≤◌, Bool, true, false, cond, ◌⊎◌, inl, inr, List, [], ◌∷◌, ◌++◌, Contains, IsSome, count_by, length, length-append, nat_lt, remove, slice_index_or, arith, sym, ap, ◌∙◌, subst, refl}
 use Rattle.std.proofs.lemmas.Bool.{false≢true, false_from_ne_true, ltb-false, or_parts, or_cases}
 use Rattle.std.proofs.lemmas.List.Edits.{length-remove}
 use Rattle.std.proofs.lemmas.List.Elements.{Contains-append_cases}
 use Rattle.wdl_base.specs.declared.entry.Entry.{Entry}
-use Rattle.wdl_base.specs.declared.place.Segment.{Segment}
 use Rattle.wdl_base.specs.declared.request.Request.{Request}
 use Rattle.wdl_base.specs.Same.{same_place, same_request}
 use Rattle.wdl_value.specs.Tables.{has_row, is_at, row_of, table}
 use Rattle.wdl_typed.specs.Flow.{Flowing, too_many}
 use Rattle.flow_laws.specs.Jobs.{is_job_at}
-use Rattle.flow_laws.proofs.Elements.{contains_first, contains_later, only_one}
+use Rattle.flow_laws.proofs.Elements.{contains_first, only_one}
 use Rattle.flow_laws.proofs.Fed.{job_asked}
 use Rattle.flow_laws.proofs.JobLists.{job_at}
 use Rattle.flow_laws.proofs.SameRequests.{place_itself, request_itself, request_same}
-use Rattle.ready_core.specs.Cores.{MayTake, Origin, WasOut, fed_at, flow_at, is_taken, is_taking, requests, settlings, takings}
+use Rattle.ready_core.specs.Cores.{MayTake, Origin, WasOut, flow_at, is_taken, is_taking, requests}
 use Rattle.ready_core.specs.Inside.{AreJobs, AreTakenOnce, Balances, Stands}
 use Rattle.ready_core.specs.Rows.{TakenJob}
-use Rattle.ready_core.proofs.Counted.{no_more_taken, request_in, requested}
+use Rattle.ready_core.proofs.Counted.{no_more_taken, request_in}
 use Rattle.ready_core.proofs.Counting.{count_cons, count_cut, count_push, counts, found, none_counts}
-use Rattle.ready_core.proofs.Runs.{differ, fed_more, grow}
+use Rattle.ready_core.proofs.Runs.{fed_more, grow}
 use Rattle.ready_core.proofs.Leftover.{paired_request, taking_same}
 
 -- ---- nothing

@@ -1,5 +1,5 @@
 -- What a flow comes to, and what is left as a job is taken.
-use Rattle.std.proofs.Common.{zero, suc, ◌≡◌, ◌<◌, ℕ, Bool, true, false, cond, not, ◌&&◌, ◌||◌, ◌⊎◌, inl, inr, List, [], ◌∷◌, ◌++◌, map, reverse, Contains, Option, Some, None, Result, Ok, Err, IfOk, IsSome, is_some, length, nat_lt, ◌^◌, option_and_then, slice_get, append_assoc, arith, sym, ap, ◌∙◌, subst, refl}
+use Rattle.std.proofs.Common.{zero, suc, ◌≡◌, ℕ, Bool, true, false, cond, not, ◌&&◌, ◌||◌, inl, inr, List, [], ◌∷◌, ◌++◌, map, reverse, Contains, Option, Some, None, Result, Ok, Err, IfOk, IsSome, is_some, length, nat_lt, ◌^◌, option_and_then, slice_get, append_assoc, arith, sym, ap, ◌∙◌, subst, refl}
 use Rattle.std.specs.List.{list_all}
 use Rattle.std.proofs.lemmas.Bool.{false≢true, and_parts, false_from_ne_true, lt-ltb, ltb-true, or_left}
 use Rattle.std.proofs.lemmas.List.{length-map, reverse-append, reverse-reverse}
@@ -7,7 +7,6 @@ use Rattle.std.proofs.Math.Bool.{or_assoc}
 use Rattle.wdl_base.specs.declared.entry.Entry.{Entry}
 use Rattle.wdl_base.specs.declared.error.NoMemory.{NoMemory}
 use Rattle.wdl_base.specs.declared.fault.Fault.{Fault}
-use Rattle.wdl_base.specs.declared.request.Request.{Request}
 use Rattle.wdl_value.specs.declared.env.Bind.{Bind}
 use Rattle.wdl_typed.specs.declared.checked.Checked.{Checked}
 use Rattle.wdl_typed.specs.declared.flow.FlowDef.{FlowDef}
@@ -25,10 +24,10 @@ use Rattle.wdl_plain.specs.Shown.{IsShown, Shows, library_of}
 use Rattle.flow_laws.specs.Jobs.{jobs_differ}
 use Rattle.flow_laws.proofs.Elements.{contains_first}
 use Rattle.ready_core.specs.declared.turn.Turn.{Turn}
-use Rattle.ready_core.specs.Cores.{CoreState, FaultsStay, MayTake, Origin, Settles, all_taken, flow_at, has_fault, has_met_fault, idle, is_taken, jobs_of, left_over, met_after, paired, requests, shows_fault}
-use Rattle.ready_core.specs.Flows.{flow_after, main_of, outcome_of, outputs_if_clean, outputs_with}
+use Rattle.ready_core.specs.Cores.{FaultsStay, MayTake, all_taken, flow_at, has_fault, has_met_fault, idle, is_taken, jobs_of, left_over, met_after, paired, shows_fault}
+use Rattle.ready_core.specs.Flows.{flow_after, main_of, outputs_if_clean, outputs_with}
 use Rattle.ready_core.specs.Rows.{TakenJob}
-use Rattle.ready_core.specs.Turns.{IsFaultOf, IsFreshTurn, IsPastLimits, IsSeen, IsTurn, IsTurnOf, Sees, earlier, first_fault, open_jobs, unless_fault}
+use Rattle.ready_core.specs.Turns.{IsFaultOf, IsFreshTurn, IsPastLimits, IsSeen, IsTurnOf, Sees, earlier, first_fault, open_jobs, unless_fault}
 use Rattle.ready_core.proofs.Counting.{passes_at}
 use Rattle.ready_core.proofs.Leftover.{first_left, left_behind, none_left, paired_request, requests_paired}
 use Rattle.ready_core.proofs.Runs.{over_main}

@@ -1,5 +1,5 @@
 -- The flow of the main workflow of a checked library over a journal.
-use Rattle.std.specs.Prelude.{◌≡◌, ℕ, Bool, true, List, [], Option, Some, None, if◌then◌else◌, option_and_then, slice_get}
+use Rattle.std.specs.Prelude.{ℕ, Bool, List, [], Option, Some, None, if◌then◌else◌, option_and_then, slice_get}
 use Rattle.wdl_base.specs.declared.entry.Entry.{Entry}
 use Rattle.wdl_value.specs.declared.env.Bind.{Bind}
 use Rattle.wdl_typed.specs.declared.checked.Checked.{Checked}

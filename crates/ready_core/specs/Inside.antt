@@ -1,5 +1,5 @@
 -- The fields of a core.
-use Rattle.std.specs.Prelude.{◌≡◌, ℕ, ◌+◌, ◌≤◌, true, Bool, List, [], Contains, Option, Some, IsSome, count_by, is_some, length, slice_get, vec_len}
+use Rattle.std.specs.Prelude.{◌≡◌, ℕ, ◌+◌, ◌≤◌, true, Bool, List, [], Contains, Some, IsSome, count_by, is_some, length, slice_get, vec_len}
 use Rattle.wdl_base.specs.declared.entry.Entry.{Entry}
 use Rattle.wdl_base.specs.declared.request.Request.{Request}
 use Rattle.wdl_typed.specs.declared.flow.FlowDef.{FlowDef}

@@ -1,7 +1,6 @@
 -- What the calls of a log do.
 use Rattle.std.specs.Prelude.{◌≡◌, ℕ, ◌+◌, ◌<◌, ◌≤◌, true, false, List, [], ◌∷◌, ◌++◌, All, Option, Some, None, length, remove, slice_index_or, vec_capacity, vec_len}
 use Rattle.wdl_base.specs.declared.request.Request.{Request}
-use Rattle.wdl_base.specs.declared.step.Step.{Step}
 use Rattle.wdl_base.specs.declared.step.Step.TheVariants as step
 use Rattle.wdl_base.specs.Same.{same_request}
 use Rattle.ready_core.specs.declared.log.Log.{Log}

@@ -1,16 +1,14 @@
 -- What a flow comes to for a core.
-use Rattle.std.specs.Prelude.{◌≡◌, ◌⊎◌, Bool, true, false, ◌||◌, not, List, [], ◌∷◌, Contains, Option, Some, None, Result, Ok, Err, ⊤, if◌then◌else◌, is_some, length, map, reverse, slice_get}
+use Rattle.std.specs.Prelude.{◌≡◌, ◌⊎◌, true, false, ◌||◌, List, [], ◌∷◌, Contains, Option, Some, None, Result, Ok, Err, ⊤, if◌then◌else◌, is_some, length, map, reverse, slice_get}
 use Rattle.wdl_base.specs.declared.fault.Fault.{Fault}
-use Rattle.wdl_base.specs.declared.request.Request.{Request}
 use Rattle.wdl_typed.specs.declared.checked.Checked.{Checked}
 use Rattle.wdl_typed.specs.Flow.{Flowing, too_many}
-use Rattle.wdl_typed.specs.Requests.{Successes}
 use Rattle.wdl_typed.specs.Statuses.{successes_of}
 use Rattle.wdl_flow.specs.declared.fault.PlainFault.{PlainFault}
 use Rattle.wdl_flow.specs.declared.fault.PlainFault.TheVariants as plain
 use Rattle.wdl_plain.specs.declared.flow.Flow.{Flow}
 use Rattle.ready_core.specs.declared.turn.Turn.{Turn}
-use Rattle.ready_core.specs.Cores.{has_fault, is_taken, jobs_of, left_over, paired, shows_fault}
+use Rattle.ready_core.specs.Cores.{has_fault, jobs_of, left_over, paired, shows_fault}
 use Rattle.ready_core.specs.Flows.{outcome_of, outputs_if_clean}
 use Rattle.ready_core.specs.Rows.{TakenJob}
 

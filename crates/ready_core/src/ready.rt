@@ -101,7 +101,7 @@ fn next_turn<S: Ledger>(
 
 impl Core {
     /// A run of the main workflow for these inputs below the directory `site`. Nothing is taken yet.
-    #[tactic(auto, using(crate::proofs::Running::start_steps))]
+    #[tactic(auto, using(crate::proofs::Running::state_started))]
     pub fn new<S: Ledger>(
         alloc: Global,
         checked: Checked,
@@ -203,7 +203,7 @@ impl Core {
     }
 
     /// Whether a job with the job's request is out; that request is then one of the flow over the journal. It takes no memory.
-    #[tactic(auto, using(crate::proofs::Running::out_steps))]
+    #[tactic(auto, using(crate::proofs::Running::none_out))]
     pub fn is_out(&self, job: &Job) -> bool
         ensures out { MatchBool result (Contains (spec.requests self.now.out) job.now.request) (¬ (Contains (spec.requests self.now.out) job.now.request)) }
         ensures job { result ≡ true → Contains (spec.flow_of self.now).jobs job.now.request }

@@ -52,7 +52,6 @@ fn offer<'a>(
 }
 
 /// The jobs that were not taken, the first one last.
-#[tactic(auto, using(crate::proofs::Leftover::offers))]
 fn ready_among<'a>(
     alloc: Global,
     mut jobs: Items<Request>,

@@ -1,5 +1,3 @@
-use Rattle.ready_core.proofs.Marking.{taken-skip}
-use Rattle.ready_core.proofs.Running.{state_settled}
 use Rattle.ready_core.proofs.Turning.{faults_stay}
 use Rattle.ready_core.proofs.laws.faults_stay.Goals as goal
 
