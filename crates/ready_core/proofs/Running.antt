@@ -1,7 +1,6 @@
 -- The fields of a core, from one call to the next.
-use Rattle.std.proofs.Common.{zero, suc, false, ◌⊎◌, None, IfSome, IfNone, ◌≡◌, ℕ, ◌+◌, ◌<◌, ◌≤◌, true, List, [], ◌∷◌, ◌++◌, Contains, Option, Some, IsSome, is_some, length, length-append, remove, reverse, slice_get, slice_index_or, vec_capacity, vec_len, arith, sym, ap, ◌∙◌, subst, refl}
+use Rattle.std.proofs.Common.{zero, suc, false, ◌⊎◌, None, IfSome, IfNone, ◌≡◌, ℕ, ◌+◌, ◌<◌, ◌≤◌, true, List, [], ◌∷◌, ◌++◌, Contains, Option, Some, IsSome, is_some, length, length-append, remove, slice_get, slice_index_or, vec_capacity, vec_len, arith, sym, ap, ◌∙◌, subst, refl}
 use Rattle.std.proofs.lemmas.Bool.{false≢true}
-use Rattle.std.proofs.lemmas.List.{reverse-append, reverse-reverse}
 use Rattle.std.proofs.lemmas.List.Elements.{All-contains}
 use Rattle.wdl_base.specs.declared.entry.Entry.{Entry}
 use Rattle.wdl_base.specs.declared.fault.Fault.{Fault}
@@ -25,16 +24,10 @@ use Rattle.ready_core.specs.Turns as turns
 use Rattle.ready_core.specs.Turns.{IsFreshTurn, IsTurn, earlier}
 use Rattle.ready_core.proofs.Counted.{requested}
 use Rattle.ready_core.proofs.Runs.{differ, grow}
-use Rattle.ready_core.proofs.Standing.{IsOut, out_fresh, out_held, out_job, settled_stands, started_stands, taken_stands, was_out}
+use Rattle.ready_core.proofs.Standing.{IsOut, out_fresh, out_held, out_job, settled_stands, started_stands, taken_stands, was_out, without}
 use Rattle.ready_core.proofs.Turning.{Taking, fault_later, fault_met, none_ready, taking}
 
 -- ---- room
-
-pub room_one : (m n : ℕ) (l : Log) → HasRoom m m l → n + 1 ≡ m → HasRoom 1 1 l
-room_one m n l h e = record { taken = omega (arith, h.taken, e); out = omega (arith, h.out, e); steps = omega (arith, h.steps, e) }
-
-pub room_step : (n : ℕ) (l : Log) → HasRoom n (n + 1) l → vec_len l.steps < vec_capacity l.steps
-room_step n l h = omega (arith, h.steps)
 
 room_taken : (m n : ℕ) (a b : Log) (j : TakenJob) → HasRoom m m a → n + 1 ≡ m → Takes a j b → HasRoom n n b
 room_taken m n a b j h e t =
@@ -50,43 +43,6 @@ room_settled n at a b h s =
       taken = subst (λ (v : _). vec_len v + n ≤ vec_capacity v) (sym s.taken) h.taken;
       out = omega (arith, h.out, s.out_len, s.out_room);
       steps = omega (arith, h.steps, s.steps_len, s.steps_room);
-    }
-
-room_wider : (n : ℕ) (a b : Log) → HasRoom n n a → IsWider a b → HasRoom n n b
-room_wider n a b h w =
-    record {
-      taken = omega (arith, h.taken, w.taken_len, w.taken_room);
-      out = omega (arith, h.out, w.out_len, w.out_room);
-      steps = omega (arith, h.steps, w.steps_len, w.steps_room);
-    }
-
-pub wider_one : (a b c : Log) → b.taken ≡ a.taken → b.out ≡ a.out → b.steps ≡ a.steps → IsLarger b c → IsWider a c
-wider_one a b c taken out steps l =
-    let w = l.wider in
-    record {
-      taken = w.taken ∙ ap (λ (v : _). v.items) taken;
-      out = w.out ∙ ap (λ (v : _). v.items) out;
-      steps = w.steps ∙ ap (λ (v : _). v.items) steps;
-      taken_len = w.taken_len ∙ ap vec_len taken;
-      out_len = w.out_len ∙ ap vec_len out;
-      steps_len = w.steps_len ∙ ap vec_len steps;
-      taken_room = subst (λ (v : _). vec_capacity v ≤ vec_capacity c.taken) taken w.taken_room;
-      out_room = subst (λ (v : _). vec_capacity v ≤ vec_capacity c.out) out w.out_room;
-      steps_room = subst (λ (v : _). vec_capacity v ≤ vec_capacity c.steps) steps w.steps_room;
-    }
-
-pub wider_both : (a b c : Log) → IsWider a b → IsWider b c → IsWider a c
-wider_both a b c v w =
-    record {
-      taken = w.taken ∙ v.taken;
-      out = w.out ∙ v.out;
-      steps = w.steps ∙ v.steps;
-      taken_len = w.taken_len ∙ v.taken_len;
-      out_len = w.out_len ∙ v.out_len;
-      steps_len = w.steps_len ∙ v.steps_len;
-      taken_room = omega (arith, v.taken_room, w.taken_room);
-      out_room = omega (arith, v.out_room, w.out_room);
-      steps_room = omega (arith, v.steps_room, w.steps_room);
     }
 
 -- ---- states
@@ -121,10 +77,6 @@ run_started o none log t main fit empty larger fresh room =
           (fresh.shows ∙ ap (λ (x : List Entry). core.shows_fault (flow_at (origin_of o) x)) empty.journal);
       room = record { taken = room.taken; out = room.out; steps = omega (arith, room.steps) };
     }
-
-pub state_started : (o : Over) (none log : Log) → IsEmpty none → IsLarger none log → state o log ≡ started (origin_of o)
-state_started o none log empty larger =
-    same_state (origin_of o) (ap (λ (v : _). v.items) larger.journal ∙ empty.journal) (larger.wider.taken ∙ empty.taken) (larger.wider.out ∙ empty.out) (larger.wider.steps ∙ empty.steps)
 
 -- ---- taking a job
 
@@ -215,15 +167,6 @@ pub place_job : (o : Over) (log : Log) (t : Turn) (at : ℕ) (r : Request) → I
 place_job o log t at r run place =
     out_job (flow_at (origin_of o) log.journal.items) log.out.items log.journal.items log.taken.items at r run.stands.jobs run.stands.balances (some_out log.out.items at r place)
 
--- ---- an entry that is given back
-
-pub given_back : {A : Type 0} (old all new : List A) (x y : A) → all ≡ old ++ x ∷ [] → all ≡ new ++ y ∷ [] → (new ≡ old) × (y ≡ x)
-given_back old all new x y e f =
-    let turned : y ∷ reverse new ≡ x ∷ reverse old = sym (reverse-append new (y ∷ [])) ∙ ap reverse (sym f ∙ e) ∙ reverse-append old (x ∷ []) in
-    let head : y ≡ x = cc in
-    let tail : reverse new ≡ reverse old = cc in
-    (sym (reverse-reverse new) ∙ ap reverse tail ∙ reverse-reverse old, head)
-
 -- ---- faults
 
 pub fault_some : (f : Flowing) (x : Option Fault) → turns.IsFaultOf f x → IfSome x (λ fault. Contains f.faults fault)
@@ -235,24 +178,6 @@ fault_none f (Some x) h = tt
 fault_none f None h = h
 
 -- ---- settling an answer
-
-pub run_kept : (o : Over) (log wide : Log) (t : Turn) → IsRun o log t → IsWider log wide → wide.journal.items ≡ log.journal.items → IsRun o wide t
-run_kept o log wide t r w kept =
-    record {
-      main = r.main;
-      fit = r.fit;
-      stands =
-          subst (λ (x : List Entry). Stands (origin_of o) x wide.taken.items wide.out.items) (sym kept)
-          (subst (λ (x : List TakenJob). Stands (origin_of o) log.journal.items x wide.out.items) (sym w.taken) (subst (Stands (origin_of o) log.journal.items log.taken.items) (sym w.out) r.stands));
-      turn =
-          subst (λ (x : List Entry). IsTurn o.checked (flow_at (origin_of o) x) wide.taken.items t) (sym kept)
-          (subst (λ (x : List TakenJob). IsTurn o.checked (flow_at (origin_of o) log.journal.items) x t) (sym w.taken) r.turn);
-      met = r.met ∙ ap (met_after (flow_at (origin_of o)) []) (sym kept);
-      room = room_wider (vec_len t.ready) log wide r.room w;
-    }
-
-pub state_kept : (o : Over) (log wide : Log) → IsWider log wide → wide.journal.items ≡ log.journal.items → state o wide ≡ state o log
-state_kept o log wide w kept = same_state (origin_of o) kept w.taken w.out w.steps
 
 module _ (o : Over) (log wide next : Log) (t fresh after : Turn) (at : ℕ) (e : Entry) (r : IsRun o log t) (place : IsPlaceOf log.out.items e.request (Some at)) (wider : IsWider log wide)
     (entry : wide.journal.items ≡ log.journal.items ++ e ∷ []) (is : IsFreshTurn o.checked (flow_at (origin_of o) (log.journal.items ++ e ∷ [])) log.taken.items fresh) (settles : Settles wide at next) where
@@ -312,15 +237,10 @@ module _ (o : Over) (log wide next : Log) (t fresh after : Turn) (at : ℕ) (e :
         fresh = out_fresh log.out.items log.journal.items log.taken.items at e.request s.once s.balances is_out;
         fed = ap (core.fed_at (origin_of o)) journal_next ∙ stands_then.fed;
         out = omega (arith, s.counted, stands_then.counted, ap length out_next, ap length journal_next, length-append log.journal.items (e ∷ []));
+        left = without log.out.items next.out.items at e.request is_out out_next;
         origin = refl;
         after =
             same_state (origin_of o) journal_next taken_next refl
             (settles.steps ∙ ap (λ (x : List Step). x ++ step.Settled settles.job.request.place ∷ []) wider.steps
             ∙ ap (λ (q : Request). log.steps.items ++ step.Settled q.place ∷ []) same_job);
       }
-
-pub ruleset take_steps = (run_idle, room_one)
-
-pub ruleset turn_steps = (given_back, wider_one, wider_both)
-
-pub ruleset settle_steps = (run_kept, state_kept, room_step)

@@ -13,10 +13,10 @@ use Rattle.flow_laws.proofs.Elements.{contains_first, only_one}
 use Rattle.flow_laws.proofs.Fed.{job_asked}
 use Rattle.flow_laws.proofs.JobLists.{job_at}
 use Rattle.flow_laws.proofs.SameRequests.{place_itself, request_itself, request_same}
-use Rattle.ready_core.specs.Cores.{MayTake, Origin, WasOut, flow_at, is_taken, is_taking, requests}
+use Rattle.ready_core.specs.Cores.{AreHeld, AreWithout, CoreState, MayTake, Origin, WasOut, flow_at, is_taken, is_taking, requests}
 use Rattle.ready_core.specs.Inside.{AreJobs, AreTakenOnce, Balances, Stands}
 use Rattle.ready_core.specs.Rows.{TakenJob}
-use Rattle.ready_core.proofs.Counted.{no_more_taken, request_in}
+use Rattle.ready_core.proofs.Counted.{no_more_taken, request_in, requested}
 use Rattle.ready_core.proofs.Counting.{count_cons, count_cut, count_push, counts, found, none_counts}
 use Rattle.ready_core.proofs.Runs.{fed_more, grow}
 use Rattle.ready_core.proofs.Leftover.{paired_request, taking_same}
@@ -158,6 +158,19 @@ pub out_fresh : (out : List TakenJob) (es : List Entry) (taken : List TakenJob) 
 out_fresh out es taken at r once h w =
     let less = out_counts out es taken at r (λ x. is_job_at r.place r.attempt x) h w (job_at r r.place r.attempt refl refl) in
     false_from_ne_true (has_row (table es) r.place r.attempt) (λ k. omega (arith, less, taken_at_most taken r once, row_counts es r k))
+
+-- what is out was taken, and has no entry
+pub are_held : (s : CoreState) → Stands s.origin s.journal s.taken s.out → AreHeld s
+unfolding AreHeld
+are_held s h r c =
+    let q = requested s.out r c in
+    let w : IsOut s.out q.1.0 r = record { job = q.0; within = q.1.1; is = q.1.2; same = q.2 } in
+    let t = out_taken s.out s.journal s.taken q.1.0 r h.balances w in
+    (subst (Contains (requests s.taken)) t.2 (request_in s.taken t.0 t.1), out_fresh s.out s.journal s.taken q.1.0 r h.once h.balances w)
+
+pub without : (out rest : List TakenJob) (at : ℕ) (r : Request) → IsOut out at r → rest ≡ remove out at → AreWithout out r rest
+unfolding AreWithout
+without out rest at r w e = (at, w.job, w.within, w.is, w.same, e)
 
 balance_settled : (out : List TakenJob) (es : List Entry) (taken : List TakenJob) (at : ℕ) (e : Entry) → Balances out es taken → IsOut out at e.request → Balances (remove out at) (es ++ e ∷ []) taken
 unfolding Balances

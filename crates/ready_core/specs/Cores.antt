@@ -1,5 +1,5 @@
 -- What contracts see of a core, and its two transitions.
-use Rattle.std.specs.Prelude.{◌≡◌, ℕ, ◌+◌, ◌<◌, ◌≤◌, Bool, true, false, not, ◌&&◌, ◌||◌, ◌==◌, List, [], ◌∷◌, ◌++◌, Contains, count_by, length, map, if◌then◌else◌}
+use Rattle.std.specs.Prelude.{◌≡◌, ℕ, ◌+◌, ◌<◌, ◌≤◌, Bool, true, false, not, ◌&&◌, ◌||◌, ◌==◌, List, [], ◌∷◌, ◌++◌, Contains, count_by, length, map, remove, slice_index_or, if◌then◌else◌}
 use Rattle.std.specs.List.{list_all, list_any}
 use Rattle.wdl_base.specs.declared.entry.Entry.{Entry}
 use Rattle.wdl_base.specs.declared.place.Segment.{Segment}
@@ -102,6 +102,10 @@ pub record CoreState : Type 0 where
   pub out : List TakenJob
   pub steps : List Step
 
+-- what is out was taken, and no entry has its place and attempt
+unfoldable pub AreHeld : CoreState → Type 0
+AreHeld s = (r : Request) → Contains (requests s.out) r → Contains (requests s.taken) r × (has_row (table s.journal) r.place r.attempt ≡ false)
+
 abbrev pub started : Origin → CoreState
 started o = record { origin = o; journal = []; taken = []; out = []; steps = [] }
 
@@ -124,6 +128,10 @@ pub record Takes (s : CoreState) (j : TakenJob) (t : CoreState) : Type 0 where
   pub origin : t.origin ≡ s.origin
   pub after : t ≡ record s { taken = s.taken ++ j ∷ []; out = s.out ++ j ∷ []; steps = s.steps ++ Took j.request.place ∷ [] }
 
+-- the jobs without one of that request
+unfoldable pub AreWithout : List TakenJob → Request → List TakenJob → Type 0
+AreWithout out r rest = (at : ℕ) × (j : TakenJob) × (at < length out) × (slice_index_or out at j ≡ j) × (j.request ≡ r) × (rest ≡ remove out at)
+
 -- one settle: the request was out, its place and attempt had no entry, and the journal stays fed
 pub record Settles (s : CoreState) (e : Entry) (t : CoreState) : Type 0 where
   pub was_out : WasOut s.journal s.taken e.request
@@ -131,6 +139,7 @@ pub record Settles (s : CoreState) (e : Entry) (t : CoreState) : Type 0 where
   pub fresh : has_row (table s.journal) e.request.place e.request.attempt ≡ false
   pub fed : fed_at t.origin t.journal ≡ true
   pub out : length t.out + 1 ≡ length s.out
+  pub left : AreWithout s.out e.request t.out
   pub origin : t.origin ≡ s.origin
   pub after : t ≡ record s { journal = s.journal ++ e ∷ []; out = t.out; steps = s.steps ++ Settled e.request.place ∷ [] }
 

@@ -72,7 +72,6 @@ fn turn_with_room<S: Ledger>(
 }
 
 /// The turn over the journal with an entry more, which is then its last one.
-#[tactic(auto, using(crate::proofs::Running::turn_steps))]
 fn next_turn<S: Ledger>(
     alloc: Global,
     over: &Over,
@@ -101,7 +100,6 @@ fn next_turn<S: Ledger>(
 
 impl Core {
     /// A run of the main workflow for these inputs below the directory `site`. Nothing is taken yet.
-    #[tactic(auto, using(crate::proofs::Running::state_started))]
     pub fn new<S: Ledger>(
         alloc: Global,
         checked: Checked,
@@ -125,7 +123,7 @@ impl Core {
 
     /// Takes a job of the flow over the journal that was not taken: its place and attempt are new. `None` exactly where a fault
     /// stands, the flow is past its limits, or each of its jobs was taken. It takes no memory.
-    #[tactic(auto, using(crate::proofs::Running::take_steps))]
+    #[tactic(auto, using(crate::proofs::Running::run_idle))]
     pub fn take(&mut self) -> Option<Job>
         ensures taken { MatchOption result ((spec.idle_at self.old ≡ true) × (self.new ≡ self.old)) (λ j. Takes self.old j self.new) }
     {
@@ -136,7 +134,6 @@ impl Core {
     }
 
     /// Settles the answer of a job that is out, whatever its status: the journal gains its entry.
-    #[tactic(auto, using(crate::proofs::Running::settle_steps))]
     pub fn settle<S: Ledger>(
         &mut self,
         alloc: Global,
@@ -198,6 +195,7 @@ impl Core {
     pub fn out(&self) -> u32
         ensures out { result ≡ length self.now.out }
         ensures counted { length self.now.out + length self.now.journal ≡ length self.now.taken }
+        ensures held { spec.AreHeld self.now }
     {
         self.log.out.len() as u32
     }
