@@ -136,7 +136,7 @@ fn in_threads<
                 × Tells P.gives P.refuses (L.gives launcher.now) (L.refuses launcher.now)
                 × IsReady rows.now (keeper_view (K.kept keeper.now) (K.path keeper.now) (K.faults keeper.now)) × ArePlaced rows.now }
             ensures { HasRun workers (L.gives launcher.entry.now) (L.refuses launcher.entry.now) rows.entry.now result.0.core result.0.stop result.0.counts × (result.0.core.origin ≡ core.origin)
-                × Went (L.gives launcher.entry.now) result.0.core result.0.stop (keeper_view (K.kept keeper.entry.now) (K.path keeper.entry.now) (K.faults keeper.entry.now)) (keeper_view (K.kept result.1.now) (K.path result.1.now) (K.faults result.1.now)) × (result.1.ghost_name ≡ keeper.entry.ghost_name) }
+                × Went (L.gives launcher.entry.now) result.0.core result.0.stop (keeper_view (K.kept keeper.entry.now) (K.path keeper.entry.now) (K.faults keeper.entry.now)) (keeper_view (K.kept result.1.now) (K.path result.1.now) (K.faults result.1.now)) × (result.1.ghost_name ≡ keeper.entry.ghost_name) × (result.2.ghost_name ≡ steps.entry.ghost_name) }
         {
             let mut alone = true;
             for _ in 0..workers {

@@ -1,0 +1,20 @@
+use Rattle.std.proofs.Common.{sym, subst}
+use Rattle.std.specs.Prelude.{None}
+use Rattle.ready_core.specs.Cores.{CoreState}
+use Rattle.work_desk.specs.Keeping.{Holding, keeper_view}
+use Rattle.work_desk.specs.Stops.{Judges}
+use Rattle.work_desk.proofs.Kept.{hold_started, went_tells}
+use Rattle.work_desk.proofs.run.conduct.Goals as goal
+
+pub returns-clause-keeper : goal.returns-clause-keeper
+returns-clause-keeper g c =
+    let p = g.P.Pact in
+    let l = g.L.Launcher in
+    let k = g.K.Keeper in
+    let rows = c.args.rows.now in
+    let stop = c.judge.new.stop in
+    let before = keeper_view (k.kept c.args.keeper.now) (k.path c.args.keeper.now) (k.faults c.args.keeper.now) in
+    let judged = subst (λ (x : CoreState). Judges x None stop) c.requires.core c.judge.ensures.judged in
+    let begun = hold_started p.gives rows before c.args.core.origin stop c.requires.ready c.requires.placed judged in
+    let ended = c.drive.ensures.holds before (subst (λ (x : CoreState). Holding p.gives rows before x stop before) (sym c.requires.core) begun) in
+    went_tells p.gives p.refuses (l.gives c.args.launcher.now) (l.refuses c.args.launcher.now) c.drive.new.self.core c.drive.new.self.stop before _ c.requires.back ended.went
