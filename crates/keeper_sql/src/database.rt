@@ -1,7 +1,7 @@
 ghost use Rattle.std.specs.Prelude.{◌≡◌, true, IfOk};
 ghost use Rattle.wdl_port.specs.Rows.{are_kept};
 
-use crate::rows::{Renewed, Stored, entry_in, new_body};
+use crate::rows::{Stored, entry_in};
 use crate::trouble::Trouble;
 use sqlite::types::ValueRef;
 use sqlite::{Connection, Error, File, FileStore, Row, Rows};
@@ -80,22 +80,6 @@ pub(crate) fn read_all(alloc: Global, database: &mut Database) -> Result<Items<E
             break;
         };
         all.push(entry_in(alloc, &row)?)?;
-    }
-    Ok(all)
-}
-
-/// Returns the rows of version 1, each with its body in version 2. It fails where any row of the table is no row of a
-/// journal.
-pub(crate) fn old_rows(alloc: Global, database: &mut Database) -> Result<Vec<Renewed>, Trouble> {
-    let mut rows = query(database)?;
-    let mut all = Vec::new(alloc);
-    for _ in 0..u64::MAX {
-        let Some(row) = next_row(&mut rows)? else {
-            break;
-        };
-        if let Some(body) = new_body(alloc, &row)? {
-            all.push(row.renewed(body))?;
-        }
     }
     Ok(all)
 }

@@ -1,9 +1,10 @@
-use crate::database::{Database, old_rows};
-use crate::rows::Renewed;
+use crate::database::Database;
+use crate::rows::{read, write};
 use crate::trouble::Trouble;
 use sqlite::params;
 use std::alloc::Global;
 use std::rt::HostRuntime;
+use wdl_value::Entry;
 
 /// The table of a journal.
 const TABLE: &str =
@@ -17,7 +18,8 @@ const KEPT_TABLE: &str =
 const FOREIGN: &str =
     "SELECT count(*) FROM sqlite_schema WHERE name <> 'sqlite_autoindex_entry_1' AND (name <> 'entry' OR coalesce(sql, '') NOT IN (?1, ?2))";
 
-const RENEW: &str = "UPDATE entry SET body = ?3 WHERE place = ?1 AND attempt = ?2";
+/// How many rows are of version 1.
+const OLD: &str = "SELECT count(*) FROM entry WHERE body LIKE '%\"v\":1}'";
 
 /// Refuses a file that holds anything but the table of a journal.
 fn refuse_foreign(database: &mut Database) -> Result<(), Trouble> {
@@ -28,14 +30,11 @@ fn refuse_foreign(database: &mut Database) -> Result<(), Trouble> {
     }
 }
 
-/// Rewrites these rows in one transaction. Without its end they are as before.
-fn renew(database: &mut Database, rows: &[Renewed]) -> Result<(), Trouble> {
+/// Writes all rows anew, in version 2 and in one transaction. Without its end they are as before.
+fn renew(alloc: Global, database: &mut Database, rows: &[Entry]) -> Result<(), Trouble> {
     database.execute("BEGIN", &[])?;
     for row in rows {
-        database.execute(
-            RENEW,
-            params![row.place.as_str(), row.attempt, row.body.as_str()],
-        )?;
+        write(alloc, database, row)?;
     }
     database.execute("COMMIT", &[])?;
     Ok(())
@@ -44,15 +43,16 @@ fn renew(database: &mut Database, rows: &[Renewed]) -> Result<(), Trouble> {
 fn prepare(alloc: Global, database: &mut Database) -> Result<(), Trouble> {
     refuse_foreign(database)?;
     database.execute(TABLE, &[])?;
-    let old = old_rows(alloc, database)?;
-    if !old.is_empty() {
-        renew(database, old.as_slice())?;
+    let rows = read(alloc, database)?;
+    if database.number(OLD, &[])? > 0 {
+        renew(alloc, database, rows.as_slice())?;
     }
     Ok(())
 }
 
-/// Opens the journal of a path, or makes it. Its rows of version 1 are rewritten in version 2, in one transaction. A
-/// file that is no journal is refused, and its tables are left as they are; an empty log may be made beside it.
+/// Opens the journal of a path, or makes it. If a row is of version 1, all rows are rewritten in version 2, in one
+/// transaction. A file that is no journal is refused, and its tables are left as they are; an empty log may be made
+/// beside it.
 pub(crate) fn open(rt: &HostRuntime, alloc: Global, path: &str) -> Result<Database, Trouble> {
     let mut database = Database::open(rt, path)?;
     prepare(alloc, &mut database)?;

@@ -11,10 +11,7 @@ use sqlite::params;
 use sqlite_items::Items;
 use std::alloc::Global;
 use wdl_port::rises;
-use wdl_value::{Entry, Text, place_text};
-
-/// What stands at the end of a row's text in version 1.
-const OLD_END: &str = "\"v\":1}";
+use wdl_value::{Entry, place_text};
 
 const PUT: &str = "INSERT OR REPLACE INTO entry (place, attempt, body) VALUES (?1, ?2, ?3)";
 
@@ -24,14 +21,6 @@ pub(crate) struct Stored {
     pub(crate) place: String,
     pub(crate) attempt: i64,
     pub(crate) body: String,
-}
-
-/// A row whose body is brought to version 2.
-#[derive(Drop)]
-pub(crate) struct Renewed {
-    pub(crate) place: String,
-    pub(crate) attempt: i64,
-    pub(crate) body: Text,
 }
 
 /// The entry of a row whose body is a row of a journal, of the same place and attempt.
@@ -50,27 +39,6 @@ pub(crate) fn entry_in(alloc: Global, row: &Stored) -> Result<Entry, Trouble>
     }
 }
 
-/// The body in version 2 of a row of version 1. It fails where the row is no row of a journal, in either version.
-pub(crate) fn new_body(alloc: Global, row: &Stored) -> Result<Option<Text>, Trouble> {
-    let entry = entry_in(alloc, row)?;
-    if row.body.as_str().ends_with(OLD_END) {
-        Ok(Some(row_text(alloc, &entry)?))
-    } else {
-        Ok(None)
-    }
-}
-
-impl Stored {
-    /// The row with another body.
-    pub(crate) fn renewed(self, body: Text) -> Renewed {
-        Renewed {
-            place: self.place,
-            attempt: self.attempt,
-            body,
-        }
-    }
-}
-
 /// The entries of the table, in strictly rising order.
 pub(crate) fn read(alloc: Global, database: &mut Database) -> Result<Items<Entry>, Trouble>
     ensures order { IfOk result (λ all. spec_rises all ≡ true) }
@@ -84,7 +52,7 @@ pub(crate) fn read(alloc: Global, database: &mut Database) -> Result<Items<Entry
     }
 }
 
-/// Writes the row of an entry, in a transaction of its own: it is on the disk when the call returns.
+/// Writes the row of an entry. Outside a transaction it is on the disk when the call returns.
 pub(crate) fn write(alloc: Global, database: &mut Database, entry: &Entry) -> Result<(), Trouble> {
     let place = place_text(alloc, &entry.request.place)?;
     let body = row_text(alloc, entry)?;

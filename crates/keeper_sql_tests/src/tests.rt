@@ -37,17 +37,17 @@ const ROW_AND_LATER: &str = "\
 {\"attempt\":0,\"command\":\"echo hi\",\"dir\":\"/tmp/wdl-run/say\",\"err\":\"\",\"files\":[],\"laid\":[],\"out\":\"68690a\",\"place\":\"say\",\"status\":0,\"v\":2}\n\
 {\"attempt\":1,\"command\":\"echo hi\",\"dir\":\"/tmp/wdl-run/say\",\"err\":\"\",\"files\":[],\"laid\":[],\"out\":\"68690a\",\"place\":\"say\",\"status\":0,\"v\":2}\n";
 
-/// The row in version 1 beside one that has other members.
-const OLD_AND_OTHER: &str = "\
+/// Tables that are no journal's, one a line.
+const TABLES: &str = "CREATE TABLE note (id INTEGER)\nCREATE TABLE entry (id INTEGER)";
+
+/// Cases of rows that are no journal's, apart by semicolons: one with other members, the row in version 1 beside such a
+/// one, a row of another place, and a row of another attempt.
+const ROWS: &str = "\
+{\"v\":2};\
 {\"command\":\"echo hi\",\"dir\":\"/tmp/wdl-run/say\",\"err\":\"\",\"files\":[],\"out\":\"68690a\",\"place\":\"say\",\"status\":0,\"v\":1}\n\
-{\"v\":2}\n";
-
-/// A row of another place, and one of another attempt, than the first row has.
-const ELSEWHERE: &str =
-    "{\"attempt\":0,\"command\":\"echo hi\",\"dir\":\"/tmp/wdl-run/say\",\"err\":\"\",\"files\":[],\"laid\":[],\"out\":\"68690a\",\"place\":\"tell\",\"status\":0,\"v\":2}";
-
-const LATER: &str =
-    "{\"attempt\":1,\"command\":\"echo hi\",\"dir\":\"/tmp/wdl-run/say\",\"err\":\"\",\"files\":[],\"laid\":[],\"out\":\"68690a\",\"place\":\"say\",\"status\":0,\"v\":2}";
+{\"v\":2};\
+{\"attempt\":0,\"command\":\"echo hi\",\"dir\":\"/tmp/wdl-run/say\",\"err\":\"\",\"files\":[],\"laid\":[],\"out\":\"68690a\",\"place\":\"tell\",\"status\":0,\"v\":2};\
+{\"attempt\":1,\"command\":\"echo hi\",\"dir\":\"/tmp/wdl-run/say\",\"err\":\"\",\"files\":[],\"laid\":[],\"out\":\"68690a\",\"place\":\"say\",\"status\":0,\"v\":2}";
 
 /// What a test's own steps want, which is memory or a file.
 #[derive(Debug, Drop)]
@@ -177,8 +177,7 @@ fn keeps_what_was_put(rt: &HostRuntime) -> Result<bool, Want> {
 #[test]
 fn a_thousand_entries_are_kept(rt: HostRuntime) -> Result<(), Fail> {
     make_dir(&rt, "kept")?;
-    assert!(rt; keeps_what_is_put(&rt)?);
-    assert!(rt; keeps_what_was_put(&rt)?);
+    assert!(rt; keeps_what_is_put(&rt)? && keeps_what_was_put(&rt)?);
     Ok(fs::remove_dir_all(&rt, "kept")?)
 }
 
@@ -220,8 +219,7 @@ fn gives_rows(rt: &HostRuntime, at: &str, count: usize) -> Result<bool, Want>
 fn old_rows_are_rewritten(rt: HostRuntime) -> Result<(), Fail> {
     make_dir(&rt, "old")?;
     make_database(&rt, "old/j", TABLE, OLD_AND_LATER)?;
-    assert!(rt; gives_rows(&rt, "old/j", 2)?);
-    assert!(rt; holds(&rt, "old/j", ROW_AND_LATER)?);
+    assert!(rt; gives_rows(&rt, "old/j", 2)? && holds(&rt, "old/j", ROW_AND_LATER)?);
     Ok(fs::remove_dir_all(&rt, "old")?)
 }
 
@@ -251,8 +249,7 @@ fn has_it_alone(rt: &HostRuntime) -> Result<bool, Want> {
 #[test]
 fn one_keeper_has_a_file_alone(rt: HostRuntime) -> Result<(), Fail> {
     make_dir(&rt, "one")?;
-    assert!(rt; has_it_alone(&rt)?);
-    assert!(rt; gives_rows(&rt, "one/j", 2)?);
+    assert!(rt; has_it_alone(&rt)? && gives_rows(&rt, "one/j", 2)?);
     Ok(fs::remove_dir_all(&rt, "one")?)
 }
 
@@ -308,21 +305,30 @@ fn is_refused_as_folder(rt: &HostRuntime) -> Result<bool, Want> {
     Ok(is_folder_refused && counts_faults(rt.alloc(), &mut SqlKeeper::new(rt), "bad/none/j"))
 }
 
+/// Whether each database of another table is refused.
+fn is_refused_by_table(rt: &HostRuntime) -> Result<bool, Want> {
+    for table in TABLES.lines() {
+        if !is_foreign(rt, table, "")? {
+            return Ok(false);
+        }
+    }
+    Ok(true)
+}
+
+/// Whether each database of other rows is refused.
+fn is_refused_by_rows(rt: &HostRuntime) -> Result<bool, Want> {
+    for bodies in ROWS.split(';') {
+        if !is_foreign(rt, TABLE, bodies)? {
+            return Ok(false);
+        }
+    }
+    Ok(true)
+}
+
 #[test]
 fn a_file_that_is_no_journal_is_left_as_it_is(rt: HostRuntime) -> Result<(), Fail> {
-    for (table, bodies) in [
-        ("CREATE TABLE note (id INTEGER)", ""),
-        ("CREATE TABLE entry (id INTEGER)", ""),
-        (TABLE, "{\"v\":2}"),
-        (TABLE, OLD_AND_OTHER),
-        (TABLE, ELSEWHERE),
-        (TABLE, LATER),
-    ] {
-        assert!(rt; is_foreign(&rt, table, bodies)?, "at {table} {bodies}");
-    }
-    assert!(rt; is_refused_when_cut(&rt)?);
-    assert!(rt; is_refused_when_read_only(&rt)?);
-    assert!(rt; is_refused_as_text(&rt)?);
-    assert!(rt; is_refused_as_folder(&rt)?);
+    assert!(rt; is_refused_by_table(&rt)? && is_refused_by_rows(&rt)?);
+    assert!(rt; is_refused_as_text(&rt)? && is_refused_as_folder(&rt)?);
+    assert!(rt; is_refused_when_cut(&rt)? && is_refused_when_read_only(&rt)?);
     Ok(fs::remove_dir_all(&rt, "bad")?)
 }
