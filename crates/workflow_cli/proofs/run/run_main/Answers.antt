@@ -11,8 +11,8 @@ returns-in-Ok-clause-value g c f fit =
     c.run_over.ensures.value f fit c.in-Some.path (keeper_view (g.K.Keeper.kept c.args.keeper.now) (g.K.Keeper.path c.args.keeper.now) (g.K.Keeper.faults c.args.keeper.now))
     c.in-Some.is c.in-Ok.ensures.value
 
-pub returns-clause-value : goal.returns-clause-value
-returns-clause-value g c f fit =
+pub returns-in-Err-clause-value : goal.returns-in-Err-clause-value
+returns-in-Err-clause-value g c f fit =
     let i = c.idle.ensures in
     let h = c.in-Err.ensures.value in
     let v = keeper_view (g.K.Keeper.kept c.args.keeper.now) (g.K.Keeper.path c.args.keeper.now) (g.K.Keeper.faults c.args.keeper.now) in
@@ -23,5 +23,5 @@ returns-clause-value g c f fit =
     (record { no_answer = i.journal; no_job = i.steps; no_count = i.counts; no_step = refl; no_row = h.0 }) h.1
     (i.work ∙ stop_is c.stop.result c.in-Err.status c.stop.ensures.status c.stop.ensures.paths)
 
-pub returns-clause-keeper : goal.returns-clause-keeper
-returns-clause-keeper g c = inr (c.in-Some.path, c.in-Some.is, stopped_on c.in-Some.path _ _ c.in-Err.status c.in-Err.ensures.value.1)
+pub returns-in-Err-clause-keeper : goal.returns-in-Err-clause-keeper
+returns-in-Err-clause-keeper g c = inr (c.in-Some.path, c.in-Some.is, stopped_on c.in-Some.path _ _ c.in-Err.status c.in-Err.ensures.value.1)
