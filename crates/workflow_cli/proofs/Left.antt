@@ -46,6 +46,7 @@ module _ (gives : Request → Answer → Type 0) (refuses : Request → Type 0) 
     make o es ss = record { origin = o; journal = es; taken = c.taken; out = c.out; steps = ss }
 
     same_core : c ≡ core_of m t c.taken c.out
+    unfolding make
     same_core = ap (λ o. make o c.journal c.steps) origin ∙ ap (λ es. make (origin_of m) es c.steps) (sym journal) ∙ ap (make (origin_of m) t.journal) (sym steps)
 
     -- the work of a core after its run

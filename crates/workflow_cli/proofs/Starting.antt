@@ -12,7 +12,7 @@ use Rattle.workflow_cli.specs.declared.ended.Stop.{Stop}
 use Rattle.workflow_cli.specs.declared.ended.Work.{Work}
 use Rattle.workflow_cli.specs.declared.ended.Work.TheVariants as work
 use Rattle.workflow_cli.specs.declared.run.Begun.{Begun}
-use Rattle.workflow_cli.specs.Stages.{IsBegun, IsFitting, StopsAs, Turns}
+use Rattle.workflow_cli.specs.Stages.{IsBegun, IsFitting, StopsAs, Turns, stops}
 use Rattle.workflow_cli.proofs.Started.{has_number, is_numbered}
 
 some_same : {A : Type 0} {x y : A} → Some x ≡ Some y → x ≡ y
@@ -33,10 +33,13 @@ module _ (c : Checked) (given : List Bind) where
       → (f : FlowDef) → IsFitting c given f → IsBegun c given site f (record { core = core; name = name })
   begun_is site main core name m e n f fit = record { core = e; name = n ∙ ap (λ (x : FlowDef). x.name) (some_same (sym m ∙ fit.main)) }
 
--- the work of a stop
-pub stop_turns : (name : List ℕ) (core : CoreState) (why : Why) (st : Stop) (s : Status) → st.status ≡ s → st.paths ≡ [] → StopsAs core why s
-    → Turns name core (Some why) (work.Stop st)
-stop_turns name core why st s e p h = (s, ap (λ x. make x st.paths) e ∙ ap (make s) p, h)
+-- the work of a stop that names no document
+pub stop_is : (st : Stop) (s : Status) → st.status ≡ s → st.paths ≡ [] → work.Stop st ≡ stops s
+stop_is st s e p = ap (λ x. make x st.paths) e ∙ ap (make s) p
   where
     make : Status → List (List ℕ) → Work
     make x ps = work.Stop (record { status = x; paths = ps })
+
+pub stop_turns : (name : List ℕ) (core : CoreState) (why : Why) (st : Stop) (s : Status) → st.status ≡ s → st.paths ≡ [] → StopsAs core why s
+    → Turns name core (Some why) (work.Stop st)
+stop_turns name core why st s e p h = (s, stop_is st s e p, h)
