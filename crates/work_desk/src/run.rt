@@ -27,7 +27,7 @@ use wdl_port::{Keeper, Launcher};
 use wdl_value::{Counts, Entry, Items, Steps};
 
 /// What a run leaves: the core, why it stopped, if it did, and how many jobs were put on the desk, picked, finished and collected.
-#[derive(Debug, Drop)]
+#[derive(Drop)]
 pub struct Ran {
     pub core: Core,
     pub stop: Option<Stop>,

@@ -24,4 +24,7 @@ returns-in-Err-clause-value g c f fit =
     (i.work ∙ stop_is c.stop.result c.in-Err.status c.stop.ensures.status c.stop.ensures.paths)
 
 pub returns-in-Err-clause-keeper : goal.returns-in-Err-clause-keeper
-returns-in-Err-clause-keeper g c = inr (c.in-Some.path, c.in-Some.is, stopped_on c.in-Some.path _ _ c.in-Err.status c.in-Err.ensures.value.1)
+returns-in-Err-clause-keeper g c =
+    let v = keeper_view (g.K.Keeper.kept c.args.keeper.now) (g.K.Keeper.path c.args.keeper.now) (g.K.Keeper.faults c.args.keeper.now) in
+    let n = c.rows_of.new.keeper in
+    inr (c.in-Some.path, c.in-Some.is, stopped_on c.in-Some.path v (keeper_view (g.K.Keeper.kept n) (g.K.Keeper.path n) (g.K.Keeper.faults n)) c.in-Err.status c.in-Err.ensures.value.1)
