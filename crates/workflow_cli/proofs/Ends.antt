@@ -1,19 +1,17 @@
 -- From the work of the main workflow to the cause of its status.
-use Rattle.std.proofs.Common.{◌≡◌, ◌⊎◌, inl, inr, ℕ, List, [], Option, Some, None, ap, sym, subst, ◌∙◌, refl}
+use Rattle.std.proofs.Common.{◌≡◌, inl, inr, ℕ, List, [], Option, Some, None, sym, subst, refl}
 use Rattle.wdl_base.specs.declared.answer.Answer.{Answer}
 use Rattle.wdl_base.specs.declared.request.Request.{Request}
 use Rattle.report_text.specs.declared.status.Status.{Status}
 use Rattle.report_text.specs.declared.status.Status.TheVariants as status
-use Rattle.work_desk.specs.Keeping.{Went}
 use Rattle.work_desk.specs.declared.stop.Stop.{Stop}
 use Rattle.work_desk.specs.declared.stop.Stop.TheVariants as end
 use Rattle.workflow_cli.specs.declared.ended.Work.{Work}
-use Rattle.workflow_cli.specs.declared.ended.Work.TheVariants as work
 use Rattle.workflow_cli.specs.Asking.{Words}
 use Rattle.workflow_cli.specs.Causes.{Cause, CauseOf, IsWork}
 use Rattle.workflow_cli.specs.Documents.{Tells}
-use Rattle.workflow_cli.specs.Running.{IsRun, IsStarted, IsUnkept, KeepsRows, Main, Trace, core_of, flow_of}
-use Rattle.workflow_cli.specs.Stages.{HasLeft, IsFailedAs, RunsMain, StopsAs, Turns, stops}
+use Rattle.workflow_cli.specs.Running.{IsRun, IsStarted, IsUnkept, KeepsRows, Main, Trace, core_of}
+use Rattle.workflow_cli.specs.Stages.{IsFailedAs, RunsMain, StopsAs, Turns}
 
 module _ (tells : Tells) (refused : List ℕ → Type 0) (rose : Type 0) (gives : Request → Answer → Type 0) (refuses : Request → Type 0) (words : Words) (t : Trace) where
   abbrev Comes : Work → Type 0

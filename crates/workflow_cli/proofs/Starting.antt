@@ -1,5 +1,5 @@
 -- A run that begins.
-use Rattle.std.proofs.Common.{◌≡◌, true, ℕ, List, [], Option, Some, IsSome, slice_get, ap, sym, subst, ◌∙◌, refl}
+use Rattle.std.proofs.Common.{◌≡◌, true, ℕ, List, [], Some, IsSome, slice_get, ap, sym, subst, ◌∙◌}
 use Rattle.wdl_value.specs.declared.env.Bind.{Bind}
 use Rattle.wdl_typed.specs.declared.checked.Checked.{Checked}
 use Rattle.wdl_typed.specs.declared.flow.FlowDef.{FlowDef}
@@ -11,7 +11,6 @@ use Rattle.work_desk.specs.declared.stop.Stop.{Stop as Why}
 use Rattle.workflow_cli.specs.declared.ended.Stop.{Stop}
 use Rattle.workflow_cli.specs.declared.ended.Work.{Work}
 use Rattle.workflow_cli.specs.declared.ended.Work.TheVariants as work
-use Rattle.workflow_cli.specs.declared.run.Begun.{Begun}
 use Rattle.workflow_cli.specs.Stages.{IsBegun, IsFitting, StopsAs, Turns, stops}
 use Rattle.workflow_cli.proofs.Started.{has_number, is_numbered}
 
