@@ -71,7 +71,7 @@ checks() {
 }
 
 echo "words"
-usage='usage: wdl run [--inputs FILE] [--root DIR] FILE | check FILE | cwl [--inputs FILE] FILE\n'
+usage='usage: wdl run [--inputs FILE] [--workers N] [--root DIR] [--journal FILE] FILE | check FILE | cwl [--inputs FILE] FILE\n'
 document bare.wdl 'workflow w { }'
 expect "no words" 2 '' "$usage"
 expect "another command" 2 '' "$usage" walk bare.wdl
@@ -93,8 +93,9 @@ expect "65 workers" 2 '' "$usage" run --workers 65 bare.wdl
 expect "a word that is no text" 2 '' "$usage" check "$(printf '\377')"
 expect "one worker" 0 '{}\n' '' run --workers 1 bare.wdl
 expect "a file behind --" 0 'ok\n' '' check -- bare.wdl
-expect "other workers" 12 '' 'not built yet\n' run --workers 2 bare.wdl
-expect "a journal" 12 '' 'not built yet\n' run --journal journal bare.wdl
+expect "64 workers" 0 '{}\n' '' run --workers 64 bare.wdl
+expect "a journal" 0 '{}\n' '' run --journal journal bare.wdl
+expect "a journal that is a directory" 10 '' 'journal fault\n' run --journal . bare.wdl
 expect "load" 12 '' 'not built yet\n' load 3
 expect "bundle" 12 '' 'not built yet\n' bundle bare.wdl
 

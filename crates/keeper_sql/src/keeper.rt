@@ -1,10 +1,10 @@
 ghost use Rattle.std.specs.Prelude.{◌≡◌, None, Ok, Err, IfOk, IsErrOf};
 ghost use Rattle.wdl_port.specs.Causes.{HasCauseOf};
 
+use crate::database::Database;
 use crate::opening::open;
 use crate::rows::{read, write};
 use crate::trouble::Trouble;
-use sqlite::{Connection, File, FileStore};
 use sqlite_items::Items;
 use std::alloc::Global;
 use std::rt::HostRuntime;
@@ -12,17 +12,29 @@ use wdl_port::{KeepFault, Keeper};
 use wdl_value::{Entry, Text};
 
 /// A journal in a SQLite file, in the table `entry (place, attempt, body)`, whose bodies are the rows' texts. It does
-/// not tell its rows.
+/// not tell its rows. A row that was put is on the disk, and no other process can open the file until the keeper is
+/// dropped.
 ///
 /// It counts each refusal of the database for another cause than memory, and each row that is no row of a journal, is
-/// of another place or attempt than its body, or is out of order. A file that is no journal is such a fault, and is
-/// left as it is.
-#[derive(Drop)]
+/// of another place or attempt than its body, or is out of order. A file that is no journal, or that another process
+/// has open, is such a fault; its tables are left as they are.
 pub struct SqlKeeper<'a> {
     rt: &'a HostRuntime,
-    conn: Option<Connection<FileStore<File>>>,
+    database: Option<Database>,
     pub path: Option<Text>,
     pub faults: u64,
+}
+
+// It is written out, so that a caller does not prove again how each part is dropped.
+impl Drop for SqlKeeper<'_> {
+    fn drop(self) {
+        let SqlKeeper {
+            rt: _,
+            database: _,
+            path: _,
+            faults: _,
+        } = self;
+    }
 }
 
 impl<'a> SqlKeeper<'a> {
@@ -33,7 +45,7 @@ impl<'a> SqlKeeper<'a> {
     {
         SqlKeeper {
             rt,
-            conn: None,
+            database: None,
             path: None,
             faults: 0,
         }
@@ -66,9 +78,9 @@ impl<'a> Keeper for SqlKeeper<'a> {
     fn start(&mut self, alloc: Global, at: &str) -> Result<(), KeepFault> {
         let path = Text::from_plain(alloc, at)?;
         match counted(open(self.rt, alloc, at), &mut self.faults) {
-            Ok(conn) => {
+            Ok(database) => {
                 self.path = Some(path);
-                self.conn = Some(conn);
+                self.database = Some(database);
                 Ok(())
             }
             Err(KeepFault::NoMemory) => Err(KeepFault::NoMemory),
@@ -80,16 +92,16 @@ impl<'a> Keeper for SqlKeeper<'a> {
     }
 
     fn rows(&mut self, alloc: Global) -> Result<Items<Entry>, KeepFault> {
-        let taken = match &mut self.conn {
-            Some(conn) => read(alloc, conn),
+        let taken = match &mut self.database {
+            Some(database) => read(alloc, database),
             None => Err(Trouble::Failed),
         };
         counted(taken, &mut self.faults)
     }
 
     fn put(&mut self, alloc: Global, entry: &Entry) -> Result<(), KeepFault> {
-        let taken = match &mut self.conn {
-            Some(conn) => write(alloc, conn, entry),
+        let taken = match &mut self.database {
+            Some(database) => write(alloc, database, entry),
             None => Err(Trouble::Failed),
         };
         counted(taken, &mut self.faults)

@@ -4,16 +4,14 @@ ghost use Rattle.wdl_base.specs.Places.{place_text as spec_text};
 ghost use Rattle.wdl_base.specs.declared.entry.Source.TheVariants.{Kept};
 ghost use Rattle.wdl_port.specs.Rows.{are_kept, rises as spec_rises};
 
+use crate::database::{Database, read_all};
 use crate::trouble::Trouble;
 use run_keeper::{entry_of, row_text};
-use sqlite::{Alter, Connection, Error, Row, Rows, params};
+use sqlite::params;
 use sqlite_items::Items;
 use std::alloc::Global;
 use wdl_port::rises;
 use wdl_value::{Entry, place_text};
-
-/// The rows in the order of the bytes of the place and then of the attempt.
-const READ: &str = "SELECT place, attempt, body FROM entry ORDER BY place, attempt";
 
 const PUT: &str = "INSERT OR REPLACE INTO entry (place, attempt, body) VALUES (?1, ?2, ?3)";
 
@@ -23,27 +21,6 @@ pub(crate) struct Stored {
     pub(crate) place: String,
     pub(crate) attempt: i64,
     pub(crate) body: String,
-}
-
-fn take(row: &Row) -> Result<Stored, Error> {
-    Ok(Stored {
-        place: row.get(0)?,
-        attempt: row.get(1)?,
-        body: row.get(2)?,
-    })
-}
-
-/// The next row of the table, if there is one.
-pub(crate) fn next_row<S: Alter>(rows: &mut Rows<'_, S>) -> Result<Option<Stored>, Trouble> {
-    match rows.next()? {
-        Some(row) => Ok(Some(take(row)?)),
-        None => Ok(None),
-    }
-}
-
-/// All rows of the table.
-pub(crate) fn query<S: Alter>(conn: &mut Connection<S>) -> Result<Rows<'_, S>, Error> {
-    conn.query(READ, &[])
 }
 
 /// The entry of a row whose body is a row of a journal, of the same place and attempt.
@@ -62,30 +39,12 @@ pub(crate) fn entry_in(alloc: Global, row: &Stored) -> Result<Entry, Trouble>
     }
 }
 
-#[tactic(auto, using(crate::proofs::Kept::kept_push))]
-fn read_all<S: Alter>(alloc: Global, conn: &mut Connection<S>) -> Result<Items<Entry>, Trouble>
-    ensures { IfOk result (λ all. are_kept all ≡ true) }
-{
-    let mut rows = query(conn)?;
-    let mut all = Items::new(alloc);
-    for _ in 0..u64::MAX {
-        let Some(row) = next_row(&mut rows)? else {
-            break;
-        };
-        all.push(entry_in(alloc, &row)?)?;
-    }
-    Ok(all)
-}
-
 /// The entries of the table, in strictly rising order.
-pub(crate) fn read<S: Alter>(
-    alloc: Global,
-    conn: &mut Connection<S>,
-) -> Result<Items<Entry>, Trouble>
+pub(crate) fn read(alloc: Global, database: &mut Database) -> Result<Items<Entry>, Trouble>
     ensures order { IfOk result (λ all. spec_rises all ≡ true) }
     ensures sources { IfOk result (λ all. are_kept all ≡ true) }
 {
-    let all = read_all(alloc, conn)?;
+    let all = read_all(alloc, database)?;
     if rises(alloc, all.as_slice())? {
         Ok(all)
     } else {
@@ -93,15 +52,11 @@ pub(crate) fn read<S: Alter>(
     }
 }
 
-/// Writes the row of an entry.
-pub(crate) fn write<S: Alter>(
-    alloc: Global,
-    conn: &mut Connection<S>,
-    entry: &Entry,
-) -> Result<(), Trouble> {
+/// Writes the row of an entry. Outside a transaction it is on the disk when the call returns.
+pub(crate) fn write(alloc: Global, database: &mut Database, entry: &Entry) -> Result<(), Trouble> {
     let place = place_text(alloc, &entry.request.place)?;
     let body = row_text(alloc, entry)?;
     let attempt = i64::from(entry.request.attempt);
-    conn.execute(PUT, params![place.as_str(), attempt, body.as_str()])?;
+    database.execute(PUT, params![place.as_str(), attempt, body.as_str()])?;
     Ok(())
 }

@@ -9,9 +9,10 @@ use sqlite::{Error, ErrorCode};
 use std::alloc::{AllocError, AllocFailed};
 use wdl_value::NoMemory;
 
-/// Why a step of the keeper failed: what it counts as a fault, or want of memory.
+/// Why a step of the keeper failed.
 #[derive(Clone, Copy, Debug, PartialEq, Eq)]
-pub(crate) enum Trouble {
+pub enum Trouble {
+    /// What the keeper counts as a fault: the file cannot be opened, read or written, or is no journal.
     Failed,
     NoMemory,
 }

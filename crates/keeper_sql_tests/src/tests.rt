@@ -1,24 +1,27 @@
-//! Journals in files: what is put is kept, old rows are rewritten, and a file that is no journal is left as it is.
-ghost use Rattle.std.specs.Prelude.{◌≡◌, ◌<◌, ◌^◌, None, OnOk, IsSome};
+//! Journals in files: what is put is kept, old rows are rewritten, one keeper has a file alone, and a file that is no
+//! journal is left as it is.
+ghost use Rattle.std.specs.Prelude.{◌≡◌, None, false, OnOk, IsSome};
+ghost use Rattle.wdl_base.specs.Plain.{has_nul};
 
-use keeper_sql::SqlKeeper;
-use run_keeper::row_text;
-use sqlite::{Connection, params};
-use sqlite_items::Items;
+use keeper_sql::{Database, SqlKeeper, Trouble};
+use run_keeper::{RowFault, entry_of, row_text};
+use sqlite::params;
 use std::alloc::{AllocError, Global};
 use std::fs;
 use std::fs::{Files, OpenOptions};
 use std::rt::HostRuntime;
 use std::test::Fail;
 use wdl_port::{KeepFault, Keeper};
-use wdl_value::{Answer, Body, Entry, Name, NoMemory, Place, Request, Segment, Source, Text};
+use wdl_value::{Entry, NoMemory, Source};
 
 const TABLE: &str =
     "CREATE TABLE entry (place TEXT NOT NULL, attempt INTEGER NOT NULL, body TEXT NOT NULL, PRIMARY KEY (place, attempt)) STRICT";
 
 const INSERT: &str = "INSERT INTO entry (place, attempt, body) VALUES ('say', ?1, ?2)";
 
-const BODIES: &str = "SELECT body FROM entry ORDER BY attempt";
+const COUNT_OF: &str = "SELECT count(*) FROM entry WHERE attempt = ?1 AND body = ?2";
+
+const COUNT_OF_ALL: &str = "SELECT count(*) FROM entry";
 
 /// The row of a call that wrote `hi`.
 const ROW: &str =
@@ -34,17 +37,17 @@ const ROW_AND_LATER: &str = "\
 {\"attempt\":0,\"command\":\"echo hi\",\"dir\":\"/tmp/wdl-run/say\",\"err\":\"\",\"files\":[],\"laid\":[],\"out\":\"68690a\",\"place\":\"say\",\"status\":0,\"v\":2}\n\
 {\"attempt\":1,\"command\":\"echo hi\",\"dir\":\"/tmp/wdl-run/say\",\"err\":\"\",\"files\":[],\"laid\":[],\"out\":\"68690a\",\"place\":\"say\",\"status\":0,\"v\":2}\n";
 
-/// The row in version 1 beside one that has other members.
-const OLD_AND_OTHER: &str = "\
+/// Tables that are no journal's, one a line.
+const TABLES: &str = "CREATE TABLE note (id INTEGER)\nCREATE TABLE entry (id INTEGER)";
+
+/// Cases of rows that are no journal's, apart by semicolons: one with other members, the row in version 1 beside such a
+/// one, a row of another place, and a row of another attempt.
+const ROWS: &str = "\
+{\"v\":2};\
 {\"command\":\"echo hi\",\"dir\":\"/tmp/wdl-run/say\",\"err\":\"\",\"files\":[],\"out\":\"68690a\",\"place\":\"say\",\"status\":0,\"v\":1}\n\
-{\"v\":2}\n";
-
-/// A row of another place, and one of another attempt, than the first row has.
-const ELSEWHERE: &str =
-    "{\"attempt\":0,\"command\":\"echo hi\",\"dir\":\"/tmp/wdl-run/say\",\"err\":\"\",\"files\":[],\"laid\":[],\"out\":\"68690a\",\"place\":\"tell\",\"status\":0,\"v\":2}";
-
-const LATER: &str =
-    "{\"attempt\":1,\"command\":\"echo hi\",\"dir\":\"/tmp/wdl-run/say\",\"err\":\"\",\"files\":[],\"laid\":[],\"out\":\"68690a\",\"place\":\"say\",\"status\":0,\"v\":2}";
+{\"v\":2};\
+{\"attempt\":0,\"command\":\"echo hi\",\"dir\":\"/tmp/wdl-run/say\",\"err\":\"\",\"files\":[],\"laid\":[],\"out\":\"68690a\",\"place\":\"tell\",\"status\":0,\"v\":2};\
+{\"attempt\":1,\"command\":\"echo hi\",\"dir\":\"/tmp/wdl-run/say\",\"err\":\"\",\"files\":[],\"laid\":[],\"out\":\"68690a\",\"place\":\"say\",\"status\":0,\"v\":2}";
 
 /// What a test's own steps want, which is memory or a file.
 #[derive(Debug, Drop)]
@@ -68,8 +71,14 @@ impl From<KeepFault> for Want {
     }
 }
 
-impl From<sqlite::Error> for Want {
-    fn from(_e: sqlite::Error) -> Want {
+impl From<RowFault> for Want {
+    fn from(_e: RowFault) -> Want {
+        Want
+    }
+}
+
+impl From<Trouble> for Want {
+    fn from(_e: Trouble) -> Want {
         Want
     }
 }
@@ -83,43 +92,26 @@ impl From<std::io::Error> for Want {
 /// How many entries are put.
 const COUNT: u32 = 1_000;
 
-/// The place of two entries: with four digits the order of numbers is that of texts.
-fn place(alloc: Global, item: u32) -> Result<Place, NoMemory>
-    requires { item < 2 ^ 31 }
-{
-    let Ok(name) = Name::new(alloc, "say") else {
-        return Err(NoMemory);
-    };
-    let mut place = Items::new(alloc);
-    place.push(Segment::Scatter(0))?;
-    place.push(Segment::Index(1_000 + item / 2))?;
-    place.push(Segment::Call(name))?;
-    Ok(place)
+/// The row's text of the entry of that number in the order of a keeper: with four digits the order of numbers is that of
+/// texts.
+fn text(alloc: Global, item: u32, status: u8) -> Result<String, AllocError> {
+    format!(in alloc;
+        "{{\"attempt\":{},\"command\":\"\",\"dir\":\"/d\",\"err\":null,\"files\":[],\"laid\":[],\"out\":\"68690a\",\"place\":\"scatter-0/{}/say\",\"status\":{},\"v\":2}}",
+        item % 2,
+        1_000 + item / 2,
+        status
+    )
 }
 
-fn answer(alloc: Global, status: u8) -> Result<Answer, NoMemory> {
-    let out = Body::Bytes(Items::from_slice(alloc, b"hi\n")?);
-    match Answer::new(status, out, Body::Long, Items::new(alloc)) {
-        Ok(answer) => Ok(answer),
-        Err(_) => Err(NoMemory),
-    }
-}
-
-/// The entry of that number in the order of a keeper.
-fn entry(alloc: Global, item: u32, status: u8) -> Result<Entry, NoMemory>
-    requires { item < 2 ^ 31 }
+/// Puts that entry as one that was launched.
+fn put(alloc: Global, keeper: &mut SqlKeeper<'_>, item: u32, status: u8) -> Result<(), Want>
+    requires { IsSome keeper.old.path }
+    ensures { OnOk result (IsSome keeper.new.path) }
 {
-    Ok(Entry {
-        request: Request {
-            place: place(alloc, item)?,
-            attempt: item % 2,
-            dir: Text::from_plain(alloc, "/d")?,
-            command: Text::empty(alloc),
-            files: Items::new(alloc),
-        },
-        answer: answer(alloc, status)?,
-        source: Source::Launched,
-    })
+    let text = text(alloc, item, status)?;
+    let mut entry = entry_of(alloc, text.as_str())?;
+    entry.source = Source::Launched;
+    Ok(keeper.put(alloc, &entry)?)
 }
 
 /// Puts an answer of the first entry, and then all entries, the last first.
@@ -127,18 +119,15 @@ fn fill(alloc: Global, keeper: &mut SqlKeeper<'_>) -> Result<(), Want>
     requires { IsSome keeper.old.path }
     ensures { OnOk result (IsSome keeper.new.path) }
 {
-    keeper.put(alloc, &entry(alloc, 0, 3)?)?;
+    put(alloc, keeper, 0, 3)?;
     for i in 0..COUNT {
-        let entry = entry(alloc, COUNT - 1 - i, 0)?;
-        keeper.put(alloc, &entry)?;
+        put(alloc, keeper, COUNT - 1 - i, 0)?;
     }
     Ok(())
 }
 
-fn is_entry(alloc: Global, item: u32, row: &Entry) -> Result<bool, NoMemory>
-    requires { item < 2 ^ 31 }
-{
-    let text = row_text(alloc, &entry(alloc, item, 0)?)?;
+fn is_entry(alloc: Global, item: u32, row: &Entry) -> Result<bool, NoMemory> {
+    let text = text(alloc, item, 0)?;
     Ok(row.source == Source::Kept && row_text(alloc, row)?.is(text.as_str()))
 }
 
@@ -160,7 +149,7 @@ fn keeps_entries(alloc: Global, keeper: &mut SqlKeeper<'_>) -> Result<bool, Want
     requires { IsSome keeper.old.path }
 {
     let rows = keeper.rows(alloc)?;
-    Ok(are_entries(alloc, rows.as_slice())?)
+    Ok(are_entries(alloc, rows.as_slice())? && keeper.faults == 0)
 }
 
 /// An empty directory.
@@ -170,68 +159,76 @@ fn make_dir(rt: &HostRuntime, dir: &str) -> Result<(), Want> {
     Ok(fs::create_dir(rt, dir)?)
 }
 
+/// Whether a keeper gives all entries that it was given.
+fn keeps_what_is_put(rt: &HostRuntime) -> Result<bool, Want> {
+    let mut keeper = SqlKeeper::new(rt);
+    keeper.start(rt.alloc(), "kept/j")?;
+    fill(rt.alloc(), &mut keeper)?;
+    keeps_entries(rt.alloc(), &mut keeper)
+}
+
+/// Whether the next keeper of the file gives them too.
+fn keeps_what_was_put(rt: &HostRuntime) -> Result<bool, Want> {
+    let mut keeper = SqlKeeper::new(rt);
+    keeper.start(rt.alloc(), "kept/j")?;
+    keeps_entries(rt.alloc(), &mut keeper)
+}
+
 #[test]
 fn a_thousand_entries_are_kept(rt: HostRuntime) -> Result<(), Fail> {
-    let alloc = rt.alloc();
     make_dir(&rt, "kept")?;
-    let mut keeper = SqlKeeper::new(&rt);
-    keeper.start(alloc, "kept/j")?;
-    fill(alloc, &mut keeper)?;
-    assert!(rt; keeps_entries(alloc, &mut keeper)?);
-    drop(keeper);
-    let mut keeper = SqlKeeper::new(&rt);
-    keeper.start(alloc, "kept/j")?;
-    assert!(rt; keeps_entries(alloc, &mut keeper)?);
-    assert_eq!(rt; keeper.faults, 0);
-    drop(keeper);
+    assert!(rt; keeps_what_is_put(&rt)? && keeps_what_was_put(&rt)?);
     Ok(fs::remove_dir_all(&rt, "kept")?)
 }
 
 /// Makes a database of a table, with a row of the place `say` for each of the bodies, one a line, from attempt 0 on.
 fn make_database(rt: &HostRuntime, at: &str, table: &str, bodies: &str) -> Result<(), Want> {
-    let mut conn = Connection::open(rt, at)?;
-    conn.execute(table, &[])?;
+    let mut database = Database::open(rt, at)?;
+    database.execute(table, &[])?;
     let mut attempt: i64 = 0;
     for body in bodies.lines() {
-        conn.execute(INSERT, params![attempt, body])?;
+        database.execute(INSERT, params![attempt, body])?;
         attempt = attempt.saturating_add(1);
     }
-    Ok(conn.close()?)
+    Ok(())
 }
 
 /// Whether these are the bodies of the rows, one a line, in the order of their attempts.
 fn holds(rt: &HostRuntime, at: &str, bodies: &str) -> Result<bool, Want> {
-    let mut conn = Connection::open(rt, at)?;
-    let mut found = String::new(rt.alloc());
-    for row in &conn.query_all(BODIES, &[])? {
-        let body: String = row.get(0)?;
-        found.push_str(body.as_str())?;
-        found.push('\n')?;
+    let mut database = Database::open(rt, at)?;
+    let mut attempt: i64 = 0;
+    for body in bodies.lines() {
+        if database.number(COUNT_OF, params![attempt, body])? != 1 {
+            return Ok(false);
+        }
+        attempt = attempt.saturating_add(1);
     }
-    Ok(found.as_str() == bodies)
+    Ok(database.number(COUNT_OF_ALL, &[])? == attempt)
+}
+
+/// Whether a keeper of the file starts and gives so many rows.
+fn gives_rows(rt: &HostRuntime, at: &str, count: usize) -> Result<bool, Want>
+    requires { has_nul at.now ≡ false }
+{
+    let mut keeper = SqlKeeper::new(rt);
+    keeper.start(rt.alloc(), at)?;
+    Ok(keeper.rows(rt.alloc())?.len() == count && keeper.faults == 0)
 }
 
 #[test]
 fn old_rows_are_rewritten(rt: HostRuntime) -> Result<(), Fail> {
     make_dir(&rt, "old")?;
     make_database(&rt, "old/j", TABLE, OLD_AND_LATER)?;
-    let mut keeper = SqlKeeper::new(&rt);
-    keeper.start(rt.alloc(), "old/j")?;
-    assert_eq!(rt; keeper.rows(rt.alloc())?.len(), 2);
-    assert_eq!(rt; keeper.faults, 0);
-    drop(keeper);
-    assert!(rt; holds(&rt, "old/j", ROW_AND_LATER)?);
+    assert!(rt; gives_rows(&rt, "old/j", 2)? && holds(&rt, "old/j", ROW_AND_LATER)?);
     Ok(fs::remove_dir_all(&rt, "old")?)
 }
 
-/// Where a file that is no journal stands.
-const BAD: &str = "bad/j";
-
-/// Whether `start` and then `rows` count a fault each.
-fn counts_faults(alloc: Global, keeper: &mut SqlKeeper<'_>) -> bool
-    requires { keeper.old.path ≡ None }
+/// Whether `start` on that path and then `rows` count a fault each.
+fn counts_faults(alloc: Global, keeper: &mut SqlKeeper<'_>, at: &str) -> bool
+    requires plain { has_nul at.now ≡ false }
+    requires fresh { keeper.old.path ≡ None }
 {
-    match keeper.start(alloc, BAD) {
+    match keeper.start(alloc, at) {
         Err(KeepFault::Failed) => {}
         _ => return false,
     }
@@ -239,10 +236,30 @@ fn counts_faults(alloc: Global, keeper: &mut SqlKeeper<'_>) -> bool
     matches!(&keeper.rows(alloc), Err(KeepFault::Failed)) && first == 1 && keeper.faults == 2
 }
 
+/// Whether a second keeper cannot have the file of the first, which goes on.
+fn has_it_alone(rt: &HostRuntime) -> Result<bool, Want> {
+    let mut keeper = SqlKeeper::new(rt);
+    keeper.start(rt.alloc(), "one/j")?;
+    put(rt.alloc(), &mut keeper, 0, 0)?;
+    let is_refused = counts_faults(rt.alloc(), &mut SqlKeeper::new(rt), "one/j");
+    put(rt.alloc(), &mut keeper, 1, 0)?;
+    Ok(is_refused && keeper.faults == 0)
+}
+
+#[test]
+fn one_keeper_has_a_file_alone(rt: HostRuntime) -> Result<(), Fail> {
+    make_dir(&rt, "one")?;
+    assert!(rt; has_it_alone(&rt)? && gives_rows(&rt, "one/j", 2)?);
+    Ok(fs::remove_dir_all(&rt, "one")?)
+}
+
+/// Where a file that is no journal stands.
+const BAD: &str = "bad/j";
+
 /// Whether the file is refused, and left as it is.
 fn is_refused(rt: &HostRuntime) -> Result<bool, Want> {
     let before = fs::read(rt, BAD)?;
-    let refused = counts_faults(rt.alloc(), &mut SqlKeeper::new(rt));
+    let refused = counts_faults(rt.alloc(), &mut SqlKeeper::new(rt), BAD);
     Ok(refused && fs::read(rt, BAD)?.as_slice() == before.as_slice())
 }
 
@@ -273,25 +290,45 @@ fn is_refused_when_read_only(rt: &HostRuntime) -> Result<bool, Want> {
     Ok(is_writable || is_refused(rt)?)
 }
 
+/// Whether a text is refused.
+fn is_refused_as_text(rt: &HostRuntime) -> Result<bool, Want> {
+    make_dir(rt, "bad")?;
+    fs::write(rt, BAD, "SQLite format, but no database")?;
+    is_refused(rt)
+}
+
+/// Whether a folder is refused, and a path in no folder.
+fn is_refused_as_folder(rt: &HostRuntime) -> Result<bool, Want> {
+    make_dir(rt, "bad")?;
+    fs::create_dir(rt, BAD)?;
+    let is_folder_refused = counts_faults(rt.alloc(), &mut SqlKeeper::new(rt), BAD);
+    Ok(is_folder_refused && counts_faults(rt.alloc(), &mut SqlKeeper::new(rt), "bad/none/j"))
+}
+
+/// Whether each database of another table is refused.
+fn is_refused_by_table(rt: &HostRuntime) -> Result<bool, Want> {
+    for table in TABLES.lines() {
+        if !is_foreign(rt, table, "")? {
+            return Ok(false);
+        }
+    }
+    Ok(true)
+}
+
+/// Whether each database of other rows is refused.
+fn is_refused_by_rows(rt: &HostRuntime) -> Result<bool, Want> {
+    for bodies in ROWS.split(';') {
+        if !is_foreign(rt, TABLE, bodies)? {
+            return Ok(false);
+        }
+    }
+    Ok(true)
+}
+
 #[test]
 fn a_file_that_is_no_journal_is_left_as_it_is(rt: HostRuntime) -> Result<(), Fail> {
-    for (table, bodies) in [
-        ("CREATE TABLE note (id INTEGER)", ""),
-        ("CREATE TABLE entry (id INTEGER)", ""),
-        (TABLE, "{\"v\":2}"),
-        (TABLE, OLD_AND_OTHER),
-        (TABLE, ELSEWHERE),
-        (TABLE, LATER),
-    ] {
-        assert!(rt; is_foreign(&rt, table, bodies)?, "at {table} {bodies}");
-    }
-    assert!(rt; is_refused_when_cut(&rt)?);
-    assert!(rt; is_refused_when_read_only(&rt)?);
-    make_dir(&rt, "bad")?;
-    fs::write(&rt, BAD, "SQLite format, but no database")?;
-    assert!(rt; is_refused(&rt)?);
-    make_dir(&rt, "bad")?;
-    fs::create_dir(&rt, BAD)?;
-    assert!(rt; counts_faults(rt.alloc(), &mut SqlKeeper::new(&rt)));
+    assert!(rt; is_refused_by_table(&rt)? && is_refused_by_rows(&rt)?);
+    assert!(rt; is_refused_as_text(&rt)? && is_refused_as_folder(&rt)?);
+    assert!(rt; is_refused_when_cut(&rt)? && is_refused_when_read_only(&rt)?);
     Ok(fs::remove_dir_all(&rt, "bad")?)
 }

@@ -150,8 +150,8 @@ pub fn line_of(alloc: Global, status: &Status, paths: &Items<Text>) -> Result<Te
         Status::Failed(fault) => failed_line(alloc, fault),
         Status::Usage => Text::from_plain(
             alloc,
-            "usage: wdl run [--inputs FILE] [--root DIR] FILE | check FILE \
-             | cwl [--inputs FILE] FILE\n",
+            "usage: wdl run [--inputs FILE] [--workers N] [--root DIR] [--journal FILE] FILE \
+             | check FILE | cwl [--inputs FILE] FILE\n",
         ),
         Status::Document(code, span) => document_line(alloc, *code, *span, paths),
         Status::Inputs(code, name) => inputs_line(alloc, *code, name),

@@ -7,6 +7,7 @@ mod environment;
 
 use environment::shell;
 use job_launcher::ShellLauncher;
+use keeper_sql::SqlKeeper;
 use report_text::{Status, no_memory_line, number_of};
 use std::alloc::Global;
 use std::env;
@@ -14,8 +15,10 @@ use std::env::Env;
 use std::io::ErrorKind;
 use std::marker::Brand;
 use std::process::ExitCode;
+use std::sync::Wait;
 use std::sync::ledger::{Blank, Ledger};
-use wdl_port::{Keeper, Launcher, NoKeeper, Shelf, Sink};
+use std::thread::Threads;
+use wdl_port::{Keeper, Launcher, Shelf, Sink};
 use wdl_value::{NoMemory, Steps};
 use workflow_cli::{FileShelf, StreamSink, workflow};
 
@@ -35,7 +38,16 @@ fn words<R: Env + AllocGlobal>(rt: &R) -> Result<Vec<String>, NoMemory> {
 }
 
 /// Makes the top call with a count of steps that nobody reads, and gives the number of its status.
-fn number<F: Shelf, O: Sink, E: Sink, L: Launcher + Sync, K: Keeper, S: Ledger>(
+fn number<
+    F: Shelf,
+    O: Sink,
+    E: Sink,
+    L: Launcher + Sync,
+    K: Keeper,
+    R: Threads + Wait + Sync,
+    S: Ledger,
+>(
+    rt: &R,
     alloc: Global,
     words: &[String],
     shelf: &mut F,
@@ -51,7 +63,9 @@ fn number<F: Shelf, O: Sink, E: Sink, L: Launcher + Sync, K: Keeper, S: Ledger>(
     requires some { 0 < blank.parts }
 {
     let mut steps: Steps<S> = Steps::start(blank);
-    let ended = workflow(alloc, words, shelf, out, err, launcher, keeper, &mut steps);
+    let ended = workflow(
+        rt, alloc, words, shelf, out, err, launcher, keeper, &mut steps,
+    );
     number_of(&ended.status)
 }
 
@@ -65,8 +79,9 @@ fn main(rt: HostRuntime) -> ExitCode {
     let mut shelf = FileShelf::new(&rt);
     let mut out = StreamSink::new(rt.stdout());
     let launcher = ShellLauncher::new(&rt, shell);
-    let mut keeper = NoKeeper::new();
-    let number = number::<_, _, _, _, _, Brand>(
+    let mut keeper = SqlKeeper::new(&rt);
+    let number = number::<_, _, _, _, _, _, Brand>(
+        &rt,
         alloc,
         words.as_slice(),
         &mut shelf,

@@ -1,4 +1,4 @@
-ghost use Rattle.std.specs.Prelude.{◌≡◌, ◌<◌, ◌≤◌, true, Some, None, MatchOption, ⊤};
+ghost use Rattle.std.specs.Prelude.{◌≡◌, ◌≢◌, ◌<◌, ◌≤◌, true, Some, None, MatchOption, ⊤};
 ghost use Rattle.std.proofs.Common.{inl, inr};
 ghost use Rattle.wdl_port.specs.Rows.{rises, are_kept};
 ghost use Rattle.ready_core.specs.Cores.{started};
@@ -276,6 +276,7 @@ pub fn run_all<'a, L: Launcher + Sync, K: Keeper, S: Ledger, R: Threads + Wait +
     requires kept { are_kept rows ≡ true }
     ensures run { HasRun workers (L.gives launcher.now) (L.refuses launcher.now) rows result.core result.stop result.counts }
     ensures origin { result.core.origin ≡ core.origin }
+    ensures unkept { keeper.entry ≡ None → result.stop ≢ Some stop.Keep }
     ensures keeper { MatchOption keeper.entry ⊤ (λ k. elim keeper.exit as (λ _. Type 0) [ inl n ↦ ⊤ | inr x ↦ elim x as (λ _. Type 0) [ inl f ↦ Went (L.gives launcher.now) result.core result.stop (keeper_view (K.kept k.now) (K.path k.now) (K.faults k.now)) (keeper_view (K.kept f.0.now) (K.path f.0.now) (K.faults f.0.now)) | inr n ↦ ⊤ ] ]) }
 {
     match keeper {

@@ -2,7 +2,9 @@ use crate::files::push_times;
 use crate::reading::read_case;
 use crate::showing::shown;
 use std::alloc::Global;
+use std::sync::Wait;
 use std::test::Fail;
+use std::thread::Threads;
 
 /// `> LINE`, `>. TEXT` without a newline, or `>* NUMBER PIECE`.
 fn push_line(expected: &mut String, line: &str) -> Result<(), Fail> {
@@ -29,9 +31,13 @@ fn expected(alloc: Global, lines: &str) -> Result<String, Fail> {
 }
 
 /// What is wrong with a case, if anything is.
-fn mistake(alloc: Global, lines: &str) -> Result<Option<String>, Fail> {
+fn mistake<R: Threads + Wait + Sync>(
+    rt: &R,
+    alloc: Global,
+    lines: &str,
+) -> Result<Option<String>, Fail> {
     let expected = expected(alloc, lines)?;
-    let seen = shown(alloc, read_case(alloc, lines)?)?;
+    let seen = shown(rt, alloc, read_case(alloc, lines)?)?;
     if seen.as_str() == expected.as_str() {
         return Ok(None);
     }
@@ -39,9 +45,13 @@ fn mistake(alloc: Global, lines: &str) -> Result<Option<String>, Fail> {
 }
 
 /// The first of the cases, which empty lines part, whose call shows anything else than what stands behind `>`; with what it shows.
-pub fn first_mistake(alloc: Global, cases: &str) -> Result<String, Fail> {
+pub fn first_mistake<R: Threads + Wait + Sync>(
+    rt: &R,
+    alloc: Global,
+    cases: &str,
+) -> Result<String, Fail> {
     for case in cases.split("\n\n") {
-        if let Some(mistake) = mistake(alloc, case)? {
+        if let Some(mistake) = mistake(rt, alloc, case)? {
             return Ok(mistake);
         }
     }

@@ -4,7 +4,8 @@
 //!
 //! - `say SECTION` begins a text with the task `say` that has that section too, and `version TEXT` one with that text;
 //! - `text TEXT` and `times NUMBER PIECE` append to the text, and `file PATH` puts it on the shelf;
-//! - `inputs TEXT` puts that text on the shelf as `i.json`; `lost NUMBER` lets the read of that number fail.
+//! - `inputs TEXT` puts that text on the shelf as `i.json`; `lost NUMBER` lets the read of that number fail, and `unkept NUMBER`
+//!   the call of that number of the journal's keeper.
 //!
 //! These make answers of the launcher:
 //!

@@ -2,7 +2,7 @@ use crate::answers::{push_answer, push_letters, push_other, push_seen};
 use crate::files::{begin_say, begin_version, push_file, push_times};
 use std::alloc::Global;
 use std::test::Fail;
-use wdl_port::{MemoryShelf, MemorySink, TableRow};
+use wdl_port::{MapKeeper, MemoryShelf, MemorySink, TableRow};
 use wdl_value::{Items, NoMemory, Place, Seen, place_of};
 
 /// What is read of a case.
@@ -15,6 +15,10 @@ pub struct Case {
     pub shelf: MemoryShelf,
     pub rows: Items<TableRow>,
     pub refused: Items<Place>,
+    /// The rows of the journal.
+    pub keeper: MapKeeper,
+    /// The numbers of the keeper's calls that fail.
+    pub unkept: Items<u64>,
     pub words: Vec<String>,
     pub out: MemorySink,
     pub err: MemorySink,
@@ -35,6 +39,8 @@ fn start(alloc: Global) -> Result<Case, NoMemory> {
         shelf: MemoryShelf::new(Items::new(alloc), Items::new(alloc)),
         rows: Items::new(alloc),
         refused: Items::new(alloc),
+        keeper: MapKeeper::new(alloc, Items::new(alloc)),
+        unkept: Items::new(alloc),
         words: Vec::new(alloc),
         out,
         err,
@@ -58,7 +64,7 @@ fn set_rooms(alloc: Global, case: &mut Case, rest: &str) -> Result<(), Fail> {
     Ok(())
 }
 
-/// A line that makes a file; whether it is one.
+/// A line that makes a file, or a call of the shelf or the keeper that fails; whether it is one.
 fn read_file_line(alloc: Global, case: &mut Case, word: &str, rest: &str) -> Result<bool, Fail> {
     match word {
         "say" => begin_say(&mut case.text, rest)?,
@@ -71,6 +77,7 @@ fn read_file_line(alloc: Global, case: &mut Case, word: &str, rest: &str) -> Res
         }
         "inputs" => push_file(alloc, &mut case.shelf.files, "i.json", rest.as_bytes())?,
         "lost" => case.shelf.fails.push(rest.parse::<u64>()?)?,
+        "unkept" => case.unkept.push(rest.parse::<u64>()?)?,
         _ => return Ok(false),
     }
     Ok(true)

@@ -1,69 +1,81 @@
-ghost use Rattle.std.specs.Prelude.{◌≡◌, ◌<◌};
+ghost use Rattle.std.specs.Prelude.{◌≡◌, ◌<◌, None};
 
 use crate::reading::Case;
 use std::alloc::Global;
 use std::marker::Brand;
+use std::sync::Wait;
 use std::sync::ledger::{Blank, Ledger};
 use std::test::Fail;
-use wdl_port::{MemoryShelf, MemorySink, NoKeeper, TableLauncher};
+use std::thread::Threads;
+use wdl_port::{Keeper, Launcher, MapKeeper, MemoryShelf, MemorySink, TableLauncher};
 use wdl_value::Steps;
 use workflow_cli::{Ended, workflow};
 
-/// How a call ended, and what was written.
+/// How a call ended, what was written, and the journal's keeper.
 #[derive(Drop)]
 pub struct Outcome {
     pub ended: Ended,
     pub out: MemorySink,
     pub err: MemorySink,
+    pub keeper: MapKeeper,
 }
 
-fn run<S: Ledger>(
+fn run<L: Launcher + Sync, K: Keeper, R: Threads + Wait + Sync, S: Ledger>(
+    rt: &R,
     alloc: Global,
     words: &[String],
     shelf: &mut MemoryShelf,
     out: &mut MemorySink,
     err: &mut MemorySink,
-    launcher: &TableLauncher,
+    launcher: &L,
+    keeper: &mut K,
     blank: Blank,
 ) -> Ended
+    requires keeper { K.path keeper.old ≡ None }
     requires name { blank.name ≡ S.name }
     requires parts { blank.parts ≡ S.parts }
     requires some { 0 < blank.parts }
 {
-    let mut keeper = NoKeeper::new();
     let mut steps: Steps<S> = Steps::start(blank);
     workflow(
-        alloc,
-        words,
-        shelf,
-        out,
-        err,
-        launcher,
-        &mut keeper,
-        &mut steps,
+        rt, alloc, words, shelf, out, err, launcher, keeper, &mut steps,
     )
 }
 
 /// The call of a case.
-pub fn run_case(alloc: Global, case: Case) -> Result<Outcome, Fail> {
+pub fn run_case<R: Threads + Wait + Sync>(
+    rt: &R,
+    alloc: Global,
+    case: Case,
+) -> Result<Outcome, Fail> {
     let Case {
         words,
         mut shelf,
         rows,
         refused,
+        keeper,
+        unkept,
         mut out,
         mut err,
         ..
     } = case;
     let launcher = TableLauncher::new(alloc, rows, refused)?;
-    let ended = run::<Brand>(
+    let mut keeper = keeper.again(unkept);
+    let ended = run::<TableLauncher, MapKeeper, R, Brand>(
+        rt,
         alloc,
         words.as_slice(),
         &mut shelf,
         &mut out,
         &mut err,
         &launcher,
+        &mut keeper,
         Blank::new(1),
     );
-    Ok(Outcome { ended, out, err })
+    Ok(Outcome {
+        ended,
+        out,
+        err,
+        keeper,
+    })
 }

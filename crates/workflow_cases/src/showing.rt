@@ -2,8 +2,10 @@ use crate::reading::Case;
 use crate::run::{Outcome, run_case};
 use report_text::number_of;
 use std::alloc::Global;
+use std::sync::Wait;
 use std::test::Fail;
-use wdl_value::{Entry, Laid, Place, Step, place_text};
+use std::thread::Threads;
+use wdl_value::{Entry, Laid, Place, Source, Step, place_text};
 
 fn push_place(alloc: Global, shown: &mut String, mark: &str, place: &Place) -> Result<(), Fail> {
     let place = place_text(alloc, place)?;
@@ -35,9 +37,17 @@ fn push_laid(shown: &mut String, files: &[Laid]) -> Result<(), Fail> {
     Ok(())
 }
 
-/// The directory of each job, its command, and the files that were laid there.
+fn mark_of(source: Source) -> &'static str {
+    match source {
+        Source::Launched => "",
+        Source::Kept => "= ",
+    }
+}
+
+/// Behind `=` where the answer was kept: the directory of each job, its command, and the files that were laid there.
 fn push_entries(shown: &mut String, journal: &[Entry]) -> Result<(), Fail> {
     for entry in journal {
+        shown.push_str(mark_of(entry.source))?;
         shown.push_str(entry.request.dir.as_str())?;
         shown.push_str(" ")?;
         shown.push_str(entry.request.command.as_str())?;
@@ -58,8 +68,8 @@ fn push_written(shown: &mut String, outcome: &Outcome) -> Result<(), Fail> {
 
 /// What is seen of a call: the number of its status and how many jobs it collected, the jobs that were taken and settled, what was
 /// written to the output, behind `!` what was written to the error stream, and the requests of its journal.
-pub fn shown(alloc: Global, case: Case) -> Result<String, Fail> {
-    let outcome = run_case(alloc, case)?;
+pub fn shown<R: Threads + Wait + Sync>(rt: &R, alloc: Global, case: Case) -> Result<String, Fail> {
+    let outcome = run_case(rt, alloc, case)?;
     let number = number_of(&outcome.ended.status);
     let collected = outcome.ended.counts.collected;
     let mut shown = format!(in alloc; "{number} {collected}")?;

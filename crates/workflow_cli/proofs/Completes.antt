@@ -3,7 +3,6 @@ use Rattle.std.proofs.Common.{arith, ◌≡◌, inl, inr, ◌⊎◌, ℕ, false,
 use Rattle.std.proofs.lemmas.Bool.{false≢true}
 use Rattle.wdl_base.specs.declared.answer.Answer.{Answer}
 use Rattle.wdl_base.specs.declared.fault.Fault.{Fault}
-use Rattle.wdl_base.specs.declared.place.Segment.{Segment}
 use Rattle.wdl_base.specs.declared.request.Request.{Request}
 use Rattle.wdl_base.specs.declared.span.Span.{Span}
 use Rattle.wdl_value.specs.declared.env.Bind.{Bind}
@@ -16,9 +15,10 @@ use Rattle.wdl_words.specs.declared.wants.Wants.{Wants}
 use Rattle.wdl_json.specs.Inputs.{inputs_in, main_of}
 use Rattle.wdl_json.specs.declared.fault.InputFault.{InputFault}
 use Rattle.wdl_json.specs.declared.fault.InputFault.TheVariants.{Bad}
-use Rattle.sequential_run.specs.Runs as run
+use Rattle.wdl_port.specs.Causes.{Rose}
 use Rattle.workflow_cli.specs.declared.asking.Command.{Command}
 use Rattle.workflow_cli.specs.declared.asking.Command.TheVariants as command
+use Rattle.workflow_cli.specs.declared.asking.RunOptions.{RunOptions}
 use Rattle.workflow_cli.specs.Asking.{IsCheckOf, IsCommand, IsCwlOf, IsForInputs, IsForMain, IsNotBuilt, IsRunOf, Words, asked, command_of}
 use Rattle.workflow_cli.specs.Causes.{CauseOf, IsFinished, Names}
 use Rattle.workflow_cli.specs.Complete.{CheckIsComplete, CwlIsComplete, DocumentIsComplete, InputsIsComplete, IsOr, IsSomeDocument, IsSomeExclusion, MainIsComplete, MustGive, MustHave, MustLack, NotBuiltIsComplete, RunIsComplete, UsageIsComplete}
@@ -43,15 +43,15 @@ some_same e = cc
 same_wants : (words : Words) (v w : Wants) → asked words ≡ Some v → asked words ≡ Some w → v ≡ w
 same_wants words v w e h = let p = sym e ∙ h in cc
 
-same_command : (words : Words) (c d : Command) → IsCommand words c → IsCommand words d → c ≡ d
+pub same_command : (words : Words) (c d : Command) → IsCommand words c → IsCommand words d → c ≡ d
 same_command words c d h k = let p = sym h.built ∙ ap command_of (same_wants words h.wants k.wants h.asked k.asked) ∙ k.built in cc
 
 no_check : (words : Words) (file other : List ℕ) (inputs : Option (List ℕ)) → IsCheckOf words file → IsForMain words other inputs → ⊥
 no_check words file other inputs h (inl k) = let e = same_command words (command.Check file) (command.Run other inputs k.0) h k.1 in cc
 no_check words file other inputs h (inr k) = let e = same_command words (command.Check file) (command.Cwl other inputs) h k in cc
 
-no_run : (words : Words) (file other : List ℕ) (inputs others : Option (List ℕ)) (site : List ℕ) → IsCwlOf words file inputs → IsRunOf words other others site → ⊥
-no_run words file other inputs others site h k = let e = same_command words (command.Cwl file inputs) (command.Run other others site) h k in cc
+no_run : (words : Words) (file other : List ℕ) (inputs others : Option (List ℕ)) (options : RunOptions) → IsCwlOf words file inputs → IsRunOf words other others options → ⊥
+no_run words file other inputs others options h k = let e = same_command words (command.Cwl file inputs) (command.Run other others options) h k in cc
 
 not_both : (words : Words) (c : Command) → IsCommand words c → IsNotBuilt words → ⊥
 not_both words c h k = let p = sym h.built ∙ ap command_of (same_wants words h.wants k.wants h.asked k.asked) ∙ k.missing in cc
@@ -61,13 +61,13 @@ readable words c h e = let p = sym h.asked ∙ e in cc
 
 -- the file that a command names
 abbrev file_of : Command → List ℕ
-file_of (command.Run file inputs root) = file
+file_of (command.Run file inputs options) = file
 file_of (command.Check file) = file
 file_of (command.Cwl file inputs) = file
 
 -- the inputs that it names
 abbrev inputs_of : Command → Option (List ℕ)
-inputs_of (command.Run file inputs root) = inputs
+inputs_of (command.Run file inputs options) = inputs
 inputs_of (command.Check file) = None
 inputs_of (command.Cwl file inputs) = inputs
 
@@ -107,10 +107,11 @@ module _ (tells : Tells) (refused : List ℕ → Type 0) (rose : Type 0) (gives 
   abbrev Said : Status → List (List ℕ) → Type 0
   Said = CauseOf tells refused rose gives refuses words t
 
-  -- the flow over the journal has a fault, a job that is refused, or too many jobs
+  -- the flow over the journal has a fault, a job that is refused, or too many jobs; or the keeper failed
   abbrev Broke : Main → Type 0
   Broke m =
-      ((f : Fault) × Contains (flow_of m t.journal).faults f) ⊎ ((p : List Segment) × run.IsRefused refuses (flow_of m t.journal) p) ⊎ (too_many (flow_of m t.journal) ≡ true)
+      ((f : Fault) × Contains (flow_of m t.journal).faults f)
+      ⊎ (((q : Request) × Contains (flow_of m t.journal).jobs q × refuses q) ⊎ ((too_many (flow_of m t.journal) ≡ true) ⊎ Rose t.keeper.faults t.keeper_now.faults))
 
   -- what the cause of a status says
   data Saying (r : Status) : Type 0 where
@@ -141,17 +142,17 @@ module _ (tells : Tells) (refused : List ℕ → Type 0) (rose : Type 0) (gives 
   saying status.Write paths h = absurd h
   saying status.NoMemory paths h = starved refl
   saying (status.NotInSubset rule span) paths h = outside rule span paths refl h.1
-  saying (status.Launch place) paths h = broken h.main h.run.started (inr (inl (place, h.refused)))
-  saying status.Keep paths h = absurd h
-  saying status.TooMany paths h = broken h.main h.run.started (inr (inr h.many))
+  saying (status.Launch place) paths h = broken h.main h.run.started (inr (inl (h.job.request, h.is_job, h.refused)))
+  saying status.Keep paths h = broken h.main h.started (inr (inr (inr h.counted)))
+  saying status.TooMany paths h = broken h.main h.run.started (inr (inr (inl h.many)))
   saying status.NotBuilt paths h = unbuilt refl h.1
 
   -- the work was done
   abbrev Did : List ℕ → Type 0
-  Did = IsFinished tells words gives t
+  Did = IsFinished tells words gives refuses t
 
   started_command : (m : Main) → IsStarted tells words m → (c : Command) × IsCommand words c
-  started_command m h = (command.Run h.asked.file h.asked.inputs m.site, h.asked.asked)
+  started_command m h = (command.Run h.asked.file h.asked.inputs m.options, h.asked.asked)
 
   did_command : (text : List ℕ) → Did text → (c : Command) × IsCommand words c
   did_command text (inl h) = started_command h.main h.run.started
@@ -189,7 +190,7 @@ module _ (tells : Tells) (refused : List ℕ → Type 0) (rose : Type 0) (gives 
 
   abbrev started_seen : (m : Main) → IsStarted tells words m → IsSeen
   started_seen m h =
-      record { file = h.asked.file; inputs = h.asked.inputs; asked = inl (m.site, h.asked.asked); checked = m.checked; has = h.asked.checked; flow = m.flow; main = h.asked.main }
+      record { file = h.asked.file; inputs = h.asked.inputs; asked = inl (m.options, h.asked.asked); checked = m.checked; has = h.asked.checked; flow = m.flow; main = h.asked.main }
 
   abbrev misfit_seen : (code : ℕ) (name : Option (List ℕ)) → IsBadInputs tells words code name → IsSeen
   misfit_seen code name h =
@@ -483,51 +484,53 @@ module _ (tells : Tells) (refused : List ℕ → Type 0) (rose : Type 0) (gives 
 
     -- ---- a run
 
-    module _ (file : List ℕ) (inputs : Option (List ℕ)) (m : Main) (asks_run : IsRunOf words file inputs m.site) (must : MustHave tells file m.checked)
+    module _ (file : List ℕ) (inputs : Option (List ℕ)) (m : Main) (asks_run : IsRunOf words file inputs m.options) (must : MustHave tells file m.checked)
         (main : main_of m.checked.flows m.checked.main ≡ Some m.flow) (reads : (text : List ℕ) → IsInputsText tells inputs text → inputs_in m.checked.structs m.flow text ≡ Ok m.given)
-        (no_rise : ¬ rose) (launches : (q : Request) → Contains (flow_of m t.journal).jobs q → ¬ (refuses q)) (none : (flow_of m t.journal).faults ≡ [])
+        (no_rise : ¬ rose) (keeps : ¬ (Rose t.keeper.faults t.keeper_now.faults)) (launches : (q : Request) → Contains (flow_of m t.journal).jobs q → ¬ (refuses q)) (none : (flow_of m t.journal).faults ≡ [])
         (few : too_many (flow_of m t.journal) ≡ false) (r : Status) where
       abbrev for_run : IsForMain words file inputs
-      for_run = inl (m.site, asks_run)
+      for_run = inl (m.options, asks_run)
 
       succeeds : (s : IsSeen) (text : List ℕ) → IsInputsText tells s.inputs text → inputs_in s.checked.structs s.flow text ≡ Ok m.given
       succeeds s text h = given_as file inputs m.checked for_run must m.flow main s text (Ok m.given) reads h
 
-      one_site : (n : Main) (h : IsStarted tells words n) → n.site ≡ m.site
-      one_site n h = let e = same_command words (command.Run h.asked.file h.asked.inputs n.site) (command.Run file inputs m.site) h.asked.asked asks_run in cc
+      one_options : (n : Main) (h : IsStarted tells words n) → n.options ≡ m.options
+      one_options n h =
+          let e = same_command words (command.Run h.asked.file h.asked.inputs n.options) (command.Run file inputs m.options) h.asked.asked asks_run in cc
 
       one_main : (n : Main) → IsStarted tells words n → n ≡ m
       one_main n h =
           let s = started_seen n h in
           let e = sym h.reads ∙ succeeds s h.text h.asked.is_text in
           let one_given : n.given ≡ m.given = cc in
-          ap (λ (x : Checked). make x n.flow n.given n.site) (same_checked file inputs m.checked for_run must s)
-          ∙ ap (λ x. make m.checked x n.given n.site) (is_main file inputs m.checked for_run must m.flow main s)
-          ∙ ap (λ x. make m.checked m.flow x n.site) one_given ∙ ap (λ x. make m.checked m.flow m.given x) (one_site n h)
+          ap (λ (x : Checked). make x n.flow n.given n.options) (same_checked file inputs m.checked for_run must s)
+          ∙ ap (λ x. make m.checked x n.given n.options) (is_main file inputs m.checked for_run must m.flow main s)
+          ∙ ap (λ x. make m.checked m.flow x n.options) one_given ∙ ap (λ x. make m.checked m.flow m.given x) (one_options n h)
         where
-          make : Checked → FlowDef → List Bind → List ℕ → Main
-          make c f g s = record { checked = c; flow = f; given = g; site = s }
+          make : Checked → FlowDef → List Bind → RunOptions → Main
+          make c f g o = record { checked = c; flow = f; given = g; options = o }
 
       not_broken : Broke m → ⊥
       not_broken (inl h) = none_within h.0 (subst (λ fs. Contains fs h.0) none h.1)
-      not_broken (inr (inl h)) = launches h.1.request h.1.is_job h.1.refused
-      not_broken (inr (inr h)) = false≢true (sym few ∙ h)
+      not_broken (inr (inl h)) = launches h.0 h.1 h.2
+      not_broken (inr (inr (inl h))) = false≢true (sym few ∙ h)
+      not_broken (inr (inr (inr h))) = keeps h
 
       run_said : Settled r → IsOr status.Ok r
       run_said (inl d) = inl d.0
       run_said (inr (starved e)) = inr e
-      run_said (inr (wordless e n)) = absurd (readable words (command.Run file inputs m.site) asks_run n)
-      run_said (inr (unbuilt e n)) = absurd (not_both words (command.Run file inputs m.site) asks_run n)
+      run_said (inr (wordless e n)) = absurd (readable words (command.Run file inputs m.options) asks_run n)
+      run_said (inr (unbuilt e n)) = absurd (not_both words (command.Run file inputs m.options) asks_run n)
       run_said (inr (unread d k rise)) = absurd (no_rise rise)
       run_said (inr (unchecked code span paths other e names h)) = absurd (not_checked_yet file inputs m.checked for_run must code span paths other names h)
       run_said (inr (mainless code span paths other given e k h)) = absurd (has_main file inputs m.checked for_run must m.flow main code span paths other given k h)
       run_said (inr (misfit code name e h)) = let p = sym h.refused ∙ succeeds (misfit_seen code name h) h.text h.is_text in cc
-      run_said (inr (outside rule span paths e h)) = absurd (no_run words h.file file h.inputs inputs m.site h.asked asks_run)
+      run_said (inr (outside rule span paths e h)) = absurd (no_run words h.file file h.inputs inputs m.options h.asked asks_run)
       run_said (inr (broken n h b)) = absurd (not_broken (subst Broke (one_main n h) b))
 
     pub run_complete : (r : Status) → Ends r → RunIsComplete tells words refuses rose (rose_out ⊎ rose_err) t r
-    run_complete r o file inputs m asks must main reads no_rise cut launches none few =
-        run_said file inputs m asks must main reads no_rise launches none few r (settled cut r o)
+    run_complete r o file inputs m asks must main reads no_rise cut keeps launches none few =
+        run_said file inputs m asks must main reads no_rise keeps launches none few r (settled cut r o)
 
     -- ---- a translation
 
@@ -559,7 +562,7 @@ module _ (tells : Tells) (refused : List ℕ → Type 0) (rose : Type 0) (gives 
       Comes = ((r ≡ status.Ok) × IsInSubset c number) ⊎ ((r ≡ status.NoMemory) ⊎ (IsSomeExclusion r × ¬ (IsInSubset c number)))
 
       cwl_said : Settled r → Comes
-      cwl_said (inl (e, (text, inl h))) = absurd (no_run words file h.run.started.asked.file inputs h.run.started.asked.inputs h.main.site asks_cwl h.run.started.asked.asked)
+      cwl_said (inl (e, (text, inl h))) = absurd (no_run words file h.run.started.asked.file inputs h.run.started.asked.inputs h.main.options asks_cwl h.run.started.asked.asked)
       cwl_said (inl (e, (text, inr (idle, inl h)))) = absurd (no_check words h.file file inputs h.asked for_cwl)
       cwl_said (inl (e, (text, inr (idle, inr h)))) = let m = made_of text h in inl (e, same_subset (translated_seen text h) m.number m.numbered m.in_subset)
       cwl_said (inr (starved e)) = inr (inl e)
@@ -575,7 +578,7 @@ module _ (tells : Tells) (refused : List ℕ → Type 0) (rose : Type 0) (gives 
           let is_checked = same_checked file inputs c for_cwl must s in
           let is_number = same_number s o.number o.source.numbered in
           inr (inr ((rule, span, e), λ k. not_outside o.checked o.number rule span o.lowest (subst (λ n. IsInSubset o.checked n) (sym is_number) (subst (λ x. IsInSubset x number) (sym is_checked) k))))
-      cwl_said (inr (broken m h b)) = absurd (no_run words file h.asked.file inputs h.asked.inputs m.site asks_cwl h.asked.asked)
+      cwl_said (inr (broken m h b)) = absurd (no_run words file h.asked.file inputs h.asked.inputs m.options asks_cwl h.asked.asked)
 
       within : Comes → IsInSubset c number → IsOr status.Ok r
       within (inl h) k = inl h.0

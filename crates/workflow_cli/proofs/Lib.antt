@@ -9,3 +9,8 @@ mod Given
 mod Forms
 mod Started
 mod Simulated
+mod Kept
+pub mod Starting
+pub mod Left
+mod Ends
+mod Opened

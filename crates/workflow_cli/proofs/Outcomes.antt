@@ -11,7 +11,7 @@ use Rattle.wdl_port.specs.Told.{grown}
 use Rattle.workflow_cli.specs.declared.ended.Work.{Work}
 use Rattle.workflow_cli.specs.declared.ended.Work.TheVariants as work
 use Rattle.workflow_cli.specs.Asking.{Words}
-use Rattle.workflow_cli.specs.Causes.{Cause, CauseOf, IsBuilt}
+use Rattle.workflow_cli.specs.Causes.{Cause, CauseOf}
 use Rattle.workflow_cli.specs.Documents.{Tells}
 use Rattle.workflow_cli.specs.Running.{Trace}
 use Rattle.workflow_cli.specs.Writing.{Finishes, IsCut, IsExcluded, IsReported, IsWritten, Lines, Reports, Told}
@@ -32,7 +32,7 @@ module _ (tells : Tells) (refused : List ℕ → Type 0) (rose : Type 0) (gives 
     pub line : err' ≡ grown err (line_of r paths)
 
   abbrev pub Written : Type 0
-  Written = IsWritten tells words gives t out out' err err'
+  Written = IsWritten tells words gives refuses t out out' err err'
 
   abbrev pub Cut : Type 0
   Cut = IsCut tells refused rose gives refuses words t out out' err err' rose_out rose_err
@@ -78,33 +78,13 @@ module _ (tells : Tells) (refused : List ℕ → Type 0) (rose : Type 0) (gives 
   write r (inr (inl h)) e = h.1
   write r (inr (inr h)) e = absurd (subst (λ x. CauseOf tells refused rose gives refuses words t x h.paths) e h.cause)
 
-  pub document : (r : Status) → Outcome r → (code : ℕ) (span : Span) → r ≡ status.Document code span → IsReported tells words gives t out out' err err' code span
+  pub document : (r : Status) → Outcome r → (code : ℕ) (span : Span) → r ≡ status.Document code span → IsReported tells words gives refuses t out out' err err' code span
   document r o code span e =
       let h = line_told r o (status.Document code span) refl e in record { paths = h.paths; idle = h.cause.0; bad = h.cause.1; nothing = h.nothing; line = h.line }
 
-  pub excluded : (r : Status) → Outcome r → (rule : ℕ) (span : Span) → r ≡ status.NotInSubset rule span → IsExcluded tells words gives t out out' err err' rule span
+  pub excluded : (r : Status) → Outcome r → (rule : ℕ) (span : Span) → r ≡ status.NotInSubset rule span → IsExcluded tells words gives refuses t out out' err err' rule span
   excluded r o rule span e =
       let h = line_told r o (status.NotInSubset rule span) refl e in record { paths = h.paths; idle = h.cause.0; outside = h.cause.1; nothing = h.nothing; line = h.line }
-
-  built_by : (r : Status) (paths : List (List ℕ)) → CauseOf tells refused rose gives refuses words t r paths → IsBuilt r
-  built_by (status.NotInSubset rule span) paths h = tt
-  built_by status.Keep paths h = h
-  built_by status.Ok paths h = tt
-  built_by (status.Failed fault) paths h = tt
-  built_by status.Usage paths h = tt
-  built_by (status.Document code span) paths h = tt
-  built_by (status.Inputs code name) paths h = tt
-  built_by (status.Read path) paths h = tt
-  built_by status.Write paths h = tt
-  built_by status.NoMemory paths h = tt
-  built_by (status.Launch place) paths h = tt
-  built_by status.TooMany paths h = tt
-  built_by status.NotBuilt paths h = tt
-
-  pub built : (r : Status) → Outcome r → IsBuilt r
-  built r (inl h) = subst IsBuilt (sym h.0) tt
-  built r (inr (inl h)) = subst IsBuilt (sym h.0) tt
-  built r (inr (inr h)) = built_by r h.paths h.cause
 
   lines_by : (r : Status) → IsTold r → Lines r out out' err err'
   lines_by status.Ok h = tt

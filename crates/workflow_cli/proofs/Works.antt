@@ -1,29 +1,31 @@
 -- From the stages to the work of a command.
-use Rattle.std.proofs.Common.{All, ◌≡◌, ◌++◌, inl, inr, ℕ, List, Option, Some, None, ap, sym, subst, ◌∙◌, refl, codes}
+use Rattle.std.proofs.Common.{◌≡◌, ◌⊎◌, inl, inr, ℕ, List, Option, Some, None, sym, subst, refl}
 use Rattle.wdl_base.specs.declared.answer.Answer.{Answer}
 use Rattle.wdl_base.specs.declared.request.Request.{Request}
 use Rattle.report_text.specs.declared.status.Status.{Status}
 use Rattle.report_text.specs.declared.status.Status.TheVariants as status
-use Rattle.wdl_json.specs.Outputs.{outputs_text}
-use Rattle.sequential_run.specs.declared.run.End.{End}
-use Rattle.sequential_run.specs.declared.run.End.TheVariants as end
-use Rattle.sequential_run.specs.Flows.{is_fed}
-use Rattle.sequential_run.specs.Runs.{Ends, IsLaunched, Steps}
+use Rattle.workflow_cli.specs.declared.asking.RunOptions.{RunOptions}
 use Rattle.workflow_cli.specs.declared.ended.Stop.{Stop}
 use Rattle.workflow_cli.specs.declared.ended.Work.{Work}
 use Rattle.workflow_cli.specs.declared.ended.Work.TheVariants as work
-use Rattle.workflow_cli.specs.declared.ended.Worked.{Worked}
 use Rattle.workflow_cli.specs.Asking.{AskStops, IsCheckOf, IsCwlOf, IsForInputs, IsForMain, IsRunOf, Words}
-use Rattle.workflow_cli.specs.Causes.{Cause, CauseOf, IsWork, Names}
+use Rattle.workflow_cli.specs.Causes.{Cause, CauseOf, IsWork, Names, UsesJournal}
 use Rattle.workflow_cli.specs.Documents.{CheckStops, MainStops, Tells}
-use Rattle.workflow_cli.specs.Running.{IsIdle, IsRun, IsStarted, Main, Trace, flow_of, work_trace}
-use Rattle.workflow_cli.specs.Stages.{Accepts, HasRun, HasStopped, PrepareStops, RunsFile, Turns}
+use Rattle.workflow_cli.specs.Running.{IsIdle, IsStarted, NamesJournal, Trace}
+use Rattle.workflow_cli.specs.Stages.{Accepts, HasStopped, PrepareStops, RunsFile, main_with}
 use Rattle.workflow_cli.specs.Translating.{DocumentStops, ObjectStops, Translates, WritesDocument, WritesObject}
+use Rattle.workflow_cli.proofs.Ends.{main_is_work}
 
 -- whose inputs are read has a main workflow
 pub for_main : (words : Words) (file : List ℕ) (inputs : Option (List ℕ)) → IsForInputs words file inputs → IsForMain words file inputs
 for_main words file inputs (inl h) = inl h
 for_main words file inputs (inr h) = inr h.2
+
+-- the keeper of a run of these words
+pub uses_journal : (words : Words) (file : List ℕ) (inputs : Option (List ℕ)) (options : RunOptions) (same : Type 0) (at : Option (List ℕ)) → IsRunOf words file inputs options
+    → same ⊎ NamesJournal options.journal at → same ⊎ UsesJournal words at
+uses_journal words file inputs options same at asked (inl h) = inl h
+uses_journal words file inputs options same at asked (inr h) = inr (h.0, record { file = file; inputs = inputs; options = options; asked = asked; named = h.1 }, h.2)
 
 module _ (tells : Tells) (refused : List ℕ → Type 0) (rose : Type 0) (gives : Request → Answer → Type 0) (refuses : Request → Type 0) (words : Words) (t : Trace) where
   abbrev Said : Status → List (List ℕ) → Type 0
@@ -175,52 +177,23 @@ module _ (tells : Tells) (refused : List ℕ → Type 0) (rose : Type 0) (gives 
     cwl_is_work None asked w h = document_is_work asked w h
     cwl_is_work (Some path) asked w h = object_is_work path asked w h
 
-  module _ (file : List ℕ) (inputs : Option (List ℕ)) (site : List ℕ) (asked : IsRunOf words file inputs site) where
-    -- ---- a run
+  -- ---- a run
 
-    end_is_cause : (m : Main) → IsRun tells words gives t m → (x : End) (w : Work) → Steps t.journal x t.taken → Ends refuses m.checked (flow_of m t.journal) x → Turns m.flow.name x w
-        → Cause tells refused rose gives refuses words t w
-    end_is_cause m run (end.Done outputs) w s h (inl e) = subst (Cause tells refused rose gives refuses words t) (sym e)
-        (inl (record { main = m; run = run; few = h.few; clean = h.clean; outputs = ap (λ o. outputs_text m.flow.name o ++ codes "\n") h.values; taken = s }))
-    end_is_cause m run (end.Done outputs) w s h (inr e) = subst (Cause tells refused rose gives refuses words t) (sym e) tt
-    end_is_cause m run (end.Failed fault) w s h e = subst (Cause tells refused rose gives refuses words t) (sym e) (record { main = m; run = run; is_fault = h; taken = s })
-    end_is_cause m run (end.Launch place) w s h e = subst (Cause tells refused rose gives refuses words t) (sym e) (record { main = m; run = run; refused = h; taken = s })
-    end_is_cause m run end.TooMany w s h e = subst (Cause tells refused rose gives refuses words t) (sym e) (record { main = m; run = run; many = h; taken = s })
-    end_is_cause m run end.NoMemory w s h e = subst (Cause tells refused rose gives refuses words t) (sym e) tt
+  module _ (file : List ℕ) (inputs : Option (List ℕ)) (options : RunOptions) (asked : IsRunOf words file inputs options) (w : Work) where
+    stopped_is_work : HasStopped tells refused rose file inputs t w → IsWork tells refused rose gives refuses words t w
+    stopped_is_work h = record {
+      run = inl h.idle;
+      cause = subst (Cause tells refused rose gives refuses words t) (sym h.is) (prepare_stops h.idle file inputs (inl (options, asked)) h.stop.status h.stop.paths h.cause);
+    }
 
-    pub stopped_is_work : (w : Work) → HasStopped tells refused rose file inputs t w → IsWork tells refused rose gives refuses words t w
-    stopped_is_work w h =
-        record { run = inl h.idle; cause = subst (Cause tells refused rose gives refuses words t) (sym h.is) (prepare_stops h.idle file inputs (inl (site, asked)) h.stop.status h.stop.paths h.cause) }
-
-module _ (tells : Tells) (refused : List ℕ → Type 0) (rose : Type 0) (gives : Request → Answer → Type 0) (refuses : Request → Type 0) (words : Words)
-    (file : List ℕ) (inputs : Option (List ℕ)) (site : List ℕ) (asked : IsRunOf words file inputs site) (w : Worked) (before now : ℕ) where
-  abbrev t : Trace
-  t = work_trace w before now
-
-  ran_is_work : HasRun tells gives refuses file inputs site w → IsWork tells refused rose gives refuses words t w.work
-  ran_is_work h =
-      let m : Main = record { checked = h.checked; flow = h.prepared.fits.flow; given = h.given; site = site } in
-      let ran = h.ran in
-      let started : IsStarted tells words m = record {
-        text = h.prepared.fits.text;
-        asked = record { file = file; inputs = inputs; asked = asked; checked = h.prepared.has; main = h.prepared.fits.main; is_text = h.prepared.fits.is_text };
-        reads = h.prepared.fits.reads;
-      } in
-      let journal = ran.journal in
-      let runs = ran.runs in
-      let run : IsRun tells words gives t m = record {
-        started = started;
-        fed = ap (is_fed m.checked m.given m.site) journal ∙ runs.fed;
-        launched = subst (All (IsLaunched gives)) (sym journal) runs.launched;
-      } in
-      record {
-        run = inr (record { main = m; run = run });
-        cause = end_is_cause tells refused rose gives refuses words t file inputs site asked m run ran.ran.end w.work
-            (subst (λ j. Steps j ran.ran.end w.steps) (sym journal) (subst (Steps ran.ran.journal ran.ran.end) (sym ran.steps) runs.steps))
-            (subst (λ j. Ends refuses m.checked (flow_of m j) ran.ran.end) (sym journal) runs.ends) ran.turns;
-      }
-
-  -- a run of a document
-  pub run_is_work : RunsFile tells refused rose gives refuses file inputs site t w → IsWork tells refused rose gives refuses words t w.work
-  run_is_work (inl h) = stopped_is_work tells refused rose gives refuses words t file inputs site asked w.work h
-  run_is_work (inr h) = ran_is_work h
+    -- a run of a document
+    pub run_is_work : RunsFile tells refused rose gives refuses file inputs options t w → IsWork tells refused rose gives refuses words t w
+    run_is_work (inl h) = stopped_is_work h
+    run_is_work (inr h) =
+        let m = main_with h.checked h.given options h.prepared.fits.flow in
+        let started : IsStarted tells words m = record {
+          text = h.prepared.fits.text;
+          asked = record { file = file; inputs = inputs; asked = asked; checked = h.prepared.has; main = h.prepared.fits.main; is_text = h.prepared.fits.is_text };
+          reads = h.prepared.fits.reads;
+        } in
+        main_is_work tells refused rose gives refuses words t m started w h.ran

@@ -1,5 +1,5 @@
 -- What the words ask for, and what today's program does of it.
-use Rattle.std.specs.Prelude.{◌≡◌, ◌⊎◌, ℕ, Bool, ◌==◌, ◌||◌, List, Option, Some, None, Result, Ok, Err, if◌then◌else◌, map, string_bytes, String, ⊤}
+use Rattle.std.specs.Prelude.{◌≡◌, ◌≤◌, ◌⊎◌, ℕ, List, length, Option, Some, None, Result, Ok, Err, map, string_bytes, String, ⊤}
 use Rattle.std.specs.declared.alloc.Global.{Global}
 use Rattle.report_text.specs.declared.status.Status.{Status}
 use Rattle.report_text.specs.declared.status.Status.TheVariants as status
@@ -7,6 +7,7 @@ use Rattle.wdl_words.specs.Words.{wants}
 use Rattle.wdl_words.specs.declared.wants.Wants.{Wants}
 use Rattle.wdl_words.specs.declared.wants.Wants.TheVariants.{Run, Check, Cwl, Load, Bundle}
 use Rattle.workflow_cli.specs.declared.asking.Command.{Command}
+use Rattle.workflow_cli.specs.declared.asking.RunOptions.{RunOptions}
 use Rattle.workflow_cli.specs.declared.asking.Command.TheVariants as command
 
 abbrev pub Words : Type 0
@@ -16,18 +17,9 @@ Words = List (String Global)
 unfoldable pub asked : Words → Option Wants
 asked words = wants (map string_bytes words)
 
--- Jobs run one at a time: with one worker, and for now with the four of the default too.
-abbrev pub runs_singly : ℕ → Bool
-runs_singly workers = (workers == 1) || (workers == 4)
-
--- a run without a journal
-abbrev pub run_command : List ℕ → Option (List ℕ) → ℕ → List ℕ → Option (List ℕ) → Option Command
-run_command file inputs workers root None = if runs_singly workers then Some (command.Run file inputs root) else None
-run_command file inputs workers root (Some journal) = None
-
--- what today's program does of it: runs without a journal, checks and translations
+-- what today's program does of it: runs, checks and translations
 abbrev pub command_of : Wants → Option Command
-command_of (Run file inputs workers root journal) = run_command file inputs workers root journal
+command_of (Run file inputs workers root journal) = Some (command.Run file inputs (record { workers = workers; root = root; journal = journal }))
 command_of (Check file) = Some (command.Check file)
 command_of (Cwl file inputs) = Some (command.Cwl file inputs)
 command_of (Load number) = None
@@ -45,9 +37,9 @@ pub record IsCommand (words : Words) (c : Command) : Type 0 where
   pub asked : asked words ≡ Some wants
   pub built : command_of wants ≡ Some c
 
--- a run of the document at this path, with the inputs of that one
-abbrev pub IsRunOf : Words → List ℕ → Option (List ℕ) → List ℕ → Type 0
-IsRunOf words file inputs root = IsCommand words (command.Run file inputs root)
+-- a run of the document at this path, with the inputs of that one, and these options
+abbrev pub IsRunOf : Words → List ℕ → Option (List ℕ) → RunOptions → Type 0
+IsRunOf words file inputs options = IsCommand words (command.Run file inputs options)
 
 -- a check of the document at this path
 abbrev pub IsCheckOf : Words → List ℕ → Type 0
@@ -59,11 +51,24 @@ IsCwlOf words file inputs = IsCommand words (command.Cwl file inputs)
 
 -- a run or a translation of the document at this path, for which it has a main workflow
 abbrev pub IsForMain : Words → List ℕ → Option (List ℕ) → Type 0
-IsForMain words file inputs = ((site : List ℕ) × IsRunOf words file inputs site) ⊎ IsCwlOf words file inputs
+IsForMain words file inputs = ((options : RunOptions) × IsRunOf words file inputs options) ⊎ IsCwlOf words file inputs
 
 -- the inputs at that path are read for it, and `{}` where none is named
 abbrev pub IsForInputs : Words → List ℕ → Option (List ℕ) → Type 0
-IsForInputs words file inputs = ((site : List ℕ) × IsRunOf words file inputs site) ⊎ ((path : List ℕ) × (inputs ≡ Some path) × IsCwlOf words file inputs)
+IsForInputs words file inputs = ((options : RunOptions) × IsRunOf words file inputs options) ⊎ ((path : List ℕ) × (inputs ≡ Some path) × IsCwlOf words file inputs)
+
+-- a run that keeps its journal at this path
+pub record IsJournal (words : Words) (path : List ℕ) : Type 0 where
+  pub file : List ℕ
+  pub inputs : Option (List ℕ)
+  pub options : RunOptions
+  pub asked : IsRunOf words file inputs options
+  pub named : options.journal ≡ Some path
+
+-- 1 to 64 workers, and a directory of at most 512 bytes
+abbrev pub IsWithin : Command → Type 0
+IsWithin (command.Run file inputs options) = (1 ≤ options.workers) × (options.workers ≤ 64) × (length options.root ≤ 512)
+IsWithin _ = ⊤
 
 -- why nothing is done
 abbrev pub AskStops : Words → Status → Type 0

@@ -6,6 +6,7 @@ use Rattle.wdl_value.specs.declared.env.Bind.{Bind}
 use Rattle.report_text.specs.declared.status.Status.{Status}
 use Rattle.report_text.specs.declared.status.Status.TheVariants as status
 use Rattle.wdl_value.specs.declared.ty.StructDef.{StructDef}
+use Rattle.wdl_port.specs.Causes.{Rose}
 use Rattle.wdl_library.specs.declared.doc.Doc.{Doc}
 use Rattle.wdl_typed.specs.declared.checked.Checked.{Checked}
 use Rattle.wdl_typed.specs.declared.flow.FlowDef.{FlowDef}
@@ -91,13 +92,13 @@ CwlIsComplete tells words unread cut r =
     → MustGive tells inputs c f → ¬ unread → ¬ cut
     → (IsInSubset c number → IsOr status.Ok r) × (¬ (IsInSubset c number) → IsSomeExclusion r ⊎ (r ≡ status.NoMemory))
 
--- A run gives Ok where no count rises, the document has a checked form with a main workflow, the inputs break no rule, the launcher
--- refuses no job of the flow over the journal, and that flow has no fault and is not too many.
+-- A run gives Ok where no count rises, also not that of the keeper, the document has a checked form with a main workflow, the inputs
+-- break no rule, the launcher refuses no job of the flow over the journal, and that flow has no fault and is not too many.
 abbrev pub RunIsComplete : Tells → Words → (Request → Type 0) → Type 0 → Type 0 → Trace → Status → Type 0
 RunIsComplete tells words refuses unread cut t r =
-    (file : List ℕ) (inputs : Option (List ℕ)) (m : Main) → IsRunOf words file inputs m.site → MustHave tells file m.checked
+    (file : List ℕ) (inputs : Option (List ℕ)) (m : Main) → IsRunOf words file inputs m.options → MustHave tells file m.checked
     → main_of m.checked.flows m.checked.main ≡ Some m.flow
     → ((text : List ℕ) → IsInputsText tells inputs text → inputs_in m.checked.structs m.flow text ≡ Ok m.given)
-    → ¬ unread → ¬ cut
+    → ¬ unread → ¬ cut → ¬ (Rose t.keeper.faults t.keeper_now.faults)
     → ((q : Request) → Contains (flow_of m t.journal).jobs q → ¬ (refuses q)) → (flow_of m t.journal).faults ≡ [] → too_many (flow_of m t.journal) ≡ false
     → IsOr status.Ok r

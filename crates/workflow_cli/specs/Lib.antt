@@ -7,4 +7,3 @@ pub mod Translating
 pub mod Meaning
 pub mod Writing
 pub mod Complete
-pub mod Counting

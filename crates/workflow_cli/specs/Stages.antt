@@ -1,27 +1,34 @@
 -- What the stages of a run give.
-use Rattle.std.specs.Prelude.{◌≡◌, ◌⊎◌, ℕ, true, List, [], ◌∷◌, ◌++◌, Option, Some, Result, Ok, Err, codes, ⊤}
+use Rattle.std.specs.Prelude.{◌≡◌, ◌≤◌, ◌⊎◌, ℕ, true, List, [], ◌∷◌, ◌++◌, Contains, Option, Some, None, Result, Ok, Err, codes, ⊤}
 use Rattle.wdl_base.specs.declared.answer.Answer.{Answer}
+use Rattle.wdl_base.specs.declared.entry.Entry.{Entry}
 use Rattle.wdl_base.specs.declared.request.Request.{Request}
 use Rattle.wdl_value.specs.declared.env.Bind.{Bind}
+use Rattle.wdl_port.specs.Causes.{Rose}
+use Rattle.wdl_port.specs.Rows.{AreRows, are_kept, rises}
 use Rattle.report_text.specs.declared.status.Status.{Status}
 use Rattle.report_text.specs.declared.status.Status.TheVariants as status
 use Rattle.wdl_typed.specs.declared.checked.Checked.{Checked}
 use Rattle.wdl_typed.specs.declared.flow.FlowDef.{FlowDef}
+use Rattle.wdl_typed.specs.Flow.{too_many}
 use Rattle.wdl_typed.specs.Journal.{inputs_fit}
 use Rattle.wdl_json.specs.Inputs.{inputs_in, main_of}
 use Rattle.wdl_json.specs.Outputs.{outputs_text}
 use Rattle.wdl_json.specs.declared.fault.InputFault.TheVariants.{Bad}
-use Rattle.sequential_run.specs.declared.run.End.{End}
-use Rattle.sequential_run.specs.declared.run.End.TheVariants as end
-use Rattle.sequential_run.specs.declared.run.Ran.{Ran}
-use Rattle.sequential_run.specs.Runs.{Runs}
+use Rattle.ready_core.specs.Cores as cores
+use Rattle.ready_core.specs.Cores.{CoreState}
+use Rattle.ready_core.specs.Flows.{outputs_in}
+use Rattle.work_desk.specs.Keeping.{KeeperView}
+use Rattle.work_desk.specs.declared.stop.Stop.{Stop as Why}
+use Rattle.work_desk.specs.declared.stop.Stop.TheVariants as end
+use Rattle.workflow_cli.specs.declared.asking.RunOptions.{RunOptions}
 use Rattle.workflow_cli.specs.declared.ended.Stop.{Stop}
-use Rattle.workflow_cli.specs.declared.ended.Worked.{Worked}
+use Rattle.workflow_cli.specs.declared.run.Begun.{Begun}
 use Rattle.workflow_cli.specs.declared.prepare.Prepared.{Prepared}
 use Rattle.workflow_cli.specs.declared.ended.Work.{Work}
 use Rattle.workflow_cli.specs.declared.ended.Work.TheVariants as work
 use Rattle.workflow_cli.specs.Documents.{CheckStops, HasChecked, HasMain, HasNoMain, IsRefused, IsUnreadDocument, Tells}
-use Rattle.workflow_cli.specs.Running.{IsIdle, IsInputsText, Trace}
+use Rattle.workflow_cli.specs.Running.{IsIdle, IsInputsText, IsOn, Leaves, Main, Trace, core_of}
 
 -- ---- the text of the inputs
 
@@ -44,18 +51,6 @@ GiveStops c f text s = ⊥
 abbrev pub GivesInputs : Checked → FlowDef → List ℕ → Result (List Bind) Status → Type 0
 GivesInputs c f text (Ok given) = inputs_in c.structs f text ≡ Ok given
 GivesInputs c f text (Err s) = GiveStops c f text s
-
--- ---- what the end of a run of the workflow of that name comes to
-
-abbrev pub stops : Status → Work
-stops s = work.Stop (record { status = s; paths = [] })
-
-abbrev pub Turns : List ℕ → End → Work → Type 0
-Turns name (end.Done outputs) w = (w ≡ work.Text (outputs_text name outputs ++ codes "\n")) ⊎ (w ≡ stops status.NoMemory)
-Turns name (end.Failed fault) w = w ≡ stops (status.Failed fault)
-Turns name (end.Launch place) w = w ≡ stops (status.Launch place)
-Turns name end.TooMany w = w ≡ stops status.TooMany
-Turns name end.NoMemory w = w ≡ stops status.NoMemory
 
 -- ---- what a run starts with
 
@@ -125,20 +120,88 @@ Prepares tells refused rose file inputs (Ok p) =
     IsPrepared tells file inputs p.checked p.given × ((number : ℕ) × (f : FlowDef) × HasMain tells file p.checked number f p.paths)
 Prepares tells refused rose file inputs (Err stop) = PrepareStops tells refused rose file inputs stop.status stop.paths
 
--- ---- the run
+-- ---- what a run comes to
 
--- the work of a run of a checked form, whose main workflow has that name
-pub record RunsMain (gives : Request → Answer → Type 0) (refuses : Request → Type 0) (c : Checked) (given : List Bind) (site name : List ℕ) (w : Worked) : Type 0 where
-  pub ran : Ran
-  pub runs : Runs gives refuses c given site ran
-  pub journal : w.journal ≡ ran.journal
-  pub steps : w.steps ≡ ran.steps
-  pub turns : Turns name ran.end w.work
+abbrev pub stops : Status → Work
+stops s = work.Stop (record { status = s; paths = [] })
+
+-- after a fault: a fault of the flow over the journal, or the flow is past its limits
+abbrev pub IsFailedAs : CoreState → Status → Type 0
+IsFailedAs c (status.Failed fault) = Contains (cores.flow_of c).faults fault
+IsFailedAs c status.TooMany = too_many (cores.flow_of c) ≡ true
+IsFailedAs c status.NoMemory = ⊤
+IsFailedAs c s = ⊥
+
+-- the status of a run that stopped so
+abbrev pub StopsAs : CoreState → Why → Status → Type 0
+StopsAs c end.Failed s = IsFailedAs c s
+StopsAs c end.NoMemory s = s ≡ status.NoMemory
+StopsAs c (end.Launch place) s = s ≡ status.Launch place
+StopsAs c end.Keep s = s ≡ status.Keep
+StopsAs c end.TooMany s = s ≡ status.TooMany
+
+-- the text of the outputs of the workflow of that name, and a newline
+abbrev pub outputs_line : List ℕ → CoreState → List ℕ
+outputs_line name c = outputs_text name (outputs_in c.origin.checked (cores.flow_of c)) ++ codes "\n"
+
+-- the work of a run of the workflow of that name, which stopped so or did not stop
+abbrev pub Turns : List ℕ → CoreState → Option Why → Work → Type 0
+Turns name c None w = (w ≡ work.Text (outputs_line name c)) ⊎ (w ≡ stops status.NoMemory)
+Turns name c (Some why) w = (s : Status) × (w ≡ stops s) × StopsAs c why s
+
+-- ---- the journal
+
+-- the keeper was started on the path, and these are its rows
+pub record IsOpened (path : List ℕ) (k l : KeeperView) (rows : List Entry) : Type 0 where
+  pub opened : l.path ≡ Some path
+  pub same : l.kept ≡ k.kept
+  pub later : k.faults ≤ l.faults
+  pub told : AreRows k.kept rows
+  pub order : rises rows ≡ true
+  pub sources : are_kept rows ≡ true
+
+abbrev pub OpenStops : List ℕ → KeeperView → KeeperView → Status → Type 0
+OpenStops path k l status.Keep = (l.path ≡ Some path) × Rose k.faults l.faults
+OpenStops path k l status.NoMemory = IsOn path l.path
+OpenStops path k l s = ⊥
+
+abbrev pub Opens : List ℕ → KeeperView → KeeperView → Result (List Entry) Status → Type 0
+Opens path k l (Ok rows) = IsOpened path k l rows
+Opens path k l (Err s) = (l.kept ≡ k.kept) × OpenStops path k l s
+
+-- ---- the run
 
 -- the main workflow is there, and these inputs fit it
 pub record IsFitting (c : Checked) (given : List Bind) (flow : FlowDef) : Type 0 where
   pub main : main_of c.flows c.main ≡ Some flow
   pub fit : inputs_fit c.structs flow.inputs given ≡ true
+
+-- the core and the name of a main workflow with its inputs, before anything is taken
+pub record IsBegun (c : Checked) (given : List Bind) (site : List ℕ) (flow : FlowDef) (b : Begun) : Type 0 where
+  pub core : b.core ≡ cores.started (record { checked = c; inputs = given; site = site })
+  pub name : b.name ≡ flow.name
+
+-- the keeper was started on the path of the journal and its count of faults rose, and nothing ran
+pub record IsUnopened (t : Trace) (m : Main) : Type 0 where
+  pub idle : IsIdle t
+  pub path : List ℕ
+  pub named : m.options.journal ≡ Some path
+  pub opened : t.keeper_now.path ≡ Some path
+  pub counted : Rose t.keeper.faults t.keeper_now.faults
+
+-- the work of a run
+pub record HasLeft (gives : Request → Answer → Type 0) (refuses : Request → Type 0) (t : Trace) (m : Main) (w : Work) : Type 0 where
+  pub why : Option Why
+  pub left : Leaves gives refuses t m why
+  pub turns : Turns m.flow.name (core_of m t left.taken left.out) why w
+
+-- the work of the main workflow: nothing ran, or a run
+abbrev pub RunsMain : (Request → Answer → Type 0) → (Request → Type 0) → Trace → Main → Work → Type 0
+RunsMain gives refuses t m w =
+    (IsIdle t × (w ≡ stops status.NoMemory)) ⊎ ((IsUnopened t m × (w ≡ stops status.Keep)) ⊎ HasLeft gives refuses t m w)
+
+abbrev pub main_with : Checked → List Bind → RunOptions → FlowDef → Main
+main_with c given options flow = record { checked = c; flow = flow; given = given; options = options }
 
 -- the run ended before it began
 pub record HasStopped (tells : Tells) (refused : List ℕ → Type 0) (rose : Type 0) (file : List ℕ) (inputs : Option (List ℕ)) (t : Trace) (w : Work) : Type 0 where
@@ -148,15 +211,15 @@ pub record HasStopped (tells : Tells) (refused : List ℕ → Type 0) (rose : Ty
   pub cause : PrepareStops tells refused rose file inputs stop.status stop.paths
 
 -- the run of the main workflow with its inputs
-pub record HasRun (tells : Tells) (gives : Request → Answer → Type 0) (refuses : Request → Type 0) (file : List ℕ) (inputs : Option (List ℕ)) (site : List ℕ) (w : Worked) : Type 0 where
+pub record HasRunMain (tells : Tells) (gives : Request → Answer → Type 0) (refuses : Request → Type 0) (file : List ℕ) (inputs : Option (List ℕ)) (options : RunOptions) (t : Trace) (w : Work) : Type 0 where
   pub checked : Checked
   pub given : List Bind
   pub prepared : IsPrepared tells file inputs checked given
-  pub ran : RunsMain gives refuses checked given site prepared.fits.flow.name w
+  pub ran : RunsMain gives refuses t (main_with checked given options prepared.fits.flow) w
 
-abbrev pub RunsFile : Tells → (List ℕ → Type 0) → Type 0 → (Request → Answer → Type 0) → (Request → Type 0) → List ℕ → Option (List ℕ) → List ℕ → Trace → Worked → Type 0
-RunsFile tells refused rose gives refuses file inputs site t w =
-    HasStopped tells refused rose file inputs t w.work ⊎ HasRun tells gives refuses file inputs site w
+abbrev pub RunsFile : Tells → (List ℕ → Type 0) → Type 0 → (Request → Answer → Type 0) → (Request → Type 0) → List ℕ → Option (List ℕ) → RunOptions → Trace → Work → Type 0
+RunsFile tells refused rose gives refuses file inputs options t w =
+    HasStopped tells refused rose file inputs t w ⊎ HasRunMain tells gives refuses file inputs options t w
 
 -- ---- a check
 

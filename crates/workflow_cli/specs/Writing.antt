@@ -57,11 +57,11 @@ HasPaths (work.Stop stop) = HasPath stop.status stop.paths
 
 -- ---- with each status
 
-module _ (tells : Tells) (words : Words) (gives : Request → Answer → Type 0) (t : Trace) (out out' err err' : Told) where
+module _ (tells : Tells) (words : Words) (gives : Request → Answer → Type 0) (refuses : Request → Type 0) (t : Trace) (out out' err err' : Told) where
   -- with Ok: the text of finished work, and nothing else
   pub record IsWritten : Type 0 where
     pub text : List ℕ
-    pub done : IsFinished tells words gives t text
+    pub done : IsFinished tells words gives refuses t text
     pub output : out' ≡ grown out text
     pub error : err' ≡ err
 
@@ -84,7 +84,7 @@ module _ (tells : Tells) (words : Words) (gives : Request → Answer → Type 0)
   -- with Write: the output was cut
   pub record IsCutOutput (rose_out rose_err : Type 0) : Type 0 where
     pub text : List ℕ
-    pub done : IsFinished tells words gives t text
+    pub done : IsFinished tells words gives refuses t text
     pub cut : IsCutText text out out' err err' rose_out rose_err
 
 -- with each other status but Write: its line, and nothing else
@@ -106,5 +106,5 @@ pub record IsCutStop (tells : Tells) (refused : List ℕ → Type 0) (rose : Typ
 -- with Write
 abbrev pub IsCut : Tells → (List ℕ → Type 0) → Type 0 → (Request → Answer → Type 0) → (Request → Type 0) → Words → Trace → Told → Told → Told → Told → Type 0 → Type 0 → Type 0
 IsCut tells refused rose gives refuses words t out out' err err' rose_out rose_err =
-    IsCutOutput tells words gives t out out' err err' rose_out rose_err
+    IsCutOutput tells words gives refuses t out out' err err' rose_out rose_err
     ⊎ IsCutStop tells refused rose gives refuses words t out out' err err' rose_err

@@ -1,7 +1,8 @@
 //! The words of the command line.
 
-ghost use Rattle.std.specs.Prelude.{◌≡◌, [], IfErr};
+ghost use Rattle.std.specs.Prelude.{◌≡◌, [], IfOk, IfErr, IfSome};
 ghost use Rattle.report_text.specs.Lines.{HasPath};
+ghost use Rattle.wdl_words.specs.Words.{IsWithinLimits};
 ghost use Rattle.workflow_cli.specs.Asking as spec;
 ghost use Rattle.workflow_cli.specs.Asking.{Asks};
 
@@ -9,6 +10,17 @@ use report_text::Status;
 use std::alloc::Global;
 use wdl_value::Text;
 use wdl_words::{Wants, WordFault, read_words};
+
+/// How a workflow is run.
+#[derive(Debug, Drop)]
+pub struct RunOptions {
+    /// How many jobs may run at once, 1 to 64.
+    pub workers: u32,
+    /// The directory below which each job gets its own, of at most 512 bytes.
+    pub root: Text,
+    /// The path of the journal.
+    pub journal: Option<Text>,
+}
 
 /// What today's program does.
 #[derive(Debug, Drop)]
@@ -19,8 +31,7 @@ pub enum Command {
         file: Text,
         /// The path of the inputs.
         inputs: Option<Text>,
-        /// The directory below which each job gets its own.
-        root: Text,
+        options: RunOptions,
     },
     /// Checks a document.
     Check {
@@ -35,32 +46,11 @@ pub enum Command {
     },
 }
 
-/// A run, where it is built: one job runs at a time, with one worker, and for now with the four of the default too; and no
-/// journal is kept.
-fn run_command(
-    file: Text,
-    inputs: Option<Text>,
-    workers: u32,
-    root: Text,
-    journal: Option<Text>,
-) -> Option<Command>
-    ensures value { result ≡ spec.run_command file inputs workers root journal }
-{
-    match journal {
-        None => {
-            if workers == 1 || workers == 4 {
-                Some(Command::Run { file, inputs, root })
-            } else {
-                None
-            }
-        }
-        Some(_) => None,
-    }
-}
-
 /// What is done of what the words ask for, where it is built.
 fn command_of(wants: Wants) -> Option<Command>
+    requires limits { IsWithinLimits wants }
     ensures value { result ≡ spec.command_of wants }
+    ensures limits { IfSome result spec.IsWithin }
 {
     match wants {
         Wants::Run {
@@ -69,7 +59,15 @@ fn command_of(wants: Wants) -> Option<Command>
             workers,
             root,
             journal,
-        } => run_command(file, inputs, workers, root, journal),
+        } => Some(Command::Run {
+            file,
+            inputs,
+            options: RunOptions {
+                workers,
+                root,
+                journal,
+            },
+        }),
         Wants::Check { file } => Some(Command::Check { file }),
         Wants::Cwl { file, inputs } => Some(Command::Cwl { file, inputs }),
         Wants::Load { number: _ } => None,
@@ -81,6 +79,7 @@ fn command_of(wants: Wants) -> Option<Command>
 #[tactic(auto, unfolding(crate::specs::Asking::asked))]
 fn wants_of(alloc: Global, words: &[String]) -> Result<Wants, Status>
     ensures value { spec.HasReading words.now result }
+    ensures limits { IfOk result IsWithinLimits }
 {
     match read_words(alloc, words) {
         Ok(wants) => Ok(wants),
@@ -92,6 +91,7 @@ fn wants_of(alloc: Global, words: &[String]) -> Result<Wants, Status>
 /// What the words ask for: `Usage` where they have no reading, and `NotBuilt` for what is not built yet.
 pub fn asked(alloc: Global, words: &[String]) -> Result<Command, Status>
     ensures value { Asks words.now result }
+    ensures limits { IfOk result spec.IsWithin }
     ensures paths { IfErr result (λ s. HasPath s []) }
 {
     let wants = match wants_of(alloc, words) {

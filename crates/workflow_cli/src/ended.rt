@@ -15,12 +15,13 @@ pub enum Work {
     Stop(Stop),
 }
 
-/// The work of a command, with the journal of its run and the jobs that were taken and settled.
+/// The work of a command, with the journal of its run, the jobs that were taken and settled, and its counts.
 #[derive(Debug, Drop)]
 pub struct Worked {
     pub work: Work,
     pub journal: Items<Entry>,
     pub steps: Items<Step>,
+    pub counts: Counts,
 }
 
 /// How a command ended: its status, the journal of its run, the jobs that were taken and settled in their order, and

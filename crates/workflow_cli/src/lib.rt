@@ -3,12 +3,12 @@
 
 mod asking;
 mod checking;
-mod counting;
 mod cwl;
 mod ended;
 mod file_shelf;
 mod finish;
 mod inputs;
+mod journal;
 mod laws;
 mod prepare;
 mod run;

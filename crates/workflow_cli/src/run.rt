@@ -1,24 +1,35 @@
 //! The run of the main workflow.
 
-ghost use Rattle.std.specs.Prelude.{◌≡◌, ◌++◌, [], codes, IfOk};
+ghost use Rattle.std.specs.Prelude.{◌≡◌, ◌≤◌, ◌⊎◌, ◌++◌, true, ℕ, List, [], codes, None, Some, IfOk};
+ghost use Rattle.report_text.specs.Lines.{HasPath};
+ghost use Rattle.ready_core.specs.Cores.{flow_of, has_fault};
 ghost use Rattle.wdl_json.specs.Outputs.{outputs_text as spec_text};
 ghost use Rattle.wdl_port.specs.Causes.{Rose};
+ghost use Rattle.wdl_port.specs.Rows.{are_kept, rises};
 ghost use Rattle.wdl_typed.specs.declared.flow.FlowDef.{FlowDef as Flow};
-ghost use Rattle.workflow_cli.specs.Running.{work_trace};
-ghost use Rattle.workflow_cli.specs.Stages.{IsFitting, RunsFile, RunsMain, Turns};
+ghost use Rattle.work_desk.specs.Keeping.{IsReady, KeeperView, keeper_view};
+ghost use Rattle.work_desk.specs.Ran.{IsDone};
+ghost use Rattle.work_desk.specs.Views.{AllEqual};
+ghost use Rattle.work_desk.specs.declared.stop.Stop.TheVariants as end;
+ghost use Rattle.workflow_cli.specs.Running.{NamesJournal, work_trace};
+ghost use Rattle.workflow_cli.specs.Stages.{IsBegun, IsFailedAs, IsFitting, IsOpened, RunsFile, RunsMain, StopsAs, Turns, main_with};
 ghost use Rattle.workflow_cli.specs.Writing.{HasPaths};
 
+use crate::asking::RunOptions;
 use crate::checking::stop;
 use crate::ended::{Work, Worked};
+use crate::journal::rows_of;
 use crate::prepare::{Prepared, main_flow, start_of};
+use ready_core::{Core, History};
 use report_text::Status;
-use sequential_run::{End, Ran, run_jobs};
 use std::alloc::Global;
+use std::sync::Wait;
 use std::sync::ledger::Ledger;
+use std::thread::Threads;
 use wdl_json::outputs_text;
-use wdl_port::{Launcher, Shelf};
-use wdl_typed::FlowDef;
-use wdl_value::{Bind, Items, Name, NoMemory, Steps, Text};
+use wdl_port::{Keeper, Launcher, NoKeeper, Shelf};
+use wdl_value::{Bind, Counts, Entry, Items, Name, NoMemory, Steps, Text};
+use work_desk::{Ran, Stop, run_all};
 
 /// The outputs as one JSON object, and a newline.
 fn text_of(alloc: Global, name: &Name, outputs: &[Bind]) -> Result<Text, NoMemory>
@@ -29,20 +40,64 @@ fn text_of(alloc: Global, name: &Name, outputs: &[Bind]) -> Result<Text, NoMemor
     Ok(text)
 }
 
-/// What the end of a run comes to.
-fn work_of(alloc: Global, name: &Name, end: End) -> Work
-    ensures turns { Turns name.now end result }
+/// The work of a run without a stop.
+#[tactic(auto, using(crate::proofs::Left::outcome_is))]
+fn outputs_work(alloc: Global, name: &Name, core: &Core) -> Work
+    requires done { IsDone core.now }
+    ensures turns { Turns name.now core.now None result }
     ensures paths { HasPaths result }
 {
-    match end {
-        End::Done(outputs) => match text_of(alloc, name, outputs.as_slice()) {
-            Ok(text) => Work::Text(text),
-            Err(_) => Work::Stop(stop(alloc, Status::NoMemory)),
+    let Some(outputs) = core.outcome() else {
+        unreachable!();
+    };
+    match text_of(alloc, name, outputs.as_slice()) {
+        Ok(text) => Work::Text(text),
+        Err(_) => Work::Stop(stop(alloc, Status::NoMemory)),
+    }
+}
+
+/// The status of a run that met a fault: a fault of its flow, or that the flow is past its limits.
+#[tactic(auto, using(crate::proofs::Left::past_limits))]
+fn failed_status(alloc: Global, core: &Core) -> Status
+    requires failed { has_fault (flow_of core.now) ≡ true }
+    ensures value { IsFailedAs core.now result }
+    ensures paths { HasPath result [] }
+{
+    match core.fault() {
+        Some(fault) => match fault.copy(alloc) {
+            Ok(fault) => Status::Failed(fault),
+            Err(_) => Status::NoMemory,
         },
-        End::Failed(fault) => Work::Stop(stop(alloc, Status::Failed(fault))),
-        End::Launch(place) => Work::Stop(stop(alloc, Status::Launch(place))),
-        End::TooMany => Work::Stop(stop(alloc, Status::TooMany)),
-        End::NoMemory => Work::Stop(stop(alloc, Status::NoMemory)),
+        None => Status::TooMany,
+    }
+}
+
+/// The status of a run that stopped.
+fn status_of(alloc: Global, core: &Core, why: Stop) -> Status
+    requires failed { why ≡ end.Failed → has_fault (flow_of core.now) ≡ true }
+    ensures value { StopsAs core.now why result }
+    ensures paths { HasPath result [] }
+{
+    match why {
+        Stop::Failed => failed_status(alloc, core),
+        Stop::NoMemory => Status::NoMemory,
+        Stop::Launch(place) => Status::Launch(place),
+        Stop::Keep => Status::Keep,
+        Stop::TooMany => Status::TooMany,
+    }
+}
+
+/// What the end of a run comes to.
+#[tactic(auto, using(crate::proofs::Starting::stop_turns))]
+fn work_of(alloc: Global, name: &Name, core: &Core, why: Option<Stop>) -> Work
+    requires done { why ≡ None → IsDone core.now }
+    requires failed { why ≡ Some end.Failed → has_fault (flow_of core.now) ≡ true }
+    ensures turns { Turns name.now core.now why result }
+    ensures paths { HasPaths result }
+{
+    match why {
+        None => outputs_work(alloc, name, core),
+        Some(why) => Work::Stop(stop(alloc, status_of(alloc, core, why))),
     }
 }
 
@@ -51,81 +106,197 @@ pub fn idle(alloc: Global, work: Work) -> Worked
     ensures work { result.work ≡ work }
     ensures journal { result.journal ≡ [] }
     ensures steps { result.steps ≡ [] }
+    ensures counts { AllEqual result.counts 0 }
 {
     Worked {
         work,
         journal: Items::new(alloc),
         steps: Items::new(alloc),
+        counts: Counts {
+            put: 0,
+            picked: 0,
+            finished: 0,
+            collected: 0,
+        },
     }
 }
 
-/// Runs the main workflow.
-fn run_flow<L: Launcher, S: Ledger>(
-    alloc: Global,
-    prepared: &Prepared,
-    flow: &FlowDef,
-    site: &Text,
-    launcher: &L,
-    steps: &mut Steps<S>,
-) -> Worked
-    requires fitting { IsFitting prepared.now.checked prepared.now.given flow.now }
-    ensures value { RunsMain (L.gives launcher.now) (L.refuses launcher.now) prepared.now.checked prepared.now.given site.now flow.now.name result }
+/// The work of a run that ended.
+fn worked(alloc: Global, name: &Name, ran: Ran) -> Worked
+    requires done { ran.stop ≡ None → IsDone ran.core }
+    requires failed { ran.stop ≡ Some end.Failed → has_fault (flow_of ran.core) ≡ true }
+    ensures turns { Turns name.now ran.core ran.stop result.work }
     ensures paths { HasPaths result.work }
+    ensures journal { result.journal ≡ ran.core.journal }
+    ensures steps { result.steps ≡ ran.core.steps }
+    ensures counts { result.counts ≡ ran.counts }
 {
-    let Ran {
-        journal,
-        steps: taken,
-        end,
-    } = run_jobs(
-        alloc,
-        &prepared.checked,
-        &prepared.given,
-        site,
-        launcher,
-        steps,
-    );
+    let Ran { core, stop, counts } = ran;
+    let work = work_of(alloc, name, &core, stop);
+    let History { journal, steps } = core.into_history();
     Worked {
-        work: work_of(alloc, &flow.name, end),
+        work,
         journal,
-        steps: taken,
+        steps,
+        counts,
     }
 }
 
-/// Runs the main workflow with its inputs.
-fn run_main<L: Launcher, S: Ledger>(
+/// The core of the main workflow before anything is taken, and the name of the workflow.
+#[derive(Drop)]
+pub struct Begun {
+    pub core: Core,
+    pub name: Name,
+}
+
+/// Begins a run of the main workflow.
+#[tactic(auto, using(crate::proofs::Starting::has_main, crate::proofs::Starting::fits_main, crate::proofs::Starting::begun_is))]
+fn begin<S: Ledger>(
     alloc: Global,
-    prepared: &Prepared,
-    site: &Text,
-    launcher: &L,
+    prepared: Prepared,
+    root: &Text,
     steps: &mut Steps<S>,
-) -> Worked
-    requires fitting { (f : Flow) × IsFitting prepared.now.checked prepared.now.given f }
-    ensures value { (f : Flow) → IsFitting prepared.now.checked prepared.now.given f
-        → RunsMain (L.gives launcher.now) (L.refuses launcher.now) prepared.now.checked prepared.now.given site.now f.name result }
-    ensures paths { HasPaths result.work }
+) -> Result<Begun, NoMemory>
+    requires fitting { (f : Flow) × IsFitting prepared.checked prepared.given f }
+    ensures value { IfOk result (λ b. (f : Flow) → IsFitting prepared.checked prepared.given f
+        → IsBegun prepared.checked prepared.given root.now f b) }
 {
     let Some(flow) = main_flow(&prepared.checked) else {
         unreachable!();
     };
-    run_flow(alloc, prepared, flow, site, launcher, steps)
+    let name = flow.name.copy(alloc)?;
+    let site = root.copy(alloc)?;
+    let Prepared {
+        checked,
+        paths: _,
+        given,
+    } = prepared;
+    let core = Core::new(alloc, checked, given, site, steps)?;
+    Ok(Begun { core, name })
 }
 
-/// Runs the main workflow of the document at a path, with the inputs of a file, below the directory `site`.
-pub fn run<F: Shelf, L: Launcher, S: Ledger>(
+/// Runs the main workflow without a journal.
+fn run_plain<L: Launcher + Sync, R: Threads + Wait + Sync, S: Ledger>(
+    rt: &R,
     alloc: Global,
-    file: &Text,
-    inputs: &Option<Text>,
-    site: &Text,
-    shelf: &mut F,
+    prepared: Prepared,
+    options: &RunOptions,
     launcher: &L,
     steps: &mut Steps<S>,
 ) -> Worked
-    ensures value { RunsFile (F.tells shelf.old) (F.refuses shelf.old) (Rose (F.faults shelf.old) (F.faults shelf.new))
-        (L.gives launcher.now) (L.refuses launcher.now) file.now inputs.now site.now (work_trace result steps.old steps.new) result }
+    requires fitting { (f : Flow) × IsFitting prepared.checked prepared.given f }
+    requires workers { (1 ≤ options.now.workers) × (options.now.workers ≤ 64) }
+    requires none { options.now.journal ≡ None }
+    ensures value { (f : Flow) → IsFitting prepared.checked prepared.given f → (k : KeeperView)
+        → RunsMain (L.gives launcher.now) (L.refuses launcher.now) (work_trace result steps.old steps.new k k)
+        (main_with prepared.checked prepared.given options.now f) result.work }
     ensures paths { HasPaths result.work }
 {
+    let Ok(Begun { core, name }) = begin(alloc, prepared, &options.root, steps) else {
+        return idle(alloc, Work::Stop(stop(alloc, Status::NoMemory)));
+    };
+    let ran = run_all(
+        rt,
+        alloc,
+        core,
+        launcher,
+        None::<&mut NoKeeper>,
+        Items::new(alloc),
+        options.workers,
+        steps,
+    );
+    worked(alloc, &name, ran)
+}
+
+/// Runs the main workflow over the rows of its journal, and keeps its answers there.
+fn run_over<L: Launcher + Sync, K: Keeper, R: Threads + Wait + Sync, S: Ledger>(
+    rt: &R,
+    alloc: Global,
+    prepared: Prepared,
+    options: &RunOptions,
+    rows: Items<Entry>,
+    launcher: &L,
+    keeper: &mut K,
+    steps: &mut Steps<S>,
+) -> Worked
+    requires fitting { (f : Flow) × IsFitting prepared.checked prepared.given f }
+    requires workers { (1 ≤ options.now.workers) × (options.now.workers ≤ 64) }
+    requires ready { IsReady rows (keeper_view (K.kept keeper.old) (K.path keeper.old) (K.faults keeper.old)) }
+    requires rise { rises rows ≡ true }
+    requires kept { are_kept rows ≡ true }
+    ensures value { (f : Flow) → IsFitting prepared.checked prepared.given f → (path : List ℕ) (k : KeeperView)
+        → options.now.journal ≡ Some path → IsOpened path k (keeper_view (K.kept keeper.old) (K.path keeper.old) (K.faults keeper.old)) rows
+        → RunsMain (L.gives launcher.now) (L.refuses launcher.now) (work_trace result steps.old steps.new k (keeper_view (K.kept keeper.new) (K.path keeper.new) (K.faults keeper.new)))
+        (main_with prepared.checked prepared.given options.now f) result.work }
+    ensures paths { HasPaths result.work }
+    ensures path { K.path keeper.new ≡ K.path keeper.old }
+{
+    let Ok(Begun { core, name }) = begin(alloc, prepared, &options.root, steps) else {
+        return idle(alloc, Work::Stop(stop(alloc, Status::NoMemory)));
+    };
+    let ran = run_all(
+        rt,
+        alloc,
+        core,
+        launcher,
+        Some(keeper),
+        rows,
+        options.workers,
+        steps,
+    );
+    worked(alloc, &name, ran)
+}
+
+/// Runs the main workflow with its inputs: over the rows of its journal where one is named.
+fn run_main<L: Launcher + Sync, K: Keeper, R: Threads + Wait + Sync, S: Ledger>(
+    rt: &R,
+    alloc: Global,
+    prepared: Prepared,
+    options: &RunOptions,
+    launcher: &L,
+    keeper: &mut K,
+    steps: &mut Steps<S>,
+) -> Worked
+    requires fitting { (f : Flow) × IsFitting prepared.checked prepared.given f }
+    requires workers { (1 ≤ options.now.workers) × (options.now.workers ≤ 64) }
+    requires fresh { K.path keeper.old ≡ None }
+    ensures value { (f : Flow) → IsFitting prepared.checked prepared.given f
+        → RunsMain (L.gives launcher.now) (L.refuses launcher.now) (work_trace result steps.old steps.new (keeper_view (K.kept keeper.old) (K.path keeper.old) (K.faults keeper.old)) (keeper_view (K.kept keeper.new) (K.path keeper.new) (K.faults keeper.new)))
+        (main_with prepared.checked prepared.given options.now f) result.work }
+    ensures paths { HasPaths result.work }
+    ensures keeper { (keeper.new ≡ keeper.old) ⊎ NamesJournal options.now.journal (K.path keeper.new) }
+{
+    let Some(path) = &options.journal else {
+        return run_plain(rt, alloc, prepared, options, launcher, steps);
+    };
+    match rows_of(alloc, path, keeper) {
+        Ok(rows) => run_over(rt, alloc, prepared, options, rows, launcher, keeper, steps),
+        Err(status) => idle(alloc, Work::Stop(stop(alloc, status))),
+    }
+}
+
+/// Runs the main workflow of the document at a path, with the inputs of a file.
+pub fn run<F: Shelf, L: Launcher + Sync, K: Keeper, R: Threads + Wait + Sync, S: Ledger>(
+    rt: &R,
+    alloc: Global,
+    file: &Text,
+    inputs: &Option<Text>,
+    options: &RunOptions,
+    shelf: &mut F,
+    launcher: &L,
+    keeper: &mut K,
+    steps: &mut Steps<S>,
+) -> Worked
+    requires workers { (1 ≤ options.now.workers) × (options.now.workers ≤ 64) }
+    requires fresh { K.path keeper.old ≡ None }
+    ensures value { RunsFile (F.tells shelf.old) (F.refuses shelf.old) (Rose (F.faults shelf.old) (F.faults shelf.new))
+        (L.gives launcher.now) (L.refuses launcher.now) file.now inputs.now options.now
+        (work_trace result steps.old steps.new (keeper_view (K.kept keeper.old) (K.path keeper.old) (K.faults keeper.old)) (keeper_view (K.kept keeper.new) (K.path keeper.new) (K.faults keeper.new))) result.work }
+    ensures paths { HasPaths result.work }
+    ensures keeper { (keeper.new ≡ keeper.old) ⊎ NamesJournal options.now.journal (K.path keeper.new) }
+{
     match start_of(alloc, file, inputs, shelf) {
-        Ok(prepared) => run_main(alloc, &prepared, site, launcher, steps),
+        Ok(prepared) => run_main(rt, alloc, prepared, options, launcher, keeper, steps),
         Err(stop) => idle(alloc, Work::Stop(stop)),
     }
 }

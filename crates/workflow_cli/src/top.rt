@@ -5,30 +5,41 @@ ghost use Rattle.wdl_base.specs.declared.place.Segment.{Segment as SegmentOf};
 ghost use Rattle.wdl_base.specs.declared.span.Span.{Span as SpanOf};
 ghost use Rattle.report_text.specs.declared.status.Status.TheVariants as status;
 ghost use Rattle.workflow_cli.specs.Asking.{IsNotBuilt, asked};
-ghost use Rattle.workflow_cli.specs.Causes.{IsBuilt, IsUnread};
-ghost use Rattle.workflow_cli.specs.Running.{IsBadInputs, IsFailed, IsIdle, IsTooMany, IsUnlaunched, SomeRun, trace_of};
+ghost use Rattle.work_desk.specs.Keeping.{keeper_view};
+ghost use Rattle.workflow_cli.specs.Causes.{IsStartedOn, IsUnread, UsesJournal};
+ghost use Rattle.workflow_cli.specs.Running.{IsBadInputs, IsFailed, IsIdle, IsTooMany, IsUnkept, IsUnlaunched, SomeRun, trace_of};
 ghost use Rattle.workflow_cli.specs.Writing.{IsCut, IsExcluded, IsReported, IsWritten, Lines};
 ghost use Rattle.workflow_cli.specs.Complete.{CheckIsComplete, CwlIsComplete, DocumentIsComplete, InputsIsComplete, MainIsComplete, NotBuiltIsComplete, RunIsComplete, UsageIsComplete};
-ghost use Rattle.workflow_cli.specs.Counting.{AreCounts};
 
-use crate::counting::counts_of;
 use crate::ended::{Ended, Worked};
 use crate::finish::finish;
 use crate::work::work;
 use std::alloc::Global;
+use std::sync::Wait;
 use std::sync::ledger::Ledger;
+use std::thread::Threads;
 use wdl_port::{Keeper, Launcher, Shelf, Sink};
 use wdl_value::Steps;
 
-/// All that the program does. `run [--inputs FILE] [--root DIR] FILE` reads the document of that file and its imports from the
-/// shelf, checks them, reads the inputs, runs the main workflow through the launcher, one job at a time, and writes the outputs as
-/// JSON and a newline to `out`. `check FILE` writes `ok` and a newline, where the document has a checked form. `cwl FILE` writes the
-/// CWL document of the main workflow and a newline, and `cwl --inputs INPUTS FILE` the CWL input object of these inputs and a newline,
-/// where no rule of the subset is broken. With another status its line is written to `err`.
+/// All that the program does. `run [--inputs FILE] [--workers N] [--root DIR] [--journal FILE] FILE` reads the document of that
+/// file and its imports from the shelf, checks them, reads the inputs, runs the main workflow by N workers, which launch its jobs
+/// through the launcher, and writes the outputs as JSON and a newline to `out`. With a journal the keeper is started on its path,
+/// a job that has a row with the same request and a successful status is not launched, and each answer is kept. `check FILE`
+/// writes `ok` and a newline, where the document has a checked form. `cwl FILE` writes the CWL document of the main workflow and
+/// a newline, and `cwl --inputs INPUTS FILE` the CWL input object of these inputs and a newline, where no rule of the subset is
+/// broken. With another status its line is written to `err`.
 ///
-/// Not built yet are `load`, `bundle`, and `run` with `--journal` or with other workers than 1 or the default 4, which
-/// for now both run one job at a time. The keeper is not used.
-pub fn workflow<F: Shelf, O: Sink, E: Sink, L: Launcher + Sync, K: Keeper, S: Ledger>(
+/// Not built yet are `load` and `bundle`.
+pub fn workflow<
+    F: Shelf,
+    O: Sink,
+    E: Sink,
+    L: Launcher + Sync,
+    K: Keeper,
+    R: Threads + Wait + Sync,
+    S: Ledger,
+>(
+    rt: &R,
     alloc: Global,
     words: &[String],
     shelf: &mut F,
@@ -40,46 +51,45 @@ pub fn workflow<F: Shelf, O: Sink, E: Sink, L: Launcher + Sync, K: Keeper, S: Le
 ) -> Ended
     requires no_file { K.path keeper.old ≡ None }
     // Nothing ran; or the journal is fed for the main workflow, and the launcher gave each of its answers.
-    ensures run { IsIdle (trace_of result steps.old steps.new)
-        ⊎ SomeRun (F.tells shelf.old) words.now (L.gives launcher.now) (trace_of result steps.old steps.new) }
-    // Each job that was taken was put, picked, finished and collected.
-    ensures counts { AreCounts result.steps result.counts }
+    ensures run { IsIdle (trace_of result steps.old steps.new (keeper_view (K.kept keeper.old) (K.path keeper.old) (K.faults keeper.old)) (keeper_view (K.kept keeper.new) (K.path keeper.new) (K.faults keeper.new)))
+        ⊎ SomeRun (F.tells shelf.old) words.now (L.gives launcher.now) (L.refuses launcher.now) (trace_of result steps.old steps.new (keeper_view (K.kept keeper.old) (K.path keeper.old) (K.faults keeper.old)) (keeper_view (K.kept keeper.new) (K.path keeper.new) (K.faults keeper.new))) }
     // What each status says.
     ensures ok { result.status ≡ status.Ok
-        → IsWritten (F.tells shelf.old) words.now (L.gives launcher.now) (trace_of result steps.old steps.new)
+        → IsWritten (F.tells shelf.old) words.now (L.gives launcher.now) (L.refuses launcher.now) (trace_of result steps.old steps.new (keeper_view (K.kept keeper.old) (K.path keeper.old) (K.faults keeper.old)) (keeper_view (K.kept keeper.new) (K.path keeper.new) (K.faults keeper.new)))
         (O.told out.old) (O.told out.new) (E.told err.old) (E.told err.new) }
     ensures failed { (f : FaultOf) → result.status ≡ status.Failed f
-        → IsFailed (F.tells shelf.old) words.now (L.gives launcher.now) (trace_of result steps.old steps.new) f }
+        → IsFailed (F.tells shelf.old) words.now (L.gives launcher.now) (L.refuses launcher.now) (trace_of result steps.old steps.new (keeper_view (K.kept keeper.old) (K.path keeper.old) (K.faults keeper.old)) (keeper_view (K.kept keeper.new) (K.path keeper.new) (K.faults keeper.new))) f }
     ensures usage { result.status ≡ status.Usage
-        → IsIdle (trace_of result steps.old steps.new) × (asked words.now ≡ None) }
+        → IsIdle (trace_of result steps.old steps.new (keeper_view (K.kept keeper.old) (K.path keeper.old) (K.faults keeper.old)) (keeper_view (K.kept keeper.new) (K.path keeper.new) (K.faults keeper.new))) × (asked words.now ≡ None) }
     ensures document { (code : ℕ) (span : SpanOf) → result.status ≡ status.Document code span
-        → IsReported (F.tells shelf.old) words.now (L.gives launcher.now) (trace_of result steps.old steps.new)
+        → IsReported (F.tells shelf.old) words.now (L.gives launcher.now) (L.refuses launcher.now) (trace_of result steps.old steps.new (keeper_view (K.kept keeper.old) (K.path keeper.old) (K.faults keeper.old)) (keeper_view (K.kept keeper.new) (K.path keeper.new) (K.faults keeper.new)))
         (O.told out.old) (O.told out.new) (E.told err.old) (E.told err.new) code span }
     ensures inputs { (code : ℕ) (name : Option (List ℕ)) → result.status ≡ status.Inputs code name
-        → IsIdle (trace_of result steps.old steps.new) × IsBadInputs (F.tells shelf.old) words.now code name }
+        → IsIdle (trace_of result steps.old steps.new (keeper_view (K.kept keeper.old) (K.path keeper.old) (K.faults keeper.old)) (keeper_view (K.kept keeper.new) (K.path keeper.new) (K.faults keeper.new))) × IsBadInputs (F.tells shelf.old) words.now code name }
     ensures read { (p : List ℕ) → result.status ≡ status.Read p
-        → IsIdle (trace_of result steps.old steps.new)
+        → IsIdle (trace_of result steps.old steps.new (keeper_view (K.kept keeper.old) (K.path keeper.old) (K.faults keeper.old)) (keeper_view (K.kept keeper.new) (K.path keeper.new) (K.faults keeper.new)))
         × IsUnread (F.tells shelf.old) words.now (F.refuses shelf.old) (Rose (F.faults shelf.old) (F.faults shelf.new)) p }
     ensures write { result.status ≡ status.Write
         → IsCut (F.tells shelf.old) (F.refuses shelf.old) (Rose (F.faults shelf.old) (F.faults shelf.new))
-        (L.gives launcher.now) (L.refuses launcher.now) words.now (trace_of result steps.old steps.new)
+        (L.gives launcher.now) (L.refuses launcher.now) words.now (trace_of result steps.old steps.new (keeper_view (K.kept keeper.old) (K.path keeper.old) (K.faults keeper.old)) (keeper_view (K.kept keeper.new) (K.path keeper.new) (K.faults keeper.new)))
         (O.told out.old) (O.told out.new) (E.told err.old) (E.told err.new)
         (Rose (O.faults out.old) (O.faults out.new)) (Rose (E.faults err.old) (E.faults err.new)) }
     ensures not_in_subset { (rule : ℕ) (span : SpanOf) → result.status ≡ status.NotInSubset rule span
-        → IsExcluded (F.tells shelf.old) words.now (L.gives launcher.now) (trace_of result steps.old steps.new)
+        → IsExcluded (F.tells shelf.old) words.now (L.gives launcher.now) (L.refuses launcher.now) (trace_of result steps.old steps.new (keeper_view (K.kept keeper.old) (K.path keeper.old) (K.faults keeper.old)) (keeper_view (K.kept keeper.new) (K.path keeper.new) (K.faults keeper.new)))
         (O.told out.old) (O.told out.new) (E.told err.old) (E.told err.new) rule span }
     ensures launch { (p : List SegmentOf) → result.status ≡ status.Launch p
-        → IsUnlaunched (F.tells shelf.old) words.now (L.gives launcher.now) (trace_of result steps.old steps.new)
-        (L.refuses launcher.now) p }
+        → IsUnlaunched (F.tells shelf.old) words.now (L.gives launcher.now) (L.refuses launcher.now) (trace_of result steps.old steps.new (keeper_view (K.kept keeper.old) (K.path keeper.old) (K.faults keeper.old)) (keeper_view (K.kept keeper.new) (K.path keeper.new) (K.faults keeper.new))) p }
+    ensures keep { result.status ≡ status.Keep
+        → IsUnkept (F.tells shelf.old) words.now (L.gives launcher.now) (L.refuses launcher.now) (trace_of result steps.old steps.new (keeper_view (K.kept keeper.old) (K.path keeper.old) (K.faults keeper.old)) (keeper_view (K.kept keeper.new) (K.path keeper.new) (K.faults keeper.new))) }
     ensures too_many { result.status ≡ status.TooMany
-        → IsTooMany (F.tells shelf.old) words.now (L.gives launcher.now) (trace_of result steps.old steps.new) }
+        → IsTooMany (F.tells shelf.old) words.now (L.gives launcher.now) (L.refuses launcher.now) (trace_of result steps.old steps.new (keeper_view (K.kept keeper.old) (K.path keeper.old) (K.faults keeper.old)) (keeper_view (K.kept keeper.new) (K.path keeper.new) (K.faults keeper.new))) }
     ensures not_built { result.status ≡ status.NotBuilt
-        → IsIdle (trace_of result steps.old steps.new) × IsNotBuilt words.now }
-    // No other status but NoMemory comes.
-    ensures built { IsBuilt result.status }
+        → IsIdle (trace_of result steps.old steps.new (keeper_view (K.kept keeper.old) (K.path keeper.old) (K.faults keeper.old)) (keeper_view (K.kept keeper.new) (K.path keeper.new) (K.faults keeper.new))) × IsNotBuilt words.now }
     // With a status other than Ok, Write, Document and NotInSubset, its line and nothing else was written.
     ensures lines { Lines result.status (O.told out.old) (O.told out.new) (E.told err.old) (E.told err.new) }
-    ensures keeper { keeper.new ≡ keeper.old }
+    // Without a journal the keeper is as it was; with one it is started on no other path.
+    ensures keeper { (keeper.new ≡ keeper.old) ⊎ UsesJournal words.now (K.path keeper.new) }
+    ensures started { IsStartedOn words.now result.status result.journal (K.path keeper.new) }
     // The other way round: which status comes, unless memory ends.
     ensures usage_complete { UsageIsComplete words.now (Rose (E.faults err.old) (E.faults err.new)) result.status }
     ensures not_built_complete { NotBuiltIsComplete words.now (Rose (E.faults err.old) (E.faults err.new)) result.status }
@@ -96,15 +106,15 @@ pub fn workflow<F: Shelf, O: Sink, E: Sink, L: Launcher + Sync, K: Keeper, S: Le
     ensures run_complete { RunIsComplete (F.tells shelf.old) words.now (L.refuses launcher.now)
         (Rose (F.faults shelf.old) (F.faults shelf.new))
         (Rose (O.faults out.old) (O.faults out.new) ⊎ Rose (E.faults err.old) (E.faults err.new))
-        (trace_of result steps.old steps.new) result.status }
+        (trace_of result steps.old steps.new (keeper_view (K.kept keeper.old) (K.path keeper.old) (K.faults keeper.old)) (keeper_view (K.kept keeper.new) (K.path keeper.new) (K.faults keeper.new))) result.status }
 {
     let Worked {
         work,
         journal,
         steps: taken,
-    } = work(alloc, words, shelf, launcher, steps);
+        counts,
+    } = work(rt, alloc, words, shelf, launcher, keeper, steps);
     let status = finish(alloc, work, out, err);
-    let counts = counts_of(taken.as_slice());
     Ended {
         status,
         journal,

@@ -1,5 +1,7 @@
+ghost use Rattle.std.specs.Prelude.{◌≡◌, ◌⊎◌, None};
 ghost use Rattle.wdl_port.specs.Causes.{Rose};
-ghost use Rattle.workflow_cli.specs.Causes.{IsWork};
+ghost use Rattle.work_desk.specs.Keeping.{keeper_view};
+ghost use Rattle.workflow_cli.specs.Causes.{IsWork, UsesJournal};
 ghost use Rattle.workflow_cli.specs.Running.{work_trace};
 ghost use Rattle.workflow_cli.specs.Stages.{Accepts};
 ghost use Rattle.workflow_cli.specs.Writing.{HasPaths};
@@ -11,8 +13,10 @@ use crate::ended::{Work, Worked};
 use crate::run::{idle, run};
 use report_text::Status;
 use std::alloc::Global;
+use std::sync::Wait;
 use std::sync::ledger::Ledger;
-use wdl_port::{Launcher, Shelf};
+use std::thread::Threads;
+use wdl_port::{Keeper, Launcher, Shelf};
 use wdl_value::{Steps, Text};
 
 /// Checks the document at a path.
@@ -30,21 +34,33 @@ fn accepted<F: Shelf>(alloc: Global, file: &Text, shelf: &mut F) -> Work
 }
 
 /// Does what the words ask for, up to the writing.
-pub fn work<F: Shelf, L: Launcher, S: Ledger>(
+pub fn work<F: Shelf, L: Launcher + Sync, K: Keeper, R: Threads + Wait + Sync, S: Ledger>(
+    rt: &R,
     alloc: Global,
     words: &[String],
     shelf: &mut F,
     launcher: &L,
+    keeper: &mut K,
     steps: &mut Steps<S>,
 ) -> Worked
+    requires fresh { K.path keeper.old ≡ None }
     ensures cause { IsWork (F.tells shelf.old) (F.refuses shelf.old) (Rose (F.faults shelf.old) (F.faults shelf.new))
-        (L.gives launcher.now) (L.refuses launcher.now) words.now (work_trace result steps.old steps.new) result.work }
+        (L.gives launcher.now) (L.refuses launcher.now) words.now
+        (work_trace result steps.old steps.new (keeper_view (K.kept keeper.old) (K.path keeper.old) (K.faults keeper.old))
+        (keeper_view (K.kept keeper.new) (K.path keeper.new) (K.faults keeper.new))) result.work }
     ensures paths { HasPaths result.work }
+    ensures keeper { (keeper.new ≡ keeper.old) ⊎ UsesJournal words.now (K.path keeper.new) }
 {
     match asked(alloc, words) {
-        Ok(Command::Run { file, inputs, root }) => {
-            run(alloc, &file, &inputs, &root, shelf, launcher, steps)
-        }
+        Ok(
+            Command::Run {
+                file,
+                inputs,
+                options,
+            },
+        ) => run(
+            rt, alloc, &file, &inputs, &options, shelf, launcher, keeper, steps,
+        ),
         Ok(Command::Check { file }) => idle(alloc, accepted(alloc, &file, shelf)),
         Ok(Command::Cwl { file, inputs }) => idle(alloc, cwl(alloc, &file, &inputs, shelf)),
         Err(status) => idle(alloc, Work::Stop(stop(alloc, status))),

@@ -1,5 +1,6 @@
-use std::alloc::Global;
+use std::sync::Wait;
 use std::test::Fail;
+use std::thread::Threads;
 use workflow_cases::first_mistake;
 
 /// Inputs between newlines, each with the line that it gets.
@@ -13,19 +14,23 @@ const INPUTS: &str = r#"{=401 NotJson
 /// A workflow with two inputs.
 const BEFORE: &str = "version workflow w { input { Boolean c Array[String] xs } }\nfile w.wdl";
 
-fn of_inputs(alloc: Global, inputs: &str, line: &str) -> Result<String, Fail> {
+fn of_inputs<R: Threads + Wait + Sync + AllocGlobal>(
+    rt: &R,
+    inputs: &str,
+    line: &str,
+) -> Result<String, Fail> {
+    let alloc = rt.alloc();
     let case = format!(in alloc;
         "{BEFORE}\ninputs {inputs}\n$ run --inputs i.json w.wdl\n> 4 0\n> ! inputs: {line}"
     )?;
-    first_mistake(alloc, case.as_str())
+    first_mistake(rt, alloc, case.as_str())
 }
 
 #[test]
 fn inputs_that_break_a_rule_have_status_4(rt: HostRuntime) -> Result<(), Fail> {
-    let alloc = rt.alloc();
     for row in INPUTS.split('\n') {
         let (inputs, line) = row.split_once('=').unwrap_or((row, ""));
-        assert_eq!(rt; of_inputs(alloc, inputs, line)?.as_str(), "");
+        assert_eq!(rt; of_inputs(&rt, inputs, line)?.as_str(), "");
     }
     Ok(())
 }
@@ -67,6 +72,6 @@ $ run w.wdl
 
 #[test]
 fn inputs_are_a_file_or_none(rt: HostRuntime) -> Result<(), Fail> {
-    assert_eq!(rt; first_mistake(rt.alloc(), OTHERS)?.as_str(), "");
+    assert_eq!(rt; first_mistake(&rt, rt.alloc(), OTHERS)?.as_str(), "");
     Ok(())
 }

@@ -1,5 +1,6 @@
-use std::alloc::Global;
+use std::sync::Wait;
 use std::test::Fail;
+use std::thread::Threads;
 use workflow_cases::first_mistake;
 
 /// Words without a reading.
@@ -8,16 +9,20 @@ const UNREADABLE: &str =
 run --inputs w.wdl|check|cwl|cwl --inputs w.wdl|cwl --root /a w.wdl|load 0|load 10001|run --root /a --root /b w.wdl";
 
 /// Words that ask for what is not built.
-const NOT_BUILT: &str =
-    "load 1|load 10000|bundle w.wdl|run --journal j w.wdl|run --workers 2 w.wdl|run --workers 64 w.wdl";
+const NOT_BUILT: &str = "load 1|load 10000|bundle w.wdl";
 
 /// What is wrong with the first of these words, between bars, of which the call shows anything else.
-fn first_wrong(alloc: Global, all: &str, expected: &str) -> Result<String, Fail> {
+fn first_wrong<R: Threads + Wait + Sync + AllocGlobal>(
+    rt: &R,
+    all: &str,
+    expected: &str,
+) -> Result<String, Fail> {
+    let alloc = rt.alloc();
     for words in all.split('|') {
         let case = format!(in alloc;
             "version workflow w {{ }}\nfile w.wdl\n$ {words}\n{expected}"
         )?;
-        let mistake = first_mistake(alloc, case.as_str())?;
+        let mistake = first_mistake(rt, alloc, case.as_str())?;
         if !mistake.is_empty() {
             return Ok(mistake);
         }
@@ -27,23 +32,23 @@ fn first_wrong(alloc: Global, all: &str, expected: &str) -> Result<String, Fail>
 
 #[test]
 fn words_without_a_reading_have_status_2(rt: HostRuntime) -> Result<(), Fail> {
-    let expected =
-        "> 2 0\n> ! usage: wdl run [--inputs FILE] [--root DIR] FILE | check FILE | cwl [--inputs FILE] FILE";
-    assert_eq!(rt; first_wrong(rt.alloc(), UNREADABLE, expected)?.as_str(), "");
+    let expected = "> 2 0\n> ! usage: wdl run [--inputs FILE] [--workers N] [--root DIR] \
+                    [--journal FILE] FILE | check FILE | cwl [--inputs FILE] FILE";
+    assert_eq!(rt; first_wrong(&rt, UNREADABLE, expected)?.as_str(), "");
     Ok(())
 }
 
 #[test]
 fn what_is_not_built_has_status_12(rt: HostRuntime) -> Result<(), Fail> {
     let expected = "> 12 0\n> ! not built yet";
-    assert_eq!(rt; first_wrong(rt.alloc(), NOT_BUILT, expected)?.as_str(), "");
+    assert_eq!(rt; first_wrong(&rt, NOT_BUILT, expected)?.as_str(), "");
     Ok(())
 }
 
 #[test]
-fn one_worker_and_four_run_the_jobs_in_turn(rt: HostRuntime) -> Result<(), Fail> {
-    let words = "run w.wdl|run --workers 1 w.wdl|run --workers 4 w.wdl";
-    assert_eq!(rt; first_wrong(rt.alloc(), words, "> 0 0\n> {}")?.as_str(), "");
+fn a_run_has_1_to_64_workers_and_may_keep_its_journal(rt: HostRuntime) -> Result<(), Fail> {
+    let words = "run w.wdl|run --workers 1 w.wdl|run --workers 64 w.wdl|run --journal j w.wdl";
+    assert_eq!(rt; first_wrong(&rt, words, "> 0 0\n> {}")?.as_str(), "");
     Ok(())
 }
 
@@ -76,6 +81,6 @@ room 100 0
 
 #[test]
 fn what_is_cut_has_status_6(rt: HostRuntime) -> Result<(), Fail> {
-    assert_eq!(rt; first_mistake(rt.alloc(), CUT)?.as_str(), "");
+    assert_eq!(rt; first_mistake(&rt, rt.alloc(), CUT)?.as_str(), "");
     Ok(())
 }

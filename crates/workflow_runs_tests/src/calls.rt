@@ -6,7 +6,7 @@ const CALLS: &str = r#"say
 text workflow w { call say { input: s = "hi" } output { String r = say.r } }
 file w.wdl
 answer say 0 0 hi
-$ run w.wdl
+$ run --workers 1 w.wdl
 > 0 1 +say -say
 > {"w.r":"hi"}
 > /tmp/wdl-run/say echo hi
@@ -16,7 +16,7 @@ text workflow w { call say as b { input: s = a.r } call say as a { input: s = "x
 file w.wdl
 answer a 0 0 y
 answer b 0 0 z
-$ run --root /tmp/here w.wdl
+$ run --workers 1 --root /tmp/here w.wdl
 > 0 2 +a -a +b -b
 > {"w.r":"z"}
 > /tmp/here/a echo x
@@ -27,7 +27,7 @@ text workflow w { call say { input: s = "a" } call say as b { input: s = say.r }
 file w.wdl
 answer say 0 0 A
 answer b 0 0 B
-$ run w.wdl
+$ run --workers 1 w.wdl
 > 0 2 +say -say +b -b
 > {"w.x":"B","w.y":"A"}
 > /tmp/wdl-run/say echo a
@@ -38,7 +38,7 @@ text workflow w { call say { input: s = "a" } call say as b after say { input: s
 file w.wdl
 answer say 0 0 A
 answer b 0 0 B
-$ run w.wdl
+$ run --workers 1 w.wdl
 > 0 2 +say -say +b -b
 > {}
 > /tmp/wdl-run/say echo a
@@ -51,7 +51,7 @@ file w.wdl
 answer scatter-0/0/say 0 0 3
 answer scatter-0/1/say 0 0 1
 answer scatter-0/2/say 0 0 2
-$ run w.wdl
+$ run --workers 1 w.wdl
 > 0 3 +scatter-0/0/say -scatter-0/0/say +scatter-0/1/say -scatter-0/1/say +scatter-0/2/say -scatter-0/2/say
 > {"w.r":["3","1","2"]}
 > /tmp/wdl-run/scatter-0/0/say echo 3
@@ -62,7 +62,7 @@ say
 text workflow w { input { Array[String] xs } scatter (x in xs) { call say { input: s = x } } output { Array[String] r = say.r } }
 file w.wdl
 inputs {"w.xs":[]}
-$ run --inputs i.json w.wdl
+$ run --workers 1 --inputs i.json w.wdl
 > 0 0
 > {"w.r":[]}
 
@@ -71,7 +71,7 @@ text workflow w { input { Boolean c Array[String] xs } if (c) { scatter (x in xs
 text output { Array[String]? r = say.r } }
 file w.wdl
 inputs {"w.c":false,"w.xs":["a"]}
-$ run --inputs i.json w.wdl
+$ run --workers 1 --inputs i.json w.wdl
 > 0 0
 > {"w.r":null}
 
@@ -81,7 +81,7 @@ text output { Array[String]? r = say.r } }
 file w.wdl
 inputs {"w.c":true,"w.xs":["a"]}
 answer if-0/scatter-0/0/say 0 0 a
-$ run --inputs i.json w.wdl
+$ run --workers 1 --inputs i.json w.wdl
 > 0 1 +if-0/scatter-0/0/say -if-0/scatter-0/0/say
 > {"w.r":["a"]}
 > /tmp/wdl-run/if-0/scatter-0/0/say echo a
@@ -93,7 +93,7 @@ file w.wdl
 inputs {"w.ps":[{"left":true,"right":"a"},{"left":false,"right":"b"},{"left":true,"right":"c"}]}
 answer scatter-0/0/if-0/say 0 0 a
 answer scatter-0/2/if-0/say 0 0 c
-$ run --inputs i.json w.wdl
+$ run --workers 1 --inputs i.json w.wdl
 > 0 2 +scatter-0/0/if-0/say -scatter-0/0/if-0/say +scatter-0/2/if-0/say -scatter-0/2/if-0/say
 > {"w.r":["a",null,"c"]}
 > /tmp/wdl-run/scatter-0/0/if-0/say echo a
@@ -107,7 +107,7 @@ text workflow w { call make { input: s = "hi" } output { File o = make.o String 
 file w.wdl
 left o.txt hi!
 answer make 0 0
-$ run w.wdl
+$ run --workers 1 w.wdl
 > 0 1 +make -make
 > {"w.o":"/tmp/wdl-run/make/o.txt","w.r":"hi!","w.z":null}
 > /tmp/wdl-run/make echo hi! > o.txt
@@ -117,7 +117,7 @@ text output { File o = "o.txt" String r = read_string("o.txt") File? z = "no.txt
 text workflow w { call make { input: s = "hi" } output { File o = make.o String r = make.r File? z = make.z } }
 file w.wdl
 answer make 0 0
-$ run w.wdl
+$ run --workers 1 w.wdl
 > 1 1 +make -make
 > ! failed make o: 511 FileMissing
 > /tmp/wdl-run/make echo hi! > o.txt
@@ -126,7 +126,7 @@ version task many { input { Array[String] xs } command <<<wc -l < ~{write_lines(
 text workflow w { call many { input: xs = ["a", "b"] } output { Int n = many.n } }
 file w.wdl
 answer many 0 0 2
-$ run w.wdl
+$ run --workers 1 w.wdl
 > 0 1 +many -many
 > {"w.n":2}
 > /tmp/wdl-run/many wc -l < .written-0 [.written-0 a
@@ -140,24 +140,24 @@ text {"w.x":"
 times 70000 a
 text "}
 file i.json
-$ run --inputs i.json w.wdl
+$ run --workers 1 --inputs i.json w.wdl
 > 1 0
 > ! failed many command: 510 TooLarge"#;
 
 #[test]
 fn calls_run_in_the_order_of_their_needs(rt: HostRuntime) -> Result<(), Fail> {
-    assert_eq!(rt; first_mistake(rt.alloc(), CALLS)?.as_str(), "");
+    assert_eq!(rt; first_mistake(&rt, rt.alloc(), CALLS)?.as_str(), "");
     Ok(())
 }
 
 #[test]
 fn calls_in_blocks_run_for_each_item(rt: HostRuntime) -> Result<(), Fail> {
-    assert_eq!(rt; first_mistake(rt.alloc(), BLOCKS)?.as_str(), "");
+    assert_eq!(rt; first_mistake(&rt, rt.alloc(), BLOCKS)?.as_str(), "");
     Ok(())
 }
 
 #[test]
 fn files_are_laid_and_read(rt: HostRuntime) -> Result<(), Fail> {
-    assert_eq!(rt; first_mistake(rt.alloc(), FILES)?.as_str(), "");
+    assert_eq!(rt; first_mistake(&rt, rt.alloc(), FILES)?.as_str(), "");
     Ok(())
 }

@@ -10,31 +10,16 @@ answer top 0 0 t
 answer left 0 3
 answer right 0 0 r
 $ run --workers 1 w.wdl
-> 1 3 +top -top +left -left +right -right
+> 1 2 +top -top +left -left
 > ! failed left: status 3
 > /tmp/wdl-run/top echo t
 > /tmp/wdl-run/left echo t
-> /tmp/wdl-run/right echo t
-
-say
-text workflow w { call say as top { input: s = "t" } call say as left { input: s = top.r } call say as right { input: s = top.r } 
-text call say as bottom { input: s = left.r + right.r } }
-file w.wdl
-answer top 0 0 t
-answer left 0 3
-answer right 0 4
-$ run --workers 1 w.wdl
-> 1 3 +top -top +left -left +right -right
-> ! failed left: status 3
-> /tmp/wdl-run/top echo t
-> /tmp/wdl-run/left echo t
-> /tmp/wdl-run/right echo t
 
 say
 text workflow w { call say { input: s = "a" } call say as b { input: s = say.r } output { String x = b.r String y = say.r } }
 file w.wdl
 answer say 0 3
-$ run w.wdl
+$ run --workers 1 w.wdl
 > 1 1 +say -say
 > ! failed say: status 3
 > /tmp/wdl-run/say echo a
@@ -43,7 +28,7 @@ say
 text workflow w { call say { input: s = "hi" } output { String r = say.r } }
 file w.wdl
 letters say 65536
-$ run w.wdl
+$ run --workers 1 w.wdl
 > 0 1 +say -say
 >. {"w.r":"
 >* 65536 a
@@ -54,7 +39,7 @@ say
 text workflow w { call say { input: s = "hi" } output { String r = say.r } }
 file w.wdl
 letters say 65537
-$ run w.wdl
+$ run --workers 1 w.wdl
 > 1 1 +say -say
 > ! failed say r: 516 BodyLong
 > /tmp/wdl-run/say echo hi
@@ -63,7 +48,7 @@ say
 text workflow w { call say { input: s = "hi" } output { String r = say.r } }
 file w.wdl
 odd say
-$ run w.wdl
+$ run --workers 1 w.wdl
 > 1 1 +say -say
 > ! failed say r: 512 NotText
 > /tmp/wdl-run/say echo hi
@@ -72,7 +57,7 @@ say
 text workflow w { call say { input: s = "hi" } output { String r = say.r } }
 file w.wdl
 refuse say
-$ run w.wdl
+$ run --workers 1 w.wdl
 > 9 1 +say
 > ! cannot launch say"#;
 
@@ -82,7 +67,7 @@ text workflow w { call say { input: s = "hi" } output { String r = say.r } }
 file w.wdl
 answer say 0 1
 answer say 1 0 hi
-$ run w.wdl
+$ run --workers 1 w.wdl
 > 0 2 +say -say +say -say
 > {"w.r":"hi"}
 > /tmp/wdl-run/say echo hi
@@ -94,7 +79,7 @@ file w.wdl
 answer say 0 1
 answer say 1 2
 answer say 2 3
-$ run w.wdl
+$ run --workers 1 w.wdl
 > 1 3 +say -say +say -say +say -say
 > ! failed say: status 3
 > /tmp/wdl-run/say echo hi
@@ -104,7 +89,7 @@ $ run w.wdl
 say runtime { maxRetries: 101 } 
 text workflow w { call say { input: s = "hi" } output { String r = say.r } }
 file w.wdl
-$ run w.wdl
+$ run --workers 1 w.wdl
 > 1 0
 > ! failed say maxRetries: 510 TooLarge
 
@@ -112,7 +97,7 @@ say runtime { returnCodes: [0, 3] }
 text workflow w { call say { input: s = "hi" } output { String r = say.r } }
 file w.wdl
 answer say 0 3 hi
-$ run w.wdl
+$ run --workers 1 w.wdl
 > 0 1 +say -say
 > {"w.r":"hi"}
 > /tmp/wdl-run/say echo hi
@@ -121,7 +106,7 @@ say runtime { returnCodes: "*" }
 text workflow w { call say { input: s = "hi" } output { String r = say.r } }
 file w.wdl
 answer say 0 255 hi
-$ run w.wdl
+$ run --workers 1 w.wdl
 > 0 1 +say -say
 > {"w.r":"hi"}
 > /tmp/wdl-run/say echo hi"#;
@@ -129,63 +114,63 @@ $ run w.wdl
 /// Values of the workflow itself.
 const VALUES: &str = r#"version workflow w { output { Int a = -7 / 2 Int b = -7 % 2 } }
 file w.wdl
-$ run w.wdl
+$ run --workers 1 w.wdl
 > 0 0
 > {"w.a":-3,"w.b":-1}
 
 version workflow w { Int a = 9223372036854775807 + 1 }
 file w.wdl
-$ run w.wdl
+$ run --workers 1 w.wdl
 > 1 0
 > ! failed . a: 501 Overflow
 
 version workflow w { input { Array[Int] xs } Array[Int]+ ys = xs output { Array[Int]+ r = ys } }
 file w.wdl
 inputs {"w.xs":[]}
-$ run --inputs i.json w.wdl
+$ run --workers 1 --inputs i.json w.wdl
 > 1 0
 > ! failed . ys: 505 EmptyArray
 
 version workflow w { input { Array[Int] xs } Array[Int]+ ys = xs output { Array[Int]+ r = ys } }
 file w.wdl
 inputs {"w.xs":[7]}
-$ run --inputs=i.json w.wdl
+$ run --workers 1 --inputs=i.json w.wdl
 > 0 0
 > {"w.r":[7]}
 
 version workflow w { Array[Int] x = range(100001) }
 file w.wdl
-$ run w.wdl
+$ run --workers 1 w.wdl
 > 1 0
 > ! failed . x: 510 TooLarge
 
 version workflow w { Array[Int] x = range(-1) }
 file w.wdl
-$ run w.wdl
+$ run --workers 1 w.wdl
 > 1 0
 > ! failed . x: 509 NegativeRange
 
 say
 text workflow w { scatter (i in range(20001)) { call say { input: s = i } } }
 file w.wdl
-$ run w.wdl
+$ run --workers 1 w.wdl
 > 11 0
 > ! too many jobs"#;
 
 #[test]
 fn answers_end_a_run(rt: HostRuntime) -> Result<(), Fail> {
-    assert_eq!(rt; first_mistake(rt.alloc(), ANSWERS)?.as_str(), "");
+    assert_eq!(rt; first_mistake(&rt, rt.alloc(), ANSWERS)?.as_str(), "");
     Ok(())
 }
 
 #[test]
 fn a_job_has_its_attempts(rt: HostRuntime) -> Result<(), Fail> {
-    assert_eq!(rt; first_mistake(rt.alloc(), ATTEMPTS)?.as_str(), "");
+    assert_eq!(rt; first_mistake(&rt, rt.alloc(), ATTEMPTS)?.as_str(), "");
     Ok(())
 }
 
 #[test]
 fn values_of_a_workflow_may_fail(rt: HostRuntime) -> Result<(), Fail> {
-    assert_eq!(rt; first_mistake(rt.alloc(), VALUES)?.as_str(), "");
+    assert_eq!(rt; first_mistake(&rt, rt.alloc(), VALUES)?.as_str(), "");
     Ok(())
 }

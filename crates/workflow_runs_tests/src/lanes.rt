@@ -1,6 +1,8 @@
 use report_text::number_of;
 use std::alloc::Global;
+use std::sync::Wait;
 use std::test::Fail;
+use std::thread::Threads;
 use workflow_cases::{Case, Outcome, read_case, run_case, shown};
 
 /// A document of scatters in one another.
@@ -96,28 +98,35 @@ fn case_of(alloc: Global, document: &[u8], more: &str) -> Result<Case, Fail> {
     Ok(case)
 }
 
-fn lanes(alloc: Global, more: &str) -> Result<Outcome, Fail> {
-    run_case(alloc, case_of(alloc, LANES.as_bytes(), more)?)
+fn lanes<R: Threads + Wait + Sync + AllocGlobal>(rt: &R, more: &str) -> Result<Outcome, Fail> {
+    let alloc = rt.alloc();
+    run_case(rt, alloc, case_of(alloc, LANES.as_bytes(), more)?)
 }
 
 /// Whether the run, with these lines more, ends with that status and that error line.
-fn ends(alloc: Global, more: &str, status: u8, line: &str) -> Result<bool, Fail> {
-    let outcome = lanes(alloc, more)?;
+fn ends<R: Threads + Wait + Sync + AllocGlobal>(
+    rt: &R,
+    more: &str,
+    status: u8,
+    line: &str,
+) -> Result<bool, Fail> {
+    let outcome = lanes(rt, more)?;
     let is_said = str::from_utf8(outcome.err.bytes.as_slice())? == line;
     Ok(is_said && number_of(&outcome.ended.status) == status)
 }
 
 /// Whether the call of this place, where it is refused, ends the run.
-fn ends_at(alloc: Global, place: &str) -> Result<bool, Fail> {
+fn ends_at<R: Threads + Wait + Sync + AllocGlobal>(rt: &R, place: &str) -> Result<bool, Fail> {
+    let alloc = rt.alloc();
     let more = format!(in alloc; "refuse {place}")?;
     let line = format!(in alloc; "cannot launch {place}\n")?;
-    ends(alloc, more.as_str(), 9, line.as_str())
+    ends(rt, more.as_str(), 9, line.as_str())
 }
 
 #[test]
 fn forty_jobs_give_the_totals(rt: HostRuntime) -> Result<(), Fail> {
     let alloc = rt.alloc();
-    let outcome = lanes(alloc, "")?;
+    let outcome = lanes(&rt, "")?;
     assert_eq!(rt;
         str::from_utf8(outcome.out.bytes.as_slice())?,
         "{\"lanes.by_id\":{\"a\":18,\"b\":18,\"c\":18,\"d\":18},\"lanes.totals\":[18,18,18,18]}\n"
@@ -143,8 +152,8 @@ fn an_output_that_is_cut_has_status_6(rt: HostRuntime) -> Result<(), Fail> {
     let alloc = rt.alloc();
     for (room, held) in [("10", "{\"lanes.by"), ("0", "")] {
         let more = format!(in alloc; "room {room} 100")?;
-        assert!(rt; ends(alloc, more.as_str(), 6, "cannot write\n")?);
-        let outcome = lanes(alloc, more.as_str())?;
+        assert!(rt; ends(&rt, more.as_str(), 6, "cannot write\n")?);
+        let outcome = lanes(&rt, more.as_str())?;
         assert_eq!(rt; str::from_utf8(outcome.out.bytes.as_slice())?, held);
     }
     Ok(())
@@ -152,9 +161,8 @@ fn an_output_that_is_cut_has_status_6(rt: HostRuntime) -> Result<(), Fail> {
 
 #[test]
 fn a_read_that_fails_has_status_5(rt: HostRuntime) -> Result<(), Fail> {
-    let alloc = rt.alloc();
-    assert!(rt; ends(alloc, "lost 1", 5, "cannot read lanes.wdl\n")?);
-    assert!(rt; ends(alloc, "lost 2", 5, "cannot read i.json\n")?);
+    assert!(rt; ends(&rt, "lost 1", 5, "cannot read lanes.wdl\n")?);
+    assert!(rt; ends(&rt, "lost 2", 5, "cannot read i.json\n")?);
     Ok(())
 }
 
@@ -164,28 +172,31 @@ fn a_job_that_is_refused_has_status_9(rt: HostRuntime) -> Result<(), Fail> {
     for sample in 0..4 {
         for lane in 0..9 {
             let place = format!(in alloc; "scatter-0/{sample}/scatter-0/{lane}/count")?;
-            assert!(rt; ends_at(alloc, place.as_str())?, "{sample} {lane}");
+            assert!(rt; ends_at(&rt, place.as_str())?, "{sample} {lane}");
         }
         let place = format!(in alloc; "scatter-0/{sample}/total")?;
-        assert!(rt; ends_at(alloc, place.as_str())?, "{sample}");
+        assert!(rt; ends_at(&rt, place.as_str())?, "{sample}");
     }
     Ok(())
 }
 
 /// What is seen of the run of another document.
-fn seen_of(alloc: Global, document: &[u8]) -> Result<String, Fail> {
-    shown(alloc, case_of(alloc, document, "")?)
+fn seen_of<R: Threads + Wait + Sync + AllocGlobal>(
+    rt: &R,
+    document: &[u8],
+) -> Result<String, Fail> {
+    let alloc = rt.alloc();
+    shown(rt, alloc, case_of(alloc, document, "")?)
 }
 
 #[test]
 fn a_front_of_the_document_is_refused(rt: HostRuntime) -> Result<(), Fail> {
-    let alloc = rt.alloc();
     let whole = LANES.strip_suffix('\n').unwrap_or("").as_bytes();
     for length in 0..whole.len() {
-        let seen = seen_of(alloc, &whole[..length])?;
+        let seen = seen_of(&rt, &whole[..length])?;
         assert!(rt; seen.as_str().starts_with("3 0\n! lanes.wdl:"), "{length}");
     }
-    let seen = seen_of(alloc, whole)?;
+    let seen = seen_of(&rt, whole)?;
     assert!(rt; seen.as_str().starts_with("0 40 "));
     Ok(())
 }

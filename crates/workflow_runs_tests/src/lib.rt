@@ -7,3 +7,5 @@ mod calls;
 mod ends;
 #[cfg(test)]
 mod lanes;
+#[cfg(test)]
+mod resume;

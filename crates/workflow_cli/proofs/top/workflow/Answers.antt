@@ -3,6 +3,7 @@ use Rattle.report_text.specs.declared.status.Status.TheVariants as status
 use Rattle.workflow_cli.proofs.Outcomes as told
 use Rattle.workflow_cli.proofs.Outcomes.{outcome}
 use Rattle.workflow_cli.proofs.Completes as complete
+use Rattle.workflow_cli.proofs.Opened.{started_on}
 use Rattle.workflow_cli.proofs.top.workflow.Goals as goal
 
 pub returns-clause-ok : goal.returns-clause-ok
@@ -35,8 +36,11 @@ returns-clause-too_many g c e = (told.line_told _ _ _ _ _ _ _ _ _ _ _ _ _ _ (out
 pub returns-clause-not_built : goal.returns-clause-not_built
 returns-clause-not_built g c e = (told.line_told _ _ _ _ _ _ _ _ _ _ _ _ _ _ (outcome _ _ _ _ _ _ _ _ _ _ _ _ _ c.work-work.result.work _ c.work-work.ensures.cause.cause c.finish-status.ensures.value) status.NotBuilt refl e).cause
 
-pub returns-clause-built : goal.returns-clause-built
-returns-clause-built g c = told.built _ _ _ _ _ _ _ _ _ _ _ _ _ _ (outcome _ _ _ _ _ _ _ _ _ _ _ _ _ c.work-work.result.work _ c.work-work.ensures.cause.cause c.finish-status.ensures.value)
+pub returns-clause-keep : goal.returns-clause-keep
+returns-clause-keep g c e = (told.line_told _ _ _ _ _ _ _ _ _ _ _ _ _ _ (outcome _ _ _ _ _ _ _ _ _ _ _ _ _ c.work-work.result.work _ c.work-work.ensures.cause.cause c.finish-status.ensures.value) status.Keep refl e).cause
+
+pub returns-clause-started : goal.returns-clause-started
+returns-clause-started g c = started_on _ _ _ _ _ _ _ _ _ _ _ _ _ _ (outcome _ _ _ _ _ _ _ _ _ _ _ _ _ c.work-work.result.work _ c.work-work.ensures.cause.cause c.finish-status.ensures.value) c.work-work.ensures.cause.run
 
 pub returns-clause-lines : goal.returns-clause-lines
 returns-clause-lines g c = told.lines _ _ _ _ _ _ _ _ _ _ _ _ _ _ (outcome _ _ _ _ _ _ _ _ _ _ _ _ _ c.work-work.result.work _ c.work-work.ensures.cause.cause c.finish-status.ensures.value)

@@ -1,18 +1,25 @@
 use Rattle.std.proofs.Common.{refl}
-use Rattle.workflow_cli.proofs.Works.{check_is_work, cwl_is_work, run_is_work}
+use Rattle.workflow_cli.proofs.Works.{check_is_work, cwl_is_work, run_is_work, uses_journal}
 use Rattle.workflow_cli.proofs.work.work.Goals as goal
 
 pub returns-in-Ok-Run-clause-cause : goal.returns-in-Ok-Run-clause-cause
 returns-in-Ok-Run-clause-cause g c =
     let asked = rw c.in-Ok-Run.field-0-is at c.in-Ok-Run.ensures.value in
-    run_is_work _ _ _ _ _ _ _ _ _ asked _ _ _ c.run.ensures.value
+    run_is_work _ _ _ _ _ _ _ _ _ _ asked _ c.run.ensures.value
 
 pub returns-in-Ok-Check-clause-cause : goal.returns-in-Ok-Check-clause-cause
 returns-in-Ok-Check-clause-cause g c =
     let asked = rw c.in-Ok-Check.field-0-is at c.in-Ok-Check.ensures.value in
-    rw c.idle.ensures.work (check_is_work _ _ _ _ _ _ _ (record { no_answer = c.idle.ensures.journal; no_job = c.idle.ensures.steps; no_step = refl }) _ asked c.accepted.result c.accepted.ensures.value)
+    let i = c.idle.ensures in
+    rw i.work (check_is_work _ _ _ _ _ _ _ (record { no_answer = i.journal; no_job = i.steps; no_count = i.counts; no_step = refl; no_row = refl }) _ asked c.accepted.result c.accepted.ensures.value)
 
 pub returns-in-Ok-Cwl-clause-cause : goal.returns-in-Ok-Cwl-clause-cause
 returns-in-Ok-Cwl-clause-cause g c =
     let asked = rw c.in-Ok-Cwl.field-0-is at c.in-Ok-Cwl.ensures.value in
-    rw c.idle-in-Ok-Cwl.ensures.work (cwl_is_work _ _ _ _ _ _ _ (record { no_answer = c.idle-in-Ok-Cwl.ensures.journal; no_job = c.idle-in-Ok-Cwl.ensures.steps; no_step = refl }) _ _ asked c.cwl.result c.cwl.ensures.value)
+    let i = c.idle-in-Ok-Cwl.ensures in
+    rw i.work (cwl_is_work _ _ _ _ _ _ _ (record { no_answer = i.journal; no_job = i.steps; no_count = i.counts; no_step = refl; no_row = refl }) _ _ asked c.cwl.result c.cwl.ensures.value)
+
+pub returns-in-Ok-Run-clause-keeper : goal.returns-in-Ok-Run-clause-keeper
+returns-in-Ok-Run-clause-keeper g c =
+    let asked = rw c.in-Ok-Run.field-0-is at c.in-Ok-Run.ensures.value in
+    uses_journal _ _ _ _ _ _ asked c.run.ensures.keeper

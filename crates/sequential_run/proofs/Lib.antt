@@ -1,4 +1,0 @@
-mod MarkLemmas
-mod LogLemmas
-mod Counted
-mod RoundLaws

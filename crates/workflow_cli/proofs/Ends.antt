@@ -1,0 +1,74 @@
+-- From the work of the main workflow to the cause of its status.
+use Rattle.std.proofs.Common.{◌≡◌, inl, inr, ℕ, List, [], Option, Some, None, sym, subst, refl}
+use Rattle.wdl_base.specs.declared.answer.Answer.{Answer}
+use Rattle.wdl_base.specs.declared.request.Request.{Request}
+use Rattle.report_text.specs.declared.status.Status.{Status}
+use Rattle.report_text.specs.declared.status.Status.TheVariants as status
+use Rattle.work_desk.specs.declared.stop.Stop.{Stop}
+use Rattle.work_desk.specs.declared.stop.Stop.TheVariants as end
+use Rattle.workflow_cli.specs.declared.ended.Work.{Work}
+use Rattle.workflow_cli.specs.Asking.{Words}
+use Rattle.workflow_cli.specs.Causes.{Cause, CauseOf, IsWork}
+use Rattle.workflow_cli.specs.Documents.{Tells}
+use Rattle.workflow_cli.specs.Running.{IsRun, IsStarted, IsUnkept, KeepsRows, Main, Trace, core_of}
+use Rattle.workflow_cli.specs.Stages.{IsFailedAs, RunsMain, StopsAs, Turns}
+
+module _ (tells : Tells) (refused : List ℕ → Type 0) (rose : Type 0) (gives : Request → Answer → Type 0) (refuses : Request → Type 0) (words : Words) (t : Trace) where
+  abbrev Comes : Work → Type 0
+  Comes = Cause tells refused rose gives refuses words t
+
+  abbrev Said : Status → Type 0
+  Said s = CauseOf tells refused rose gives refuses words t s []
+
+  abbrev Runs : Main → Option Stop → Type 0
+  Runs = IsRun tells words gives refuses t
+
+  -- the keeper stopped the run, so there is one
+  kept : (m : Main) (run : Runs m (Some end.Keep)) → IsUnkept tells words gives refuses t
+  kept m run = by_journal m.options.journal refl run.left.kept
+    where
+      by_journal : (j : Option (List ℕ)) → m.options.journal ≡ j → KeepsRows gives (core_of m t run.left.taken run.left.out) (Some end.Keep) j t.keeper t.keeper_now
+          → IsUnkept tells words gives refuses t
+      by_journal None e h = absurd (h.1 refl)
+      by_journal (Some path) e h = record { main = m; started = run.started; path = path; named = e; opened = h.path; counted = h.keep refl; ran = inr run }
+
+  after_fault : (m : Main) (run : Runs m (Some end.Failed)) (s : Status) → IsFailedAs (core_of m t run.left.taken run.left.out) s → Said s
+  after_fault m run (status.Failed fault) h = record { main = m; run = run; is_fault = h }
+  after_fault m run status.TooMany h = record { main = m; why = Some end.Failed; strict = refl; run = run; many = h }
+  after_fault m run status.NoMemory h = tt
+  after_fault m run status.Ok h = absurd h
+  after_fault m run status.Usage h = absurd h
+  after_fault m run (status.Document code span) h = absurd h
+  after_fault m run (status.Inputs code name) h = absurd h
+  after_fault m run (status.Read path) h = absurd h
+  after_fault m run status.Write h = absurd h
+  after_fault m run (status.NotInSubset rule span) h = absurd h
+  after_fault m run (status.Launch place) h = absurd h
+  after_fault m run status.Keep h = absurd h
+  after_fault m run status.NotBuilt h = absurd h
+
+  -- the status of a stop
+  stop_said : (m : Main) (why : Stop) (run : Runs m (Some why)) (s : Status) → StopsAs (core_of m t run.left.taken run.left.out) why s → Said s
+  stop_said m end.Failed run s h = after_fault m run s h
+  stop_said m end.NoMemory run s h = subst Said (sym h) tt
+  stop_said m (end.Launch place) run s h =
+      let c = run.left.run.caused in
+      subst Said (sym h) (record { main = m; run = run; job = c.0; was_taken = c.1; at_place = c.2; refused = c.3; is_job = c.4 })
+  stop_said m end.Keep run s h = subst Said (sym h) (kept m run)
+  stop_said m end.TooMany run s h = subst Said (sym h) (record { main = m; why = Some end.TooMany; strict = refl; run = run; many = run.left.run.caused })
+
+  run_comes : (m : Main) (why : Option Stop) (run : Runs m why) (w : Work) → Turns m.flow.name (core_of m t run.left.taken run.left.out) why w → Comes w
+  run_comes m None run w (inl e) =
+      let d = run.left.run.clean refl in subst Comes (sym e) (inl (record { main = m; run = run; few = d.few; clean = d.clean; outputs = refl }))
+  run_comes m None run w (inr e) = subst Comes (sym e) tt
+  run_comes m (Some why) run w (s, e, h) = subst Comes (sym e) (stop_said m why run s h)
+
+  -- the work of the main workflow that was started
+  pub main_is_work : (m : Main) → IsStarted tells words m → (w : Work) → RunsMain gives refuses t m w → IsWork tells refused rose gives refuses words t w
+  main_is_work m started w (inl (idle, e)) = record { run = inl idle; cause = subst Comes (sym e) tt }
+  main_is_work m started w (inr (inl (h, e))) = record {
+    run = inl h.idle;
+    cause = subst Comes (sym e) (record { main = m; started = started; path = h.path; named = h.named; opened = h.opened; counted = h.counted; ran = inl h.idle });
+  }
+  main_is_work m started w (inr (inr h)) =
+      let run : Runs m h.why = record { started = started; left = h.left } in record { run = inr (record { main = m; why = h.why; run = run }); cause = run_comes m h.why run w h.turns }

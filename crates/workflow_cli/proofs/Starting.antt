@@ -1,0 +1,44 @@
+-- A run that begins.
+use Rattle.std.proofs.Common.{◌≡◌, true, ℕ, List, [], Some, IsSome, slice_get, ap, sym, subst, ◌∙◌}
+use Rattle.wdl_value.specs.declared.env.Bind.{Bind}
+use Rattle.wdl_typed.specs.declared.checked.Checked.{Checked}
+use Rattle.wdl_typed.specs.declared.flow.FlowDef.{FlowDef}
+use Rattle.wdl_typed.specs.Journal.{inputs_fit}
+use Rattle.wdl_json.specs.Inputs.{main_of}
+use Rattle.ready_core.specs.Cores.{CoreState, started}
+use Rattle.report_text.specs.declared.status.Status.{Status}
+use Rattle.work_desk.specs.declared.stop.Stop.{Stop as Why}
+use Rattle.workflow_cli.specs.declared.ended.Stop.{Stop}
+use Rattle.workflow_cli.specs.declared.ended.Work.{Work}
+use Rattle.workflow_cli.specs.declared.ended.Work.TheVariants as work
+use Rattle.workflow_cli.specs.Stages.{IsBegun, IsFitting, StopsAs, Turns, stops}
+use Rattle.workflow_cli.proofs.Started.{has_number, is_numbered}
+
+some_same : {A : Type 0} {x y : A} → Some x ≡ Some y → x ≡ y
+some_same e = cc
+
+module _ (c : Checked) (given : List Bind) where
+  pub has_main : (f : FlowDef) × IsFitting c given f → IsSome c.main
+  has_main h = let n = has_number c.flows c.main h.0 h.1.main in is_numbered c.main n.0 n.1
+
+  pub fits_main : (f : FlowDef) × IsFitting c given f → (k : ℕ) (main : FlowDef) → c.main ≡ Some k → slice_get c.flows k ≡ Some main
+      → inputs_fit c.structs main.inputs given ≡ true
+  fits_main h k main e s =
+      let same : Some h.0 ≡ Some main = sym h.1.main ∙ ap (main_of c.flows) e ∙ s in
+      subst (λ (x : FlowDef). inputs_fit c.structs x.inputs given ≡ true) (some_same same) h.1.fit
+
+  pub begun_is : (site : List ℕ) (main : FlowDef) (core : CoreState) (name : List ℕ) → main_of c.flows c.main ≡ Some main
+      → core ≡ started (record { checked = c; inputs = given; site = site }) → name ≡ main.name
+      → (f : FlowDef) → IsFitting c given f → IsBegun c given site f (record { core = core; name = name })
+  begun_is site main core name m e n f fit = record { core = e; name = n ∙ ap (λ (x : FlowDef). x.name) (some_same (sym m ∙ fit.main)) }
+
+-- the work of a stop that names no document
+pub stop_is : (st : Stop) (s : Status) → st.status ≡ s → st.paths ≡ [] → work.Stop st ≡ stops s
+stop_is st s e p = ap (λ x. make x st.paths) e ∙ ap (make s) p
+  where
+    make : Status → List (List ℕ) → Work
+    make x ps = work.Stop (record { status = x; paths = ps })
+
+pub stop_turns : (name : List ℕ) (core : CoreState) (why : Why) (st : Stop) (s : Status) → st.status ≡ s → st.paths ≡ [] → StopsAs core why s
+    → Turns name core (Some why) (work.Stop st)
+stop_turns name core why st s e p h = (s, stop_is st s e p, h)
