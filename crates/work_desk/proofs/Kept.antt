@@ -34,7 +34,7 @@ use Rattle.ready_core.specs.Cores.{AreHeld, CoreState, Origin, Settles, Takes, i
 use Rattle.ready_core.specs.Rows.{TakenJob, is_usable, kept_as}
 use Rattle.work_desk.specs.declared.stop.Stop.{Stop}
 use Rattle.work_desk.specs.declared.stop.Stop.TheVariants.{Failed, NoMemory, Launch, Keep, TooMany}
-use Rattle.work_desk.specs.Keeping.{AreFrom, AreKept, AreLeft, ArePlaced, Holding, IsReady, KeeperView, RowsWent, Went}
+use Rattle.work_desk.specs.Keeping.{AreFrom, AreKept, AreLeft, ArePlaced, Holding, IsReady, KeeperView, RowsWent, Went, WentSo}
 use Rattle.work_desk.specs.Run.{Tells}
 use Rattle.work_desk.specs.Settling.{Settling}
 use Rattle.work_desk.specs.Stops.{Judges, NotKeep, halted}
@@ -444,3 +444,11 @@ went_tells g f h l c s k m t w =
         journal = r.journal;
       };
     }
+
+pub in_one_word : (gives : Request → Answer → Type 0) (c : CoreState) (s : Option Stop) (k l : KeeperView) → Went gives c s k l → WentSo gives c s k l
+unfolding WentSo
+in_one_word gives c s k l w = w
+
+pub in_full : (gives : Request → Answer → Type 0) (c : CoreState) (s : Option Stop) (k l : KeeperView) → WentSo gives c s k l → Went gives c s k l
+unfolding WentSo
+in_full gives c s k l w = w

@@ -60,6 +60,10 @@ pub record Went (gives : Request → Answer → Type 0) (c : CoreState) (stop : 
   pub told : is_some l.kept ≡ is_some k.kept
   pub rows : (before after : List Entry) → k.kept ≡ Some before → l.kept ≡ Some after → RowsWent gives c ((stop ≡ None) ⊎ ¬ (Rose k.faults l.faults)) before after
 
+-- the same in one word, for calls that only hand it on
+unfoldable pub WentSo : (Request → Answer → Type 0) → CoreState → Option Stop → KeeperView → KeeperView → Type 0
+WentSo gives c stop k l = Went gives c stop k l
+
 -- A keeper all along a run of rows that were its own.
 pub record Holding (gives : Request → Answer → Type 0) (rows : List Entry) (k : KeeperView) (c : CoreState) (stop : Option Stop) (l : KeeperView) : Type 0 where
   pub ready : IsReady rows k

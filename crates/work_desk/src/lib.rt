@@ -4,6 +4,7 @@
 
 mod caller;
 mod desk;
+mod lent;
 mod pact;
 mod placed;
 mod rows;

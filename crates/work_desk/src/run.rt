@@ -3,7 +3,7 @@ ghost use Rattle.std.proofs.Common.{inl, inr};
 ghost use Rattle.wdl_port.specs.Rows.{rises, are_kept};
 ghost use Rattle.ready_core.specs.Cores.{started};
 ghost use Rattle.work_desk.specs.Held.{held};
-ghost use Rattle.work_desk.specs.Keeping.{ArePlaced, IsReady, Went, keeper_view};
+ghost use Rattle.work_desk.specs.Keeping.{ArePlaced, IsReady, Went, WentSo, keeper_view};
 ghost use Rattle.work_desk.specs.Ran.{HasRun};
 ghost use Rattle.work_desk.specs.Run.{Tells};
 ghost use Rattle.work_desk.specs.Views.{AllEqual};
@@ -11,6 +11,7 @@ ghost use Rattle.work_desk.specs.declared.stop.Stop.TheVariants as stop;
 
 use crate::caller::Caller;
 use crate::desk::{Desk, Opened};
+use crate::lent::{Counter, Lent};
 use crate::pact::{Pact, Shares};
 use crate::rows::Rows;
 use crate::stop::{Stop, judge};
@@ -53,7 +54,7 @@ fn unstarted(core: Core) -> Ran
 }
 
 /// The caller's part of a run, from its beginning to its end.
-fn conduct<P: Pact, L: Launcher, K: Keeper, S: Ledger, R: Wait>(
+fn conduct<P: Pact, L: Launcher, K: Keeper, S: Ledger, C: Counter<S> + Drop, R: Wait>(
     rt: &R,
     alloc: Global,
     desk: &Desk<P>,
@@ -64,7 +65,7 @@ fn conduct<P: Pact, L: Launcher, K: Keeper, S: Ledger, R: Wait>(
     keeper: &mut K,
     core: Core,
     shares: Shares<P>,
-    steps: &mut Steps<S>,
+    counter: C,
 ) -> Ran
     requires core { core ≡ started core.origin }
     requires shares { shares ≡ held 0 0 }
@@ -75,8 +76,9 @@ fn conduct<P: Pact, L: Launcher, K: Keeper, S: Ledger, R: Wait>(
     requires placed { ArePlaced rows.now }
     ensures run { HasRun workers (L.gives launcher.now) (L.refuses launcher.now) rows.now result.core result.stop result.counts }
     ensures origin { result.core.origin ≡ core.origin }
-    ensures keeper { Went (L.gives launcher.now) result.core result.stop (keeper_view (K.kept keeper.old) (K.path keeper.old) (K.faults keeper.old)) (keeper_view (K.kept keeper.new) (K.path keeper.new) (K.faults keeper.new)) }
+    ensures keeper { WentSo (L.gives launcher.now) result.core result.stop (keeper_view (K.kept keeper.old) (K.path keeper.old) (K.faults keeper.old)) (keeper_view (K.kept keeper.new) (K.path keeper.new) (K.faults keeper.new)) }
 {
+    let mut counter = counter;
     let mut caller = Caller {
         core,
         shares,
@@ -84,7 +86,15 @@ fn conduct<P: Pact, L: Launcher, K: Keeper, S: Ledger, R: Wait>(
     };
     judge(&mut caller.stop, &caller.core);
     caller.drive(
-        rt, alloc, desk, launcher, rows, workers, alone, keeper, steps,
+        rt,
+        alloc,
+        desk,
+        launcher,
+        rows,
+        workers,
+        alone,
+        keeper,
+        counter.steps(),
     );
     desk.close(rt);
     let counts = desk.counts(rt, &mut caller.shares);
@@ -98,11 +108,11 @@ fn conduct<P: Pact, L: Launcher, K: Keeper, S: Ledger, R: Wait>(
 /// Starts the workers, and conducts the run.
 fn in_threads<
     'k,
-    's,
     P: Pact + Send + Sync,
     L: Launcher + Sync,
     K: Keeper,
     S: Ledger,
+    C: Counter<S> + Drop,
     R: Threads + Wait + Sync,
 >(
     rt: &R,
@@ -114,7 +124,7 @@ fn in_threads<
     workers: u32,
     core: Core,
     shares: Shares<P>,
-    steps: &'s mut Steps<S>,
+    counter: C,
 ) -> Ran
     requires core { core ≡ started core.origin }
     requires shares { shares ≡ held 0 0 }
@@ -125,18 +135,18 @@ fn in_threads<
     requires placed { ArePlaced rows.now }
     ensures run { HasRun workers (L.gives launcher.now) (L.refuses launcher.now) rows.now result.core result.stop result.counts }
     ensures origin { result.core.origin ≡ core.origin }
-    ensures keeper { Went (L.gives launcher.now) result.core result.stop (keeper_view (K.kept keeper.old) (K.path keeper.old) (K.faults keeper.old)) (keeper_view (K.kept keeper.new) (K.path keeper.new) (K.faults keeper.new)) }
+    ensures keeper { WentSo (L.gives launcher.now) result.core result.stop (keeper_view (K.kept keeper.old) (K.path keeper.old) (K.faults keeper.old)) (keeper_view (K.kept keeper.new) (K.path keeper.new) (K.faults keeper.new)) }
 {
-    let (ran, _keeper, _steps) = thread::scope(
+    let (ran, _keeper) = thread::scope(
         thread::scope_env(),
         rt,
-        move |scope| -> (Ran, &mut K, &mut Steps<S>)
+        move |scope| -> (Ran, &mut K)
             requires { (core ≡ started core.origin) × (shares ≡ held 0 0) × (workers ≡ P.workers) × (0 < workers)
                 × Tells (L.gives launcher.now) (L.refuses launcher.now) P.gives P.refuses
                 × Tells P.gives P.refuses (L.gives launcher.now) (L.refuses launcher.now)
                 × IsReady rows.now (keeper_view (K.kept keeper.now) (K.path keeper.now) (K.faults keeper.now)) × ArePlaced rows.now }
             ensures { HasRun workers (L.gives launcher.entry.now) (L.refuses launcher.entry.now) rows.entry.now result.0.core result.0.stop result.0.counts × (result.0.core.origin ≡ core.origin)
-                × Went (L.gives launcher.entry.now) result.0.core result.0.stop (keeper_view (K.kept keeper.entry.now) (K.path keeper.entry.now) (K.faults keeper.entry.now)) (keeper_view (K.kept result.1.now) (K.path result.1.now) (K.faults result.1.now)) × (result.1.ghost_name ≡ keeper.entry.ghost_name) × (result.2.ghost_name ≡ steps.entry.ghost_name) }
+                × WentSo (L.gives launcher.entry.now) result.0.core result.0.stop (keeper_view (K.kept keeper.entry.now) (K.path keeper.entry.now) (K.faults keeper.entry.now)) (keeper_view (K.kept result.1.now) (K.path result.1.now) (K.faults result.1.now)) × (result.1.ghost_name ≡ keeper.entry.ghost_name) }
         {
             let mut alone = true;
             for _ in 0..workers {
@@ -147,7 +157,7 @@ fn in_threads<
                     alone = false;
                 }
             }
-            let ran = conduct(
+            let ran = conduct::<P, L, K, S, C, R>(
                 rt,
                 alloc,
                 desk,
@@ -158,9 +168,9 @@ fn in_threads<
                 &mut *keeper,
                 core,
                 shares,
-                &mut *steps,
+                counter,
             );
-            (ran, keeper, steps)
+            (ran, keeper)
         },
     );
     ran
@@ -196,13 +206,14 @@ fn run_with<
     requires placed { ArePlaced rows.now }
     ensures run { HasRun workers (L.gives launcher.now) (L.refuses launcher.now) rows.now result.core result.stop result.counts }
     ensures origin { result.core.origin ≡ core.origin }
-    ensures keeper { Went (L.gives launcher.now) result.core result.stop (keeper_view (K.kept keeper.old) (K.path keeper.old) (K.faults keeper.old)) (keeper_view (K.kept keeper.new) (K.path keeper.new) (K.faults keeper.new)) }
+    ensures keeper { WentSo (L.gives launcher.now) result.core result.stop (keeper_view (K.kept keeper.old) (K.path keeper.old) (K.faults keeper.old)) (keeper_view (K.kept keeper.new) (K.path keeper.new) (K.faults keeper.new)) }
 {
     let Ok(Opened { desk, shares }) = Desk::<P>::new(alloc, workers, put, collected) else {
         return unstarted(core);
     };
-    in_threads(
-        rt, alloc, &desk, launcher, keeper, rows, workers, core, shares, steps,
+    let counter = Lent { steps: &mut *steps };
+    in_threads::<P, L, K, S, Lent<S>, R>(
+        rt, alloc, &desk, launcher, keeper, rows, workers, core, shares, counter,
     )
 }
 

@@ -3,7 +3,7 @@ use Rattle.std.specs.Prelude.{None}
 use Rattle.ready_core.specs.Cores.{CoreState}
 use Rattle.work_desk.specs.Keeping.{Holding, keeper_view}
 use Rattle.work_desk.specs.Stops.{Judges}
-use Rattle.work_desk.proofs.Kept.{hold_started, went_tells}
+use Rattle.work_desk.proofs.Kept.{hold_started, in_one_word, went_tells}
 use Rattle.work_desk.proofs.run.conduct.Goals as goal
 
 pub returns-clause-keeper : goal.returns-clause-keeper
@@ -17,4 +17,7 @@ returns-clause-keeper g c =
     let judged = subst (λ (x : CoreState). Judges x None stop) c.requires.core c.judge.ensures.judged in
     let begun = hold_started p.gives rows before c.args.core.origin stop c.requires.ready c.requires.placed judged in
     let ended = c.drive.ensures.holds before (subst (λ (x : CoreState). Holding p.gives rows before x stop before) (sym c.requires.core) begun) in
-    went_tells p.gives p.refuses (l.gives c.args.launcher.now) (l.refuses c.args.launcher.now) c.drive.new.self.core c.drive.new.self.stop before _ c.requires.back ended.went
+    let gives = l.gives c.args.launcher.now in
+    let self = c.drive.new.self in
+    let after = keeper_view (k.kept c.drive.new.keeper) (k.path c.drive.new.keeper) (k.faults c.drive.new.keeper) in
+    in_one_word gives self.core self.stop before after (went_tells p.gives p.refuses gives (l.refuses c.args.launcher.now) self.core self.stop before after c.requires.back ended.went)
