@@ -37,6 +37,17 @@ rt.Crate.cuts_libraries = True
 rt.Crate.allowed = rt.handles_of(root)
 rt.rtlib.Crate = rt.Crate
 rt.rtlib.guarded()
+stamps, stamp = {}, rt.Crate.stamp
+
+
+def stamp_once(crate):
+    """The sum of a crate's sources and of those below it, found once: the sources may not change during a run."""
+    if crate.folder not in stamps:
+        stamps[crate.folder] = stamp(crate)
+    return stamps[crate.folder]
+
+
+rt.Crate.stamp = stamp_once
 crates = sorted(rt.rtlib.crates_below(root), key=lambda it: len(it.below()))
 by_name = {it.name: it for it in crates}
 printing = threading.Lock()
