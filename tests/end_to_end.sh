@@ -313,6 +313,7 @@ script() {
 }
 script program
 script moving
+script workers
 script cwl
 grep '^cwltool' out
 script journal
