@@ -281,6 +281,9 @@ pub fn run_all<'a, L: Launcher + Sync, K: Keeper, S: Ledger, R: Threads + Wait +
 {
     match keeper {
         Some(keeper) => run_kept(rt, alloc, core, launcher, keeper, rows, workers, steps),
-        None => run_kept(rt, alloc, core, launcher, &mut Unkept, rows, workers, steps),
+        None => {
+            let mut unkept = Unkept::started(alloc);
+            run_kept(rt, alloc, core, launcher, &mut unkept, rows, workers, steps)
+        }
     }
 }

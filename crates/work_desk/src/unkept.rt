@@ -3,20 +3,34 @@ ghost use Rattle.std.specs.Prelude.{◌≡◌, [], ⊤, Some, None};
 use sqlite_items::Items;
 use std::alloc::Global;
 use wdl_port::{KeepFault, Keeper};
-use wdl_value::Entry;
+use wdl_value::{Entry, Text};
 
 /// The keeper of a run whose journal is not kept: it tells nothing, and never fails.
 #[derive(Drop)]
-pub(crate) struct Unkept;
+pub(crate) struct Unkept {
+    path: Option<Text>,
+}
+
+impl Unkept {
+    /// Such a keeper, started on the empty path. It takes no memory.
+    pub(crate) fn started(alloc: Global) -> Unkept
+        ensures path { result.path ≡ Some [] }
+    {
+        Unkept {
+            path: Some(Text::empty(alloc)),
+        }
+    }
+}
 
 impl Keeper for Unkept {
     ghost kept = { λ s. None };
 
-    ghost path = { λ s. Some [] };
+    ghost path = { λ s. s.path };
 
     ghost faults = { λ s. 0 };
 
-    fn start(&mut self, _alloc: Global, _at: &str) -> Result<(), KeepFault> {
+    fn start(&mut self, alloc: Global, at: &str) -> Result<(), KeepFault> {
+        self.path = Some(Text::from_plain(alloc, at)?);
         Ok(())
     }
 
