@@ -4,6 +4,7 @@ mod Outcomes
 mod Excluded
 mod Completes
 mod Paths
+mod Counts
 mod Joined
 mod Given
 mod Forms

@@ -2,6 +2,7 @@ pub mod Asking
 pub mod Documents
 pub mod Running
 pub mod Causes
+pub mod Counting
 pub mod Stages
 pub mod Translating
 pub mod Meaning

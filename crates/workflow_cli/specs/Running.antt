@@ -48,6 +48,10 @@ abbrev pub trace_of : Ended → ℕ → ℕ → KeeperView → KeeperView → Tr
 trace_of e before now k l =
     record { journal = e.journal; steps = e.steps; counts = e.counts; before = before; now = now; keeper = k; keeper_now = l }
 
+-- the same of a keeper that is seen by these
+abbrev pub trace_by : {K : Type 0} → (K → Option (List Entry)) → (K → Option (List ℕ)) → (K → ℕ) → Ended → ℕ → ℕ → K → K → Trace
+trace_by kept path faults e before now k l = trace_of e before now (keeper_view (kept k) (path k) (faults k)) (keeper_view (kept l) (path l) (faults l))
+
 abbrev pub work_trace : Worked → ℕ → ℕ → KeeperView → KeeperView → Trace
 work_trace w before now k l =
     record { journal = w.journal; steps = w.steps; counts = w.counts; before = before; now = now; keeper = k; keeper_now = l }

@@ -3,6 +3,7 @@
 ghost use Rattle.std.specs.Prelude.{◌≡◌, ◌≤◌, ◌↔◌, ◌<◌, ℕ, List, [], IfOk, IfErr, length, Some, slice_get};
 ghost use Rattle.report_text.specs.Lines.{HasPath};
 ghost use Rattle.wdl_port.specs.Causes.{Rose};
+ghost use Rattle.workflow_cli.specs.Counting.{StopCounts};
 ghost use Rattle.workflow_cli.specs.Documents as spec;
 ghost use Rattle.workflow_cli.specs.Documents.{Checks, Gathers, Locates, LocatesIn, Types, paths_of};
 
@@ -65,6 +66,7 @@ fn refused(alloc: Global, code: u16, path: Text, span: Span) -> Stop
 /// The library of the document at a path.
 fn gathered<F: Shelf>(alloc: Global, file: &Text, shelf: &mut F) -> Result<Library, Stop>
     ensures outcome { Gathers (F.tells shelf.old) file.now (F.refuses shelf.old) (Rose (F.faults shelf.old) (F.faults shelf.new)) result }
+    ensures counted { StopCounts result (F.faults shelf.old) (F.faults shelf.new) }
     ensures paths { IfErr result (λ s. HasPath s.status s.paths) }
     ensures later { F.faults shelf.old ≤ F.faults shelf.new }
     ensures same_files { (p : List ℕ) → F.tells shelf.new p ≡ F.tells shelf.old p }
@@ -134,6 +136,7 @@ fn located_in(alloc: Global, library: &Library) -> Result<Located, Stop>
 /// The checked form of the document at a path, and the paths of the documents that it imports.
 pub fn located_of<F: Shelf>(alloc: Global, file: &Text, shelf: &mut F) -> Result<Located, Stop>
     ensures outcome { Locates (F.tells shelf.old) file.now (F.refuses shelf.old) (Rose (F.faults shelf.old) (F.faults shelf.new)) result }
+    ensures counted { StopCounts result (F.faults shelf.old) (F.faults shelf.new) }
     ensures paths { IfErr result (λ s. HasPath s.status s.paths) }
     ensures later { F.faults shelf.old ≤ F.faults shelf.new }
     ensures same_files { (p : List ℕ) → F.tells shelf.new p ≡ F.tells shelf.old p }
@@ -148,6 +151,7 @@ pub fn located_of<F: Shelf>(alloc: Global, file: &Text, shelf: &mut F) -> Result
 /// The checked form of the document at a path, with its imports.
 pub fn checked_of<F: Shelf>(alloc: Global, file: &Text, shelf: &mut F) -> Result<Checked, Stop>
     ensures outcome { Checks (F.tells shelf.old) file.now (F.refuses shelf.old) (Rose (F.faults shelf.old) (F.faults shelf.new)) result }
+    ensures counted { StopCounts result (F.faults shelf.old) (F.faults shelf.new) }
     ensures paths { IfErr result (λ s. HasPath s.status s.paths) }
     ensures later { F.faults shelf.old ≤ F.faults shelf.new }
     ensures same_files { (p : List ℕ) → F.tells shelf.new p ≡ F.tells shelf.old p }

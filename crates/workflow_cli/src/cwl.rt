@@ -4,6 +4,7 @@ ghost use Rattle.std.specs.Prelude.{◌≡◌, ◌++◌, Some, IfOk, IfErr, IsSo
 ghost use Rattle.report_text.specs.Lines.{HasPath};
 ghost use Rattle.wdl_port.specs.Causes.{Rose};
 ghost use Rattle.cwl_emit.specs.Objects.{object_text as text_of_object};
+ghost use Rattle.workflow_cli.specs.Counting.{WorkCounts};
 ghost use Rattle.workflow_cli.specs.Translating as spec;
 ghost use Rattle.workflow_cli.specs.Writing.{HasPaths};
 
@@ -120,6 +121,7 @@ fn object_in(alloc: Global, prepared: Prepared) -> Work
 /// The CWL document of the main workflow of the document at a path.
 fn document<F: Shelf>(alloc: Global, file: &Text, shelf: &mut F) -> Work
     ensures value { spec.WritesDocument (F.tells shelf.old) (F.refuses shelf.old) (Rose (F.faults shelf.old) (F.faults shelf.new)) file.now result }
+    ensures counted { WorkCounts result (F.faults shelf.old) (F.faults shelf.new) }
     ensures paths { HasPaths result }
 {
     match main_of(alloc, file, shelf) {
@@ -131,6 +133,7 @@ fn document<F: Shelf>(alloc: Global, file: &Text, shelf: &mut F) -> Work
 /// The CWL input object of the inputs of a file, for the main workflow of the document at a path.
 fn object<F: Shelf>(alloc: Global, file: &Text, inputs: &Option<Text>, shelf: &mut F) -> Work
     ensures value { spec.WritesObject (F.tells shelf.old) (F.refuses shelf.old) (Rose (F.faults shelf.old) (F.faults shelf.new)) file.now inputs.now result }
+    ensures counted { WorkCounts result (F.faults shelf.old) (F.faults shelf.new) }
     ensures paths { HasPaths result }
 {
     match start_of(alloc, file, inputs, shelf) {
@@ -143,6 +146,7 @@ fn object<F: Shelf>(alloc: Global, file: &Text, inputs: &Option<Text>, shelf: &m
 /// object of these.
 pub fn cwl<F: Shelf>(alloc: Global, file: &Text, inputs: &Option<Text>, shelf: &mut F) -> Work
     ensures value { spec.Translates (F.tells shelf.old) (F.refuses shelf.old) (Rose (F.faults shelf.old) (F.faults shelf.new)) file.now inputs.now result }
+    ensures counted { WorkCounts result (F.faults shelf.old) (F.faults shelf.new) }
     ensures paths { HasPaths result }
 {
     match inputs {

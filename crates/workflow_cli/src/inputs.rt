@@ -5,6 +5,7 @@ ghost use Rattle.wdl_port.specs.Causes.{Rose};
 ghost use Rattle.wdl_typed.specs.declared.flow.FlowDef.{FlowDef as Flow};
 ghost use Rattle.wdl_typed.specs.Journal.{inputs_fit};
 ghost use Rattle.wdl_json.specs.Inputs.{main_of};
+ghost use Rattle.workflow_cli.specs.Counting.{ReadCounts};
 ghost use Rattle.workflow_cli.specs.Stages.{ReadsInputs, GivesInputs};
 
 use report_text::Status;
@@ -21,6 +22,7 @@ pub fn inputs_text<F: Shelf>(
     shelf: &mut F,
 ) -> Result<Items<u8>, Status>
     ensures value { ReadsInputs (F.tells shelf.old) (F.refuses shelf.old) (Rose (F.faults shelf.old) (F.faults shelf.new)) inputs.now result }
+    ensures counted { ReadCounts result (F.faults shelf.old) (F.faults shelf.new) }
 {
     let Some(path) = inputs else {
         return match Items::from_slice(alloc, b"{}") {

@@ -4,6 +4,7 @@ ghost use Rattle.std.specs.Prelude.{◌≡◌, ◌≤◌, ◌↔◌, ◌∷◌, 
 ghost use Rattle.std.specs.Option.{option_copied};
 ghost use Rattle.report_text.specs.Lines.{HasPath};
 ghost use Rattle.wdl_port.specs.Causes.{Rose};
+ghost use Rattle.workflow_cli.specs.Counting.{ReadCounts, StopCounts};
 ghost use Rattle.wdl_json.specs.Inputs.{main_of as main_in};
 ghost use Rattle.workflow_cli.specs.Documents.{LocatesMain};
 ghost use Rattle.workflow_cli.specs.Stages as spec;
@@ -65,6 +66,7 @@ fn mainless(alloc: Global, file: &Text) -> Stop
 /// The checked form of the document at a path, which has a main workflow.
 pub fn main_of<F: Shelf>(alloc: Global, file: &Text, shelf: &mut F) -> Result<Located, Stop>
     ensures outcome { LocatesMain (F.tells shelf.old) file.now (F.refuses shelf.old) (Rose (F.faults shelf.old) (F.faults shelf.new)) result }
+    ensures counted { StopCounts result (F.faults shelf.old) (F.faults shelf.new) }
     ensures paths { IfErr result (λ s. HasPath s.status s.paths) }
     ensures later { F.faults shelf.old ≤ F.faults shelf.new }
     ensures same_files { (p : List ℕ) → F.tells shelf.new p ≡ F.tells shelf.old p }
@@ -72,7 +74,7 @@ pub fn main_of<F: Shelf>(alloc: Global, file: &Text, shelf: &mut F) -> Result<Lo
 {
     let located = match located_of(alloc, file, shelf) {
         Ok(located) => located,
-        Err(stop) => return Err(stop),
+        Err(unchecked) => return Err(unchecked),
     };
     if main_flow(&located.checked).is_none() {
         return Err(mainless(alloc, file));
@@ -89,6 +91,7 @@ fn given_in<F: Shelf>(
 ) -> Result<Env, Status>
     requires main { IsSome checked.now.main }
     ensures value { spec.GivesIn (F.tells shelf.old) (F.refuses shelf.old) (Rose (F.faults shelf.old) (F.faults shelf.new)) inputs.now checked.now result }
+    ensures counted { ReadCounts result (F.faults shelf.old) (F.faults shelf.new) }
 {
     match inputs_text(alloc, inputs, shelf) {
         Ok(text) => given_of(alloc, text.as_slice(), checked),
@@ -104,6 +107,7 @@ pub fn start_of<F: Shelf>(
     shelf: &mut F,
 ) -> Result<Prepared, Stop>
     ensures outcome { spec.Prepares (F.tells shelf.old) (F.refuses shelf.old) (Rose (F.faults shelf.old) (F.faults shelf.new)) file.now inputs.now result }
+    ensures counted { StopCounts result (F.faults shelf.old) (F.faults shelf.new) }
     ensures paths { IfErr result (λ s. HasPath s.status s.paths) }
 {
     let Located { checked, paths } = match main_of(alloc, file, shelf) {

@@ -11,6 +11,7 @@ ghost use Rattle.work_desk.specs.Keeping.{IsReady, KeeperView, keeper_view};
 ghost use Rattle.work_desk.specs.Ran.{IsDone};
 ghost use Rattle.work_desk.specs.Views.{AllEqual};
 ghost use Rattle.work_desk.specs.declared.stop.Stop.TheVariants as end;
+ghost use Rattle.workflow_cli.specs.Counting.{WorkCounts};
 ghost use Rattle.workflow_cli.specs.Running.{NamesJournal, work_trace};
 ghost use Rattle.workflow_cli.specs.Stages.{IsBegun, IsFailedAs, IsFitting, IsOpened, RunsFile, RunsMain, StopsAs, Turns, main_with};
 ghost use Rattle.workflow_cli.specs.Writing.{HasPaths};
@@ -292,6 +293,7 @@ pub fn run<F: Shelf, L: Launcher + Sync, K: Keeper, R: Threads + Wait + Sync, S:
     ensures value { RunsFile (F.tells shelf.old) (F.refuses shelf.old) (Rose (F.faults shelf.old) (F.faults shelf.new))
         (L.gives launcher.now) (L.refuses launcher.now) file.now inputs.now options.now
         (work_trace result steps.old steps.new (keeper_view (K.kept keeper.old) (K.path keeper.old) (K.faults keeper.old)) (keeper_view (K.kept keeper.new) (K.path keeper.new) (K.faults keeper.new))) result.work }
+    ensures counted { WorkCounts result.work (F.faults shelf.old) (F.faults shelf.new) }
     ensures paths { HasPaths result.work }
     ensures keeper { (keeper.new ≡ keeper.old) ⊎ NamesJournal options.now.journal (K.path keeper.new) }
 {

@@ -5,9 +5,9 @@ ghost use Rattle.wdl_base.specs.declared.place.Segment.{Segment as SegmentOf};
 ghost use Rattle.wdl_base.specs.declared.span.Span.{Span as SpanOf};
 ghost use Rattle.report_text.specs.declared.status.Status.TheVariants as status;
 ghost use Rattle.workflow_cli.specs.Asking.{IsNotBuilt, asked};
-ghost use Rattle.work_desk.specs.Keeping.{keeper_view};
 ghost use Rattle.workflow_cli.specs.Causes.{IsStartedOn, IsUnread, UsesJournal};
-ghost use Rattle.workflow_cli.specs.Running.{IsBadInputs, IsFailed, IsIdle, IsTooMany, IsUnkept, IsUnlaunched, SomeRun, trace_of};
+ghost use Rattle.workflow_cli.specs.Counting.{StatusCounts};
+ghost use Rattle.workflow_cli.specs.Running.{IsBadInputs, IsFailed, IsIdle, IsTooMany, IsUnkept, IsUnlaunched, SomeRun, trace_by};
 ghost use Rattle.workflow_cli.specs.Writing.{IsCut, IsExcluded, IsReported, IsWritten, Lines};
 ghost use Rattle.workflow_cli.specs.Complete.{CheckIsComplete, CwlIsComplete, DocumentIsComplete, InputsIsComplete, MainIsComplete, NotBuiltIsComplete, RunIsComplete, UsageIsComplete};
 
@@ -51,40 +51,42 @@ pub fn workflow<
 ) -> Ended
     requires no_file { K.path keeper.old ≡ None }
     // Nothing ran; or the journal is fed for the main workflow, and the launcher gave each of its answers.
-    ensures run { IsIdle (trace_of result steps.old steps.new (keeper_view (K.kept keeper.old) (K.path keeper.old) (K.faults keeper.old)) (keeper_view (K.kept keeper.new) (K.path keeper.new) (K.faults keeper.new)))
-        ⊎ SomeRun (F.tells shelf.old) words.now (L.gives launcher.now) (L.refuses launcher.now) (trace_of result steps.old steps.new (keeper_view (K.kept keeper.old) (K.path keeper.old) (K.faults keeper.old)) (keeper_view (K.kept keeper.new) (K.path keeper.new) (K.faults keeper.new))) }
+    ensures run { IsIdle (trace_by K.kept K.path K.faults result steps.old steps.new keeper.old keeper.new)
+        ⊎ SomeRun (F.tells shelf.old) words.now (L.gives launcher.now) (L.refuses launcher.now) (trace_by K.kept K.path K.faults result steps.old steps.new keeper.old keeper.new) }
     // What each status says.
     ensures ok { result.status ≡ status.Ok
-        → IsWritten (F.tells shelf.old) words.now (L.gives launcher.now) (L.refuses launcher.now) (trace_of result steps.old steps.new (keeper_view (K.kept keeper.old) (K.path keeper.old) (K.faults keeper.old)) (keeper_view (K.kept keeper.new) (K.path keeper.new) (K.faults keeper.new)))
+        → IsWritten (F.tells shelf.old) words.now (L.gives launcher.now) (L.refuses launcher.now) (trace_by K.kept K.path K.faults result steps.old steps.new keeper.old keeper.new)
         (O.told out.old) (O.told out.new) (E.told err.old) (E.told err.new) }
     ensures failed { (f : FaultOf) → result.status ≡ status.Failed f
-        → IsFailed (F.tells shelf.old) words.now (L.gives launcher.now) (L.refuses launcher.now) (trace_of result steps.old steps.new (keeper_view (K.kept keeper.old) (K.path keeper.old) (K.faults keeper.old)) (keeper_view (K.kept keeper.new) (K.path keeper.new) (K.faults keeper.new))) f }
+        → IsFailed (F.tells shelf.old) words.now (L.gives launcher.now) (L.refuses launcher.now) (trace_by K.kept K.path K.faults result steps.old steps.new keeper.old keeper.new) f }
     ensures usage { result.status ≡ status.Usage
-        → IsIdle (trace_of result steps.old steps.new (keeper_view (K.kept keeper.old) (K.path keeper.old) (K.faults keeper.old)) (keeper_view (K.kept keeper.new) (K.path keeper.new) (K.faults keeper.new))) × (asked words.now ≡ None) }
+        → IsIdle (trace_by K.kept K.path K.faults result steps.old steps.new keeper.old keeper.new) × (asked words.now ≡ None) }
     ensures document { (code : ℕ) (span : SpanOf) → result.status ≡ status.Document code span
-        → IsReported (F.tells shelf.old) words.now (L.gives launcher.now) (L.refuses launcher.now) (trace_of result steps.old steps.new (keeper_view (K.kept keeper.old) (K.path keeper.old) (K.faults keeper.old)) (keeper_view (K.kept keeper.new) (K.path keeper.new) (K.faults keeper.new)))
+        → IsReported (F.tells shelf.old) words.now (L.gives launcher.now) (L.refuses launcher.now) (trace_by K.kept K.path K.faults result steps.old steps.new keeper.old keeper.new)
         (O.told out.old) (O.told out.new) (E.told err.old) (E.told err.new) code span }
     ensures inputs { (code : ℕ) (name : Option (List ℕ)) → result.status ≡ status.Inputs code name
-        → IsIdle (trace_of result steps.old steps.new (keeper_view (K.kept keeper.old) (K.path keeper.old) (K.faults keeper.old)) (keeper_view (K.kept keeper.new) (K.path keeper.new) (K.faults keeper.new))) × IsBadInputs (F.tells shelf.old) words.now code name }
+        → IsIdle (trace_by K.kept K.path K.faults result steps.old steps.new keeper.old keeper.new) × IsBadInputs (F.tells shelf.old) words.now code name }
     ensures read { (p : List ℕ) → result.status ≡ status.Read p
-        → IsIdle (trace_of result steps.old steps.new (keeper_view (K.kept keeper.old) (K.path keeper.old) (K.faults keeper.old)) (keeper_view (K.kept keeper.new) (K.path keeper.new) (K.faults keeper.new)))
+        → IsIdle (trace_by K.kept K.path K.faults result steps.old steps.new keeper.old keeper.new)
         × IsUnread (F.tells shelf.old) words.now (F.refuses shelf.old) (Rose (F.faults shelf.old) (F.faults shelf.new)) p }
     ensures write { result.status ≡ status.Write
         → IsCut (F.tells shelf.old) (F.refuses shelf.old) (Rose (F.faults shelf.old) (F.faults shelf.new))
-        (L.gives launcher.now) (L.refuses launcher.now) words.now (trace_of result steps.old steps.new (keeper_view (K.kept keeper.old) (K.path keeper.old) (K.faults keeper.old)) (keeper_view (K.kept keeper.new) (K.path keeper.new) (K.faults keeper.new)))
+        (L.gives launcher.now) (L.refuses launcher.now) words.now (trace_by K.kept K.path K.faults result steps.old steps.new keeper.old keeper.new)
         (O.told out.old) (O.told out.new) (E.told err.old) (E.told err.new)
         (Rose (O.faults out.old) (O.faults out.new)) (Rose (E.faults err.old) (E.faults err.new)) }
     ensures not_in_subset { (rule : ℕ) (span : SpanOf) → result.status ≡ status.NotInSubset rule span
-        → IsExcluded (F.tells shelf.old) words.now (L.gives launcher.now) (L.refuses launcher.now) (trace_of result steps.old steps.new (keeper_view (K.kept keeper.old) (K.path keeper.old) (K.faults keeper.old)) (keeper_view (K.kept keeper.new) (K.path keeper.new) (K.faults keeper.new)))
+        → IsExcluded (F.tells shelf.old) words.now (L.gives launcher.now) (L.refuses launcher.now) (trace_by K.kept K.path K.faults result steps.old steps.new keeper.old keeper.new)
         (O.told out.old) (O.told out.new) (E.told err.old) (E.told err.new) rule span }
     ensures launch { (p : List SegmentOf) → result.status ≡ status.Launch p
-        → IsUnlaunched (F.tells shelf.old) words.now (L.gives launcher.now) (L.refuses launcher.now) (trace_of result steps.old steps.new (keeper_view (K.kept keeper.old) (K.path keeper.old) (K.faults keeper.old)) (keeper_view (K.kept keeper.new) (K.path keeper.new) (K.faults keeper.new))) p }
+        → IsUnlaunched (F.tells shelf.old) words.now (L.gives launcher.now) (L.refuses launcher.now) (trace_by K.kept K.path K.faults result steps.old steps.new keeper.old keeper.new) p }
     ensures keep { result.status ≡ status.Keep
-        → IsUnkept (F.tells shelf.old) words.now (L.gives launcher.now) (L.refuses launcher.now) (trace_of result steps.old steps.new (keeper_view (K.kept keeper.old) (K.path keeper.old) (K.faults keeper.old)) (keeper_view (K.kept keeper.new) (K.path keeper.new) (K.faults keeper.new))) }
+        → IsUnkept (F.tells shelf.old) words.now (L.gives launcher.now) (L.refuses launcher.now) (trace_by K.kept K.path K.faults result steps.old steps.new keeper.old keeper.new) }
     ensures too_many { result.status ≡ status.TooMany
-        → IsTooMany (F.tells shelf.old) words.now (L.gives launcher.now) (L.refuses launcher.now) (trace_of result steps.old steps.new (keeper_view (K.kept keeper.old) (K.path keeper.old) (K.faults keeper.old)) (keeper_view (K.kept keeper.new) (K.path keeper.new) (K.faults keeper.new))) }
+        → IsTooMany (F.tells shelf.old) words.now (L.gives launcher.now) (L.refuses launcher.now) (trace_by K.kept K.path K.faults result steps.old steps.new keeper.old keeper.new) }
     ensures not_built { result.status ≡ status.NotBuilt
-        → IsIdle (trace_of result steps.old steps.new (keeper_view (K.kept keeper.old) (K.path keeper.old) (K.faults keeper.old)) (keeper_view (K.kept keeper.new) (K.path keeper.new) (K.faults keeper.new))) × IsNotBuilt words.now }
+        → IsIdle (trace_by K.kept K.path K.faults result steps.old steps.new keeper.old keeper.new) × IsNotBuilt words.now }
+    // With a status other than Read, Write and NoMemory every read succeeded.
+    ensures counted { StatusCounts result.status (F.faults shelf.old) (F.faults shelf.new) }
     // With a status other than Ok, Write, Document and NotInSubset, its line and nothing else was written.
     ensures lines { Lines result.status (O.told out.old) (O.told out.new) (E.told err.old) (E.told err.new) }
     // Without a journal the keeper is as it was; with one it is started on no other path.
@@ -106,7 +108,7 @@ pub fn workflow<
     ensures run_complete { RunIsComplete (F.tells shelf.old) words.now (L.refuses launcher.now)
         (Rose (F.faults shelf.old) (F.faults shelf.new))
         (Rose (O.faults out.old) (O.faults out.new) ⊎ Rose (E.faults err.old) (E.faults err.new))
-        (trace_of result steps.old steps.new (keeper_view (K.kept keeper.old) (K.path keeper.old) (K.faults keeper.old)) (keeper_view (K.kept keeper.new) (K.path keeper.new) (K.faults keeper.new))) result.status }
+        (trace_by K.kept K.path K.faults result steps.old steps.new keeper.old keeper.new) result.status }
 {
     let Worked {
         work,

@@ -2,6 +2,7 @@ ghost use Rattle.std.specs.Prelude.{◌≡◌, ◌⊎◌, None};
 ghost use Rattle.wdl_port.specs.Causes.{Rose};
 ghost use Rattle.work_desk.specs.Keeping.{keeper_view};
 ghost use Rattle.workflow_cli.specs.Causes.{IsWork, UsesJournal};
+ghost use Rattle.workflow_cli.specs.Counting.{WorkCounts};
 ghost use Rattle.workflow_cli.specs.Running.{work_trace};
 ghost use Rattle.workflow_cli.specs.Stages.{Accepts};
 ghost use Rattle.workflow_cli.specs.Writing.{HasPaths};
@@ -22,6 +23,7 @@ use wdl_value::{Steps, Text};
 /// Checks the document at a path.
 fn accepted<F: Shelf>(alloc: Global, file: &Text, shelf: &mut F) -> Work
     ensures value { Accepts (F.tells shelf.old) (F.refuses shelf.old) (Rose (F.faults shelf.old) (F.faults shelf.new)) file.now result }
+    ensures counted { WorkCounts result (F.faults shelf.old) (F.faults shelf.new) }
     ensures paths { HasPaths result }
 {
     match checked_of(alloc, file, shelf) {
@@ -48,6 +50,7 @@ pub fn work<F: Shelf, L: Launcher + Sync, K: Keeper, R: Threads + Wait + Sync, S
         (L.gives launcher.now) (L.refuses launcher.now) words.now
         (work_trace result steps.old steps.new (keeper_view (K.kept keeper.old) (K.path keeper.old) (K.faults keeper.old))
         (keeper_view (K.kept keeper.new) (K.path keeper.new) (K.faults keeper.new))) result.work }
+    ensures counted { WorkCounts result.work (F.faults shelf.old) (F.faults shelf.new) }
     ensures paths { HasPaths result.work }
     ensures keeper { (keeper.new ≡ keeper.old) ⊎ UsesJournal words.now (K.path keeper.new) }
 {

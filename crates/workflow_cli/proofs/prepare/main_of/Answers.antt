@@ -3,7 +3,7 @@ use Rattle.workflow_cli.proofs.Started.{check_main, checked_in, has_number, is_n
 use Rattle.workflow_cli.proofs.prepare.main_of.Goals as goal
 
 pub returns-in-Err-clause-outcome : goal.returns-in-Err-clause-outcome
-returns-in-Err-clause-outcome g c = check_main _ _ _ _ c.in-Err.stop.status c.in-Err.stop.paths c.in-Err.ensures.outcome
+returns-in-Err-clause-outcome g c = check_main _ _ _ _ c.in-Err.unchecked.status c.in-Err.unchecked.paths c.in-Err.ensures.outcome
 
 pub returns-then-is_none-clause-outcome : goal.returns-then-is_none-clause-outcome
 returns-then-is_none-clause-outcome g c =

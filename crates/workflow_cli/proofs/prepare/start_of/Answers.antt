@@ -1,3 +1,4 @@
+use Rattle.std.proofs.Common.{◌∙◌}
 use Rattle.wdl_port.specs.Causes.{Rose}
 use Rattle.workflow_cli.proofs.Started.{checked_in, is_numbered, given_before, main_prepare, rose_later, stops_before}
 use Rattle.workflow_cli.proofs.prepare.start_of.Goals as goal
@@ -30,3 +31,9 @@ returns-in-Err-given_in-clause-outcome g c =
     (g.F.Shelf.refuses c.main_of.new.shelf) (Rose (g.F.Shelf.faults c.main_of.new.shelf) (g.F.Shelf.faults c.given_in.new.shelf))
     (λ p h. (c.main_of.ensures.same_refusals p).0 h) (rose_later _ _ _ c.main_of.ensures.later)
     c.in-Err-given_in.status c.stop.result.paths (c.in-Err-given_in.ensures.value m.1 m.2.main))
+
+pub returns-in-Ok-given_in-clause-counted : goal.returns-in-Ok-given_in-clause-counted
+returns-in-Ok-given_in-clause-counted g c = c.in-Ok-given_in.ensures.counted ∙ c.in-Ok.ensures.counted
+
+pub returns-in-Err-given_in-clause-counted : goal.returns-in-Err-given_in-clause-counted
+returns-in-Err-given_in-clause-counted g c = rw c.stop.ensures.status (λ read. c.in-Err-given_in.ensures.counted read ∙ c.in-Ok.ensures.counted)

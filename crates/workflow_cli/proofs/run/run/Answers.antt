@@ -1,4 +1,5 @@
 use Rattle.std.proofs.Common.{inr}
+use Rattle.workflow_cli.proofs.Counts.{works}
 use Rattle.workflow_cli.proofs.run.run.Goals as goal
 
 pub returns-in-Ok-clause-value : goal.returns-in-Ok-clause-value
@@ -10,3 +11,6 @@ returns-in-Ok-clause-value g c =
       prepared = h;
       ran = c.run_main.ensures.value h.fits.flow (record { main = h.fits.main; fit = h.fits.fit });
     })
+
+pub returns-in-Ok-clause-counted : goal.returns-in-Ok-clause-counted
+returns-in-Ok-clause-counted g c = works _ _ _ c.in-Ok.ensures.counted

@@ -4,6 +4,7 @@ use Rattle.workflow_cli.proofs.Outcomes as told
 use Rattle.workflow_cli.proofs.Outcomes.{outcome}
 use Rattle.workflow_cli.proofs.Completes as complete
 use Rattle.workflow_cli.proofs.Opened.{started_on}
+use Rattle.workflow_cli.proofs.Counts.{finishes}
 use Rattle.workflow_cli.proofs.top.workflow.Goals as goal
 
 pub returns-clause-ok : goal.returns-clause-ok
@@ -71,3 +72,6 @@ returns-clause-not_in_subset g c = told.excluded _ _ _ _ _ _ _ _ _ _ _ _ _ _ (ou
 
 pub returns-clause-cwl_complete : goal.returns-clause-cwl_complete
 returns-clause-cwl_complete g c = complete.cwl_complete _ _ _ _ _ _ _ _ _ _ _ _ _ _ (outcome _ _ _ _ _ _ _ _ _ _ _ _ _ c.work-work.result.work _ c.work-work.ensures.cause.cause c.finish-status.ensures.value)
+
+pub returns-clause-counted : goal.returns-clause-counted
+returns-clause-counted g c = finishes _ _ _ _ _ _ _ _ c.work-work.result.work _ c.work-work.ensures.counted c.finish-status.ensures.value

@@ -23,3 +23,9 @@ pub returns-in-Ok-Run-clause-keeper : goal.returns-in-Ok-Run-clause-keeper
 returns-in-Ok-Run-clause-keeper g c =
     let asked = rw c.in-Ok-Run.field-0-is at c.in-Ok-Run.ensures.value in
     uses_journal _ _ _ _ _ _ asked c.run.ensures.keeper
+
+pub returns-in-Ok-Check-clause-counted : goal.returns-in-Ok-Check-clause-counted
+returns-in-Ok-Check-clause-counted g c = rw c.idle.ensures.work c.accepted.ensures.counted
+
+pub returns-in-Ok-Cwl-clause-counted : goal.returns-in-Ok-Cwl-clause-counted
+returns-in-Ok-Cwl-clause-counted g c = rw c.idle-in-Ok-Cwl.ensures.work c.cwl.ensures.counted
