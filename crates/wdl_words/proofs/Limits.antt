@@ -9,7 +9,6 @@ use Rattle.clap.specs.Words.{Row, Text, first_of}
 use Rattle.wdl_base.specs.Plain.{has_nul}
 use Rattle.wdl_words.specs.Commands.{cwl_app, found_in, run_app}
 use Rattle.wdl_words.specs.Help.{by_one, by_two, explained, is_help_option, is_version_word}
-use Rattle.wdl_words.specs.declared.wants.Command.{Command}
 use Rattle.wdl_words.specs.Words.{IsWithinLimits, begins_with_slash, cwl_in, cwl_of, cwl_with, directory_of, file_in, file_of, is_numeral, load_in, named_by_first, not_empty, number_within, operand_in, optional_file, root_of, run_in, run_of, run_with, some_nul, wants, wants_by, wants_of_plain, without_slashes, workers_of}
 use Rattle.wdl_words.proofs.Slashes.{slashes_short}
 use Rattle.wdl_words.specs.declared.wants.Wants.{Wants}
