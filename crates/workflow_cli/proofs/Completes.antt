@@ -18,11 +18,13 @@ use Rattle.wdl_json.specs.declared.fault.InputFault.TheVariants.{Bad}
 use Rattle.wdl_port.specs.Causes.{Rose}
 use Rattle.workflow_cli.specs.declared.asking.Command.{Command}
 use Rattle.workflow_cli.specs.declared.asking.Command.TheVariants as command
+use Rattle.workflow_cli.specs.declared.asking.Page.{Page}
 use Rattle.workflow_cli.specs.declared.asking.RunOptions.{RunOptions}
-use Rattle.workflow_cli.specs.Asking.{IsCheckOf, IsCommand, IsCwlOf, IsForInputs, IsForMain, IsNotBuilt, IsRunOf, Words, asked, command_of}
+use Rattle.workflow_cli.specs.Asking.{IsCheckOf, IsCommand, IsCwlOf, IsForInputs, IsForMain, IsFormOf, IsNotBuilt, IsPrintOf, IsRunOf, Words, asked, command_of}
 use Rattle.workflow_cli.specs.Causes.{CauseOf, IsFinished, Names}
-use Rattle.workflow_cli.specs.Complete.{CheckIsComplete, CwlIsComplete, DocumentIsComplete, InputsIsComplete, IsOr, IsSomeDocument, IsSomeExclusion, MainIsComplete, MustGive, MustHave, MustLack, NotBuiltIsComplete, RunIsComplete, UsageIsComplete}
+use Rattle.workflow_cli.specs.Complete.{CheckIsComplete, CwlIsComplete, DocumentIsComplete, FormIsComplete, InputsIsComplete, IsOr, IsSomeDocument, IsSomeExclusion, MainIsComplete, MustGive, MustHave, MustLack, NotBuiltIsComplete, PrintIsComplete, RunIsComplete, UsageIsComplete}
 use Rattle.workflow_cli.specs.Documents.{HasChecked, HasNoMain, IsRefused, Tells}
+use Rattle.workflow_cli.specs.Printing.{IsFormed, IsPrinted}
 use Rattle.workflow_cli.specs.Running.{IsBadInputs, IsInputsText, IsStarted, Main, Trace, flow_of}
 use Rattle.workflow_cli.specs.Translating.{GivesAll, IsCwlText, IsInSubset, IsOutside, IsTranslated}
 use Rattle.workflow_cli.specs.Writing.{IsCut, Told}
@@ -48,7 +50,8 @@ same_command words c d h k = let p = sym h.built ∙ ap command_of (same_wants w
 
 no_check : (words : Words) (file other : List ℕ) (inputs : Option (List ℕ)) → IsCheckOf words file → IsForMain words other inputs → ⊥
 no_check words file other inputs h (inl k) = let e = same_command words (command.Check file) (command.Run other inputs k.0) h k.1 in cc
-no_check words file other inputs h (inr k) = let e = same_command words (command.Check file) (command.Cwl other inputs) h k in cc
+no_check words file other inputs h (inr (inl k)) = let e = same_command words (command.Check file) (command.Cwl other inputs) h k in cc
+no_check words file other inputs h (inr (inr k)) = let e = same_command words (command.Check file) (command.Inputs other) h k.1 in cc
 
 no_run : (words : Words) (file other : List ℕ) (inputs others : Option (List ℕ)) (options : RunOptions) → IsCwlOf words file inputs → IsRunOf words other others options → ⊥
 no_run words file other inputs others options h k = let e = same_command words (command.Cwl file inputs) (command.Run other others options) h k in cc
@@ -64,12 +67,16 @@ abbrev file_of : Command → List ℕ
 file_of (command.Run file inputs options) = file
 file_of (command.Check file) = file
 file_of (command.Cwl file inputs) = file
+file_of (command.Inputs file) = file
+file_of (command.Print p) = []
 
 -- the inputs that it names
 abbrev inputs_of : Command → Option (List ℕ)
 inputs_of (command.Run file inputs options) = inputs
 inputs_of (command.Check file) = None
 inputs_of (command.Cwl file inputs) = inputs
+inputs_of (command.Inputs file) = None
+inputs_of (command.Print p) = None
 
 -- a command of these words, which names this file and these inputs
 record IsNaming (words : Words) (file : List ℕ) (inputs : Option (List ℕ)) : Type 0 where
@@ -80,7 +87,23 @@ record IsNaming (words : Words) (file : List ℕ) (inputs : Option (List ℕ)) :
 
 main_naming : (words : Words) (file : List ℕ) (inputs : Option (List ℕ)) → IsForMain words file inputs → IsNaming words file inputs
 main_naming words file inputs (inl h) = record { command = command.Run file inputs h.0; is_command = h.1; names = refl; reads = refl }
-main_naming words file inputs (inr h) = record { command = command.Cwl file inputs; is_command = h; names = refl; reads = refl }
+main_naming words file inputs (inr (inl h)) = record { command = command.Cwl file inputs; is_command = h; names = refl; reads = refl }
+main_naming words file inputs (inr (inr h)) = record { command = command.Inputs file; is_command = h.1; names = refl; reads = sym h.0 }
+
+-- words that print a page name no file
+no_print : (words : Words) (page : Page) (file : List ℕ) (inputs : Option (List ℕ)) → IsPrintOf words page → IsForMain words file inputs → ⊥
+no_print words page file inputs h (inl k) = let e = same_command words (command.Print page) (command.Run file inputs k.0) h k.1 in cc
+no_print words page file inputs h (inr (inl k)) = let e = same_command words (command.Print page) (command.Cwl file inputs) h k in cc
+no_print words page file inputs h (inr (inr k)) = let e = same_command words (command.Print page) (command.Inputs file) h k.1 in cc
+
+print_names : (words : Words) (page : Page) (file : List ℕ) → IsPrintOf words page → Names words file → ⊥
+print_names words page file h (inl k) = let e = same_command words (command.Print page) (command.Check file) h k in cc
+print_names words page file h (inr k) = no_print words page file k.0 h k.1
+
+-- the inputs of a document are no run and no translation
+no_form : (words : Words) (file other : List ℕ) (inputs : Option (List ℕ)) → IsFormOf words file → IsForInputs words other inputs → ⊥
+no_form words file other inputs h (inl k) = let e = same_command words (command.Inputs file) (command.Run other inputs k.0) h k.1 in cc
+no_form words file other inputs h (inr k) = let e = same_command words (command.Inputs file) (command.Cwl other inputs) h k.2 in cc
 
 naming : (words : Words) (file : List ℕ) → Names words file → (inputs : Option (List ℕ)) × IsNaming words file inputs
 naming words file (inl h) = (None, record { command = command.Check file; is_command = h; names = refl; reads = refl })
@@ -118,7 +141,7 @@ module _ (tells : Tells) (refused : List ℕ → Type 0) (rose : Type 0) (gives 
     starved : r ≡ status.NoMemory → Saying r
     wordless : r ≡ status.Usage → asked words ≡ None → Saying r
     unbuilt : r ≡ status.NotBuilt → IsNotBuilt words → Saying r
-    unread : (c : Command) → IsCommand words c → rose → Saying r
+    unread : (file : List ℕ) → Names words file → rose → Saying r
     unchecked : (code : ℕ) (span : Span) (paths : List (List ℕ)) (file : List ℕ) → r ≡ status.Document code span → Names words file
         → IsRefused tells file code span paths → Saying r
     mainless : (code : ℕ) (span : Span) (paths : List (List ℕ)) (file : List ℕ) (inputs : Option (List ℕ))
@@ -137,8 +160,8 @@ module _ (tells : Tells) (refused : List ℕ → Type 0) (rose : Type 0) (gives 
   saying (status.Document code span) paths (idle, inl h) = unchecked code span paths h.file refl h.named h.refused
   saying (status.Document code span) paths (idle, inr h) = mainless code span paths h.file h.inputs refl h.asked h.mainless
   saying (status.Inputs code name) paths h = misfit code name refl h.1
-  saying (status.Read path) paths (idle, inl h) = let n = (naming words h.file h.named).1 in unread n.command n.is_command h.unread.counted
-  saying (status.Read path) paths (idle, inr h) = let c = inputs_command h.file (Some path) h.asked in unread c.0 c.1 h.counted
+  saying (status.Read path) paths (idle, inl h) = unread h.file h.named h.unread.counted
+  saying (status.Read path) paths (idle, inr h) = unread h.file (inr (Some path, for_main words h.file (Some path) h.asked)) h.counted
   saying status.Write paths h = absurd h
   saying status.NoMemory paths h = starved refl
   saying (status.NotInSubset rule span) paths h = outside rule span paths refl h.1
@@ -157,7 +180,9 @@ module _ (tells : Tells) (refused : List ℕ → Type 0) (rose : Type 0) (gives 
   did_command : (text : List ℕ) → Did text → (c : Command) × IsCommand words c
   did_command text (inl h) = started_command h.main h.run.started
   did_command text (inr (idle, inl h)) = (command.Check h.file, h.asked)
-  did_command text (inr (idle, inr h)) = (command.Cwl h.file h.inputs, h.asked)
+  did_command text (inr (idle, inr (inl h))) = (command.Cwl h.file h.inputs, h.asked)
+  did_command text (inr (idle, inr (inr (inl h)))) = (command.Inputs h.file, h.asked)
+  did_command text (inr (idle, inr (inr (inr h)))) = (command.Print h.page, h.asked)
 
   -- words that ask for nothing that is done
   abbrev Undone : Type 0
@@ -171,7 +196,7 @@ module _ (tells : Tells) (refused : List ℕ → Type 0) (rose : Type 0) (gives 
   said_idly undone r (starved e) = inl e
   said_idly undone r (wordless e h) = inr (inl (e, h))
   said_idly undone r (unbuilt e h) = inr (inr (e, h))
-  said_idly undone r (unread c h rise) = absurd (undone c h)
+  said_idly undone r (unread file named rise) = let n = (naming words file named).1 in absurd (undone n.command n.is_command)
   said_idly undone r (unchecked code span paths file e named h) = let n = (naming words file named).1 in absurd (undone n.command n.is_command)
   said_idly undone r (mainless code span paths file inputs e asks h) = let n = main_naming words file inputs asks in absurd (undone n.command n.is_command)
   said_idly undone r (misfit code name e h) = let c = inputs_command h.file h.inputs h.asked in absurd (undone c.0 c.1)
@@ -203,7 +228,7 @@ module _ (tells : Tells) (refused : List ℕ → Type 0) (rose : Type 0) (gives 
       record {
         file = h.file;
         inputs = h.inputs;
-        asked = inr h.asked;
+        asked = inr (inl h.asked);
         checked = o.checked;
         has = record { lib = l.lib; has = l.has; is_typed = l.is_typed };
         flow = o.flow;
@@ -252,7 +277,21 @@ module _ (tells : Tells) (refused : List ℕ → Type 0) (rose : Type 0) (gives 
 
   abbrev translated_seen : (text : List ℕ) → IsTranslated tells words text → IsSeen
   translated_seen text h =
-      let m = made_of text h in record { file = h.file; inputs = h.inputs; asked = inr h.asked; checked = m.checked; has = m.has; flow = m.flow; main = m.main }
+      let m = made_of text h in record { file = h.file; inputs = h.inputs; asked = inr (inl h.asked); checked = m.checked; has = m.has; flow = m.flow; main = m.main }
+
+  abbrev form_seen : (text : List ℕ) → IsFormed tells words text → IsSeen
+  form_seen text h =
+      let i = h.is_text in
+      let l = i.source.located in
+      record {
+        file = h.file;
+        inputs = None;
+        asked = inr (inr (refl, h.asked));
+        checked = i.checked;
+        has = record { lib = l.lib; has = l.has; is_typed = l.is_typed };
+        flow = i.flow;
+        main = i.source.main;
+      }
 
   module _ (out out' err err' : Told) (rose_out rose_err : Type 0) where
     abbrev Ends : Status → Type 0
@@ -337,7 +376,9 @@ module _ (tells : Tells) (refused : List ℕ → Type 0) (rose : Type 0) (gives 
         by_cases : Settled r → IsSomeDocument r ⊎ (r ≡ status.NoMemory)
         by_cases (inl (e, (text, inl h))) = absurd (unseen (started_seen h.main h.run.started))
         by_cases (inl (e, (text, inr (idle, inl h)))) = absurd (not_checked file h.file h.checked lack named (inl h.asked) h.has)
-        by_cases (inl (e, (text, inr (idle, inr h)))) = absurd (unseen (translated_seen text h))
+        by_cases (inl (e, (text, inr (idle, inr (inl h))))) = absurd (unseen (translated_seen text h))
+        by_cases (inl (e, (text, inr (idle, inr (inr (inl h)))))) = absurd (unseen (form_seen text h))
+        by_cases (inl (e, (text, inr (idle, inr (inr (inr h)))))) = absurd (print_names words h.page file h.asked named)
         by_cases (inr (starved e)) = inr e
         by_cases (inr (wordless e n)) = absurd (readable words own is_own n)
         by_cases (inr (unbuilt e n)) = absurd (not_both words own is_own n)
@@ -408,7 +449,9 @@ module _ (tells : Tells) (refused : List ℕ → Type 0) (rose : Type 0) (gives 
         main_said : Settled r → IsOr Mainless r
         main_said (inl (e, (text, inl h))) = absurd (unseen (started_seen h.main h.run.started))
         main_said (inl (e, (text, inr (idle, inl h)))) = absurd (no_check words h.file file inputs h.asked asks)
-        main_said (inl (e, (text, inr (idle, inr h)))) = absurd (unseen (translated_seen text h))
+        main_said (inl (e, (text, inr (idle, inr (inl h))))) = absurd (unseen (translated_seen text h))
+        main_said (inl (e, (text, inr (idle, inr (inr (inl h)))))) = absurd (unseen (form_seen text h))
+        main_said (inl (e, (text, inr (idle, inr (inr (inr h)))))) = absurd (no_print words h.page file inputs h.asked asks)
         main_said (inr (starved e)) = inr e
         main_said (inr (wordless e n)) = absurd (readable words own is_own n)
         main_said (inr (unbuilt e n)) = absurd (not_both words own is_own n)
@@ -464,7 +507,9 @@ module _ (tells : Tells) (refused : List ℕ → Type 0) (rose : Type 0) (gives 
       inputs_said : Settled r → IsOr (status.Inputs code name) r
       inputs_said (inl (e, (text, inl h))) = absurd (not_started h.main h.run.started)
       inputs_said (inl (e, (text, inr (idle, inl h)))) = absurd (no_check words h.file file inputs h.asked for_inputs)
-      inputs_said (inl (e, (text, inr (idle, inr h)))) = absurd (ungiven (translated_seen text h) (made_of text h).given h.asked)
+      inputs_said (inl (e, (text, inr (idle, inr (inl h))))) = absurd (ungiven (translated_seen text h) (made_of text h).given h.asked)
+      inputs_said (inl (e, (text, inr (idle, inr (inr (inl h)))))) = absurd (no_form words h.file file inputs h.asked reads_in)
+      inputs_said (inl (e, (text, inr (idle, inr (inr (inr h)))))) = absurd (no_print words h.page file inputs h.asked for_inputs)
       inputs_said (inr (starved e)) = inr e
       inputs_said (inr (wordless e n)) = absurd (readable words (own file inputs c for_inputs must) (is_own file inputs c for_inputs must) n)
       inputs_said (inr (unbuilt e n)) = absurd (not_both words (own file inputs c for_inputs must) (is_own file inputs c for_inputs must) n)
@@ -532,12 +577,51 @@ module _ (tells : Tells) (refused : List ℕ → Type 0) (rose : Type 0) (gives 
     run_complete r o file inputs m asks must main reads no_rise cut keeps launches none few =
         run_said file inputs m asks must main reads no_rise keeps launches none few r (settled cut r o)
 
+    -- ---- the inputs to fill in, and the program's own texts
+
+    module _ (file : List ℕ) (c : Checked) (asks_form : IsFormOf words file) (must : MustHave tells file c) (f : FlowDef) (main : main_of c.flows c.main ≡ Some f)
+        (no_rise : ¬ rose) (r : Status) where
+      abbrev for_form : IsForMain words file None
+      for_form = inr (inr (refl, asks_form))
+
+      form_said : Settled r → IsOr status.Ok r
+      form_said (inl d) = inl d.0
+      form_said (inr (starved e)) = inr e
+      form_said (inr (wordless e n)) = absurd (readable words (command.Inputs file) asks_form n)
+      form_said (inr (unbuilt e n)) = absurd (not_both words (command.Inputs file) asks_form n)
+      form_said (inr (unread d k rise)) = absurd (no_rise rise)
+      form_said (inr (unchecked code span paths other e names h)) = absurd (not_checked_yet file None c for_form must code span paths other names h)
+      form_said (inr (mainless code span paths other given e k h)) = absurd (has_main file None c for_form must f main code span paths other given k h)
+      form_said (inr (misfit code name e h)) = absurd (no_form words file h.file h.inputs asks_form h.asked)
+      form_said (inr (outside rule span paths e h)) = let k = same_command words (command.Inputs file) (command.Cwl h.file h.inputs) asks_form h.asked in cc
+      form_said (inr (broken m h b)) = absurd (no_form words file h.asked.file h.asked.inputs asks_form (inl (m.options, h.asked.asked)))
+
+    pub form_complete : (r : Status) → Ends r → FormIsComplete tells words rose (rose_out ⊎ rose_err) r
+    form_complete r o file c f asks must main no_rise cut = form_said file c asks must f main no_rise r (settled cut r o)
+
+    module _ (page : Page) (asks_print : IsPrintOf words page) where
+      print_said : (r : Status) → Saying r → r ≡ status.NoMemory
+      print_said r (starved e) = e
+      print_said r (wordless e n) = absurd (readable words (command.Print page) asks_print n)
+      print_said r (unbuilt e n) = absurd (not_both words (command.Print page) asks_print n)
+      print_said r (unread file named rise) = absurd (print_names words page file asks_print named)
+      print_said r (unchecked code span paths other e names h) = absurd (print_names words page other asks_print names)
+      print_said r (mainless code span paths other given e k h) = absurd (no_print words page other given asks_print k)
+      print_said r (misfit code name e h) = absurd (no_print words page h.file h.inputs asks_print (for_main words h.file h.inputs h.asked))
+      print_said r (outside rule span paths e h) = absurd (no_print words page h.file h.inputs asks_print (inr (inl h.asked)))
+      print_said r (broken m h b) = absurd (no_print words page h.asked.file h.asked.inputs asks_print (inl (m.options, h.asked.asked)))
+
+    pub print_complete : (r : Status) → Ends r → PrintIsComplete words (rose_out ⊎ rose_err) r
+    print_complete r (inl h) page asks = inl (inl h.0)
+    print_complete r (inr (inl h)) page asks = inr (h.0, cut_counted h.1)
+    print_complete r (inr (inr h)) page asks = inl (inr (print_said page asks r (saying r h.paths h.cause)))
+
     -- ---- a translation
 
     module _ (file : List ℕ) (inputs : Option (List ℕ)) (c : Checked) (number : ℕ) (f : FlowDef) (asks_cwl : IsCwlOf words file inputs) (must : MustHave tells file c)
         (numbered : c.main ≡ Some number) (main : main_of c.flows c.main ≡ Some f) (gives_all : MustGive tells inputs c f) (no_rise : ¬ rose) (r : Status) where
       abbrev for_cwl : IsForMain words file inputs
-      for_cwl = inr asks_cwl
+      for_cwl = inr (inl asks_cwl)
 
       same_number : (s : IsSeen) (k : ℕ) → s.checked.main ≡ Some k → k ≡ number
       same_number s k e = let p = sym e ∙ ap (λ (x : Checked). x.main) (same_checked file inputs c for_cwl must s) ∙ numbered in cc
@@ -564,7 +648,9 @@ module _ (tells : Tells) (refused : List ℕ → Type 0) (rose : Type 0) (gives 
       cwl_said : Settled r → Comes
       cwl_said (inl (e, (text, inl h))) = absurd (no_run words file h.run.started.asked.file inputs h.run.started.asked.inputs h.main.options asks_cwl h.run.started.asked.asked)
       cwl_said (inl (e, (text, inr (idle, inl h)))) = absurd (no_check words h.file file inputs h.asked for_cwl)
-      cwl_said (inl (e, (text, inr (idle, inr h)))) = let m = made_of text h in inl (e, same_subset (translated_seen text h) m.number m.numbered m.in_subset)
+      cwl_said (inl (e, (text, inr (idle, inr (inl h))))) = let m = made_of text h in inl (e, same_subset (translated_seen text h) m.number m.numbered m.in_subset)
+      cwl_said (inl (e, (text, inr (idle, inr (inr (inl h)))))) = let k = same_command words (command.Inputs h.file) (command.Cwl file inputs) h.asked asks_cwl in cc
+      cwl_said (inl (e, (text, inr (idle, inr (inr (inr h)))))) = absurd (no_print words h.page file inputs h.asked for_cwl)
       cwl_said (inr (starved e)) = inr (inl e)
       cwl_said (inr (wordless e n)) = absurd (readable words (command.Cwl file inputs) asks_cwl n)
       cwl_said (inr (unbuilt e n)) = absurd (not_both words (command.Cwl file inputs) asks_cwl n)

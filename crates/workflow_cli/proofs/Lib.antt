@@ -2,6 +2,7 @@ mod ToldLemmas
 mod Works
 mod Outcomes
 mod Excluded
+mod Formed
 mod Completes
 mod Paths
 mod Counts

@@ -35,7 +35,9 @@ module _ (tells : Tells) (refused : List ℕ → Type 0) (rose : Type 0) (gives 
     finished_on : (text : List ℕ) → IsFinished tells words gives refuses t text → On
     finished_on text (inl h) = run_on h.main None h.run
     finished_on text (inr (idle, inl h)) = let e = same_command words (command.Check h.file) (command.Run j.file j.inputs j.options) h.asked j.asked in cc
-    finished_on text (inr (idle, inr h)) = let e = same_command words (command.Cwl h.file h.inputs) (command.Run j.file j.inputs j.options) h.asked j.asked in cc
+    finished_on text (inr (idle, inr (inl h))) = let e = same_command words (command.Cwl h.file h.inputs) (command.Run j.file j.inputs j.options) h.asked j.asked in cc
+    finished_on text (inr (idle, inr (inr (inl h)))) = let e = same_command words (command.Inputs h.file) (command.Run j.file j.inputs j.options) h.asked j.asked in cc
+    finished_on text (inr (idle, inr (inr (inr h)))) = let e = same_command words (command.Print h.page) (command.Run j.file j.inputs j.options) h.asked j.asked in cc
 
     said_on : (s : Status) (paths : List (List ℕ)) → IsOfRun s → CauseOf tells refused rose gives refuses words t s paths → On
     said_on (status.Failed fault) paths of h = run_on h.main (Some end.Failed) h.run

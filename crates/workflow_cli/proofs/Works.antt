@@ -4,13 +4,15 @@ use Rattle.wdl_base.specs.declared.answer.Answer.{Answer}
 use Rattle.wdl_base.specs.declared.request.Request.{Request}
 use Rattle.report_text.specs.declared.status.Status.{Status}
 use Rattle.report_text.specs.declared.status.Status.TheVariants as status
+use Rattle.workflow_cli.specs.declared.asking.Page.{Page}
 use Rattle.workflow_cli.specs.declared.asking.RunOptions.{RunOptions}
 use Rattle.workflow_cli.specs.declared.ended.Stop.{Stop}
 use Rattle.workflow_cli.specs.declared.ended.Work.{Work}
 use Rattle.workflow_cli.specs.declared.ended.Work.TheVariants as work
-use Rattle.workflow_cli.specs.Asking.{AskStops, IsCheckOf, IsCwlOf, IsForInputs, IsForMain, IsRunOf, Words}
+use Rattle.workflow_cli.specs.Asking.{AskStops, IsCheckOf, IsCwlOf, IsForInputs, IsForMain, IsFormOf, IsPrintOf, IsRunOf, Words}
 use Rattle.workflow_cli.specs.Causes.{Cause, CauseOf, IsWork, Names, UsesJournal}
 use Rattle.workflow_cli.specs.Documents.{CheckStops, MainStops, Tells}
+use Rattle.workflow_cli.specs.Printing.{Prints, WritesForm}
 use Rattle.workflow_cli.specs.Running.{IsIdle, IsStarted, NamesJournal, Trace}
 use Rattle.workflow_cli.specs.Stages.{Accepts, HasStopped, PrepareStops, RunsFile, main_with}
 use Rattle.workflow_cli.specs.Translating.{DocumentStops, ObjectStops, Translates, WritesDocument, WritesObject}
@@ -19,7 +21,7 @@ use Rattle.workflow_cli.proofs.Ends.{main_is_work}
 -- whose inputs are read has a main workflow
 pub for_main : (words : Words) (file : List ℕ) (inputs : Option (List ℕ)) → IsForInputs words file inputs → IsForMain words file inputs
 for_main words file inputs (inl h) = inl h
-for_main words file inputs (inr h) = inr h.2
+for_main words file inputs (inr h) = inr (inl h.2)
 
 -- the keeper of a run of these words
 pub uses_journal : (words : Words) (file : List ℕ) (inputs : Option (List ℕ)) (options : RunOptions) (same : Type 0) (at : Option (List ℕ)) → IsRunOf words file inputs options
@@ -128,7 +130,7 @@ module _ (tells : Tells) (refused : List ℕ → Type 0) (rose : Type 0) (gives 
   module _ (idle : IsIdle t) (file : List ℕ) where
     module _ (asked : IsCwlOf words file None) where
       document_said : (s : Status) (paths : List (List ℕ)) → MainStops tells file refused rose s paths → Said s paths
-      document_said = main_stops idle file None (inr asked)
+      document_said = main_stops idle file None (inr (inl asked))
 
       document_stops : (s : Status) (paths : List (List ℕ)) → DocumentStops tells refused rose file s paths → Said s paths
       document_stops (status.NotInSubset rule span) paths h = (idle, record { file = file; inputs = None; asked = asked; outside = h })
@@ -146,7 +148,7 @@ module _ (tells : Tells) (refused : List ℕ → Type 0) (rose : Type 0) (gives 
       document_stops status.NotBuilt paths h = absurd h
 
       document_is_work : (w : Work) → WritesDocument tells refused rose file w → IsWork tells refused rose gives refuses words t w
-      document_is_work (work.Text text) h = record { run = inl idle; cause = inr (idle, inr (record { file = file; inputs = None; asked = asked; is_text = h })) }
+      document_is_work (work.Text text) h = record { run = inl idle; cause = inr (idle, inr (inl (record { file = file; inputs = None; asked = asked; is_text = h }))) }
       document_is_work (work.Stop stop) h = record { run = inl idle; cause = document_stops stop.status stop.paths h }
 
     module _ (path : List ℕ) (asked : IsCwlOf words file (Some path)) where
@@ -169,13 +171,24 @@ module _ (tells : Tells) (refused : List ℕ → Type 0) (rose : Type 0) (gives 
       object_stops status.NotBuilt paths h = absurd h
 
       object_is_work : (w : Work) → WritesObject tells refused rose file (Some path) w → IsWork tells refused rose gives refuses words t w
-      object_is_work (work.Text text) h = record { run = inl idle; cause = inr (idle, inr (record { file = file; inputs = Some path; asked = asked; is_text = h })) }
+      object_is_work (work.Text text) h = record { run = inl idle; cause = inr (idle, inr (inl (record { file = file; inputs = Some path; asked = asked; is_text = h }))) }
       object_is_work (work.Stop stop) h = record { run = inl idle; cause = object_stops stop.status stop.paths h }
 
     -- a translation
     pub cwl_is_work : (inputs : Option (List ℕ)) → IsCwlOf words file inputs → (w : Work) → Translates tells refused rose file inputs w → IsWork tells refused rose gives refuses words t w
     cwl_is_work None asked w h = document_is_work asked w h
     cwl_is_work (Some path) asked w h = object_is_work path asked w h
+
+  -- ---- the inputs to fill in, and the program's own texts
+
+  pub form_is_work : IsIdle t → (file : List ℕ) → IsFormOf words file → (w : Work) → WritesForm tells refused rose file w → IsWork tells refused rose gives refuses words t w
+  form_is_work idle file asked (work.Text text) h =
+      record { run = inl idle; cause = inr (idle, inr (inr (inl (record { file = file; asked = asked; is_text = h })))) }
+  form_is_work idle file asked (work.Stop stop) h = record { run = inl idle; cause = main_stops idle file None (inr (inr (refl, asked))) stop.status stop.paths h }
+
+  pub print_is_work : IsIdle t → (page : Page) → IsPrintOf words page → (w : Work) → Prints page w → IsWork tells refused rose gives refuses words t w
+  print_is_work idle page asked (work.Text text) h = record { run = inl idle; cause = inr (idle, inr (inr (inr (record { page = page; asked = asked; says = h })))) }
+  print_is_work idle page asked (work.Stop stop) h = asks_is_work idle status.NoMemory stop h tt
 
   -- ---- a run
 

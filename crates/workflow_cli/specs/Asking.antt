@@ -5,8 +5,10 @@ use Rattle.report_text.specs.declared.status.Status.{Status}
 use Rattle.report_text.specs.declared.status.Status.TheVariants as status
 use Rattle.wdl_words.specs.Words.{wants}
 use Rattle.wdl_words.specs.declared.wants.Wants.{Wants}
-use Rattle.wdl_words.specs.declared.wants.Wants.TheVariants.{Run, Check, Cwl, Load, Bundle}
+use Rattle.wdl_words.specs.declared.wants.Wants.TheVariants.{Run, Check, Inputs, Cwl, Load, Bundle, Help, Version}
 use Rattle.workflow_cli.specs.declared.asking.Command.{Command}
+use Rattle.workflow_cli.specs.declared.asking.Page.{Page}
+use Rattle.workflow_cli.specs.declared.asking.Page.TheVariants as page
 use Rattle.workflow_cli.specs.declared.asking.RunOptions.{RunOptions}
 use Rattle.workflow_cli.specs.declared.asking.Command.TheVariants as command
 
@@ -17,11 +19,14 @@ Words = List (String Global)
 unfoldable pub asked : Words → Option Wants
 asked words = wants (map string_bytes words)
 
--- what today's program does of it: runs, checks and translations
+-- what today's program does of it: all but `load` and `bundle`
 abbrev pub command_of : Wants → Option Command
 command_of (Run file inputs workers root journal) = Some (command.Run file inputs (record { workers = workers; root = root; journal = journal }))
 command_of (Check file) = Some (command.Check file)
 command_of (Cwl file inputs) = Some (command.Cwl file inputs)
+command_of (Inputs file) = Some (command.Inputs file)
+command_of (Help about) = Some (command.Print (page.Help about))
+command_of Version = Some (command.Print page.Version)
 command_of (Load number) = None
 command_of (Bundle file) = None
 
@@ -49,9 +54,18 @@ IsCheckOf words file = IsCommand words (command.Check file)
 abbrev pub IsCwlOf : Words → List ℕ → Option (List ℕ) → Type 0
 IsCwlOf words file inputs = IsCommand words (command.Cwl file inputs)
 
--- a run or a translation of the document at this path, for which it has a main workflow
+-- the inputs of the document at this path, to be filled in
+abbrev pub IsFormOf : Words → List ℕ → Type 0
+IsFormOf words file = IsCommand words (command.Inputs file)
+
+-- help or the version
+abbrev pub IsPrintOf : Words → Page → Type 0
+IsPrintOf words page = IsCommand words (command.Print page)
+
+-- a run or a translation of the document at this path, or the inputs that it has, for which it has a main workflow
 abbrev pub IsForMain : Words → List ℕ → Option (List ℕ) → Type 0
-IsForMain words file inputs = ((options : RunOptions) × IsRunOf words file inputs options) ⊎ IsCwlOf words file inputs
+IsForMain words file inputs =
+    ((options : RunOptions) × IsRunOf words file inputs options) ⊎ (IsCwlOf words file inputs ⊎ ((inputs ≡ None) × IsFormOf words file))
 
 -- the inputs at that path are read for it, and `{}` where none is named
 abbrev pub IsForInputs : Words → List ℕ → Option (List ℕ) → Type 0

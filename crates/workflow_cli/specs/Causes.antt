@@ -11,6 +11,7 @@ use Rattle.workflow_cli.specs.declared.ended.Work.{Work}
 use Rattle.workflow_cli.specs.declared.ended.Work.TheVariants as work
 use Rattle.workflow_cli.specs.Asking.{IsCheckOf, IsForMain, IsJournal, IsNotBuilt, Words, asked}
 use Rattle.workflow_cli.specs.Documents.{HasChecked, HasNoMain, IsRefused, IsUnreadDocument, Tells}
+use Rattle.workflow_cli.specs.Printing.{IsFormed, IsPrinted}
 use Rattle.workflow_cli.specs.Translating.{IsOutside, IsTranslated}
 use Rattle.workflow_cli.specs.Running.{IsBadInputs, IsDone, IsFailed, IsIdle, IsOn, IsTooMany, IsUnkept, IsUnlaunched, IsUnreadInputs, SomeRun, Trace}
 
@@ -33,7 +34,7 @@ module _ (tells : Tells) (words : Words) where
     pub named : Names words file
     pub refused : IsRefused tells file code span paths
 
-  -- the document that is to be run or translated has no main workflow
+  -- the document that is to be run or translated, or whose inputs are asked for, has no main workflow
   pub record IsMainless (code : ℕ) (span : Span) (paths : List (List ℕ)) : Type 0 where
     pub file : List ℕ
     pub inputs : Option (List ℕ)
@@ -55,7 +56,8 @@ module _ (tells : Tells) (words : Words) where
 -- the text of finished work: of a run, or of a command that runs nothing
 abbrev pub IsFinished : Tells → Words → (Request → Answer → Type 0) → (Request → Type 0) → Trace → List ℕ → Type 0
 IsFinished tells words gives refuses t text =
-    IsDone tells words gives refuses t text ⊎ (IsIdle t × (IsAccepted tells words text ⊎ IsTranslated tells words text))
+    IsDone tells words gives refuses t text
+    ⊎ (IsIdle t × (IsAccepted tells words text ⊎ (IsTranslated tells words text ⊎ (IsFormed tells words text ⊎ IsPrinted words text))))
 
 module _ (tells : Tells) (refused : List ℕ → Type 0) (rose : Type 0) (gives : Request → Answer → Type 0) (refuses : Request → Type 0) (words : Words) (t : Trace) where
   -- the status, and the paths of the documents that its line may name

@@ -15,7 +15,8 @@ use Rattle.wdl_sources.specs.Walks.{AreFiles, Files}
 use Rattle.wdl_imports.specs.Libraries.{IsLibrary}
 use Rattle.wdl_check_doc.specs.Checked as check
 use Rattle.wdl_json.specs.Inputs.{inputs_in, main_of}
-use Rattle.workflow_cli.specs.Asking.{IsCheckOf, IsCwlOf, IsForInputs, IsForMain, IsNotBuilt, IsRunOf, Words, asked}
+use Rattle.workflow_cli.specs.declared.asking.Page.{Page}
+use Rattle.workflow_cli.specs.Asking.{IsCheckOf, IsCwlOf, IsForInputs, IsForMain, IsFormOf, IsNotBuilt, IsPrintOf, IsRunOf, Words, asked}
 use Rattle.wdl_json.specs.declared.fault.InputFault.TheVariants.{Bad}
 use Rattle.workflow_cli.specs.Causes.{Names}
 use Rattle.workflow_cli.specs.Documents.{Tells}
@@ -48,6 +49,16 @@ MustHave tells root c = (files : Files) → AreFiles tells files → AreChecked 
 abbrev pub CheckIsComplete : Tells → Words → Type 0 → Type 0 → Status → Type 0
 CheckIsComplete tells words unread cut r = (file : List ℕ) (c : Checked) → IsCheckOf words file → MustHave tells file c → ¬ unread → ¬ cut → IsOr status.Ok r
 
+-- the inputs of a document that has a checked form with a main workflow give Ok, where no count rises
+abbrev pub FormIsComplete : Tells → Words → Type 0 → Type 0 → Status → Type 0
+FormIsComplete tells words unread cut r =
+    (file : List ℕ) (c : Checked) (f : FlowDef) → IsFormOf words file → MustHave tells file c → main_of c.flows c.main ≡ Some f
+    → ¬ unread → ¬ cut → IsOr status.Ok r
+
+-- help and the version give Ok, or Write where a count rises
+abbrev pub PrintIsComplete : Words → Type 0 → Status → Type 0
+PrintIsComplete words cut r = (page : Page) → IsPrintOf words page → IsOr status.Ok r ⊎ ((r ≡ status.Write) × cut)
+
 -- whatever the bytes are that the shelf does not tell, the document at the path has no checked form
 abbrev pub MustLack : Tells → List ℕ → Type 0
 MustLack tells root = (files : Files) (docs : List Doc) (structs : List StructDef)
@@ -61,7 +72,8 @@ abbrev pub DocumentIsComplete : Tells → Words → Type 0 → Type 0 → Status
 DocumentIsComplete tells words unread cut r =
     (file : List ℕ) → Names words file → MustLack tells file → ¬ unread → ¬ cut → IsSomeDocument r ⊎ (r ≡ status.NoMemory)
 
--- a run or a translation of a document that has a checked form without a main workflow gives Document with the code 327, where no count rises
+-- a run or a translation of a document that has a checked form without a main workflow, or its inputs, give Document with the code 327, where
+-- no count rises
 abbrev pub MainIsComplete : Tells → Words → Type 0 → Type 0 → Status → Type 0
 MainIsComplete tells words unread cut r =
     (file : List ℕ) (inputs : Option (List ℕ)) (c : Checked) → IsForMain words file inputs → MustHave tells file c

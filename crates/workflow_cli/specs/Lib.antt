@@ -5,6 +5,7 @@ pub mod Causes
 pub mod Counting
 pub mod Stages
 pub mod Translating
+pub mod Printing
 pub mod Meaning
 pub mod Writing
 pub mod Complete

@@ -9,7 +9,7 @@ ghost use Rattle.workflow_cli.specs.Asking.{Asks};
 use report_text::Status;
 use std::alloc::Global;
 use wdl_value::Text;
-use wdl_words::{Wants, WordFault, read_words};
+use wdl_words::{Command as Topic, Wants, WordFault, read_words};
 
 /// How a workflow is run.
 #[derive(Debug, Drop)]
@@ -22,7 +22,15 @@ pub struct RunOptions {
     pub journal: Option<Text>,
 }
 
-/// What today's program does.
+/// A text that the program has of itself.
+#[derive(Clone, Copy, Debug)]
+pub enum Page {
+    /// The help of a command, or of the whole program.
+    Help(Option<Topic>),
+    Version,
+}
+
+/// What the program does.
 #[derive(Debug, Drop)]
 pub enum Command {
     /// Runs the main workflow of a document.
@@ -43,6 +51,15 @@ pub enum Command {
         file: Text,
         /// The path of the inputs.
         inputs: Option<Text>,
+    },
+    /// Writes the inputs of the main workflow of a document, to be filled in.
+    Inputs {
+        /// The document's path.
+        file: Text,
+    },
+    /// Prints a page of the program's own.
+    Print {
+        page: Page,
     },
 }
 
@@ -70,6 +87,13 @@ fn command_of(wants: Wants) -> Option<Command>
         }),
         Wants::Check { file } => Some(Command::Check { file }),
         Wants::Cwl { file, inputs } => Some(Command::Cwl { file, inputs }),
+        Wants::Inputs { file } => Some(Command::Inputs { file }),
+        Wants::Help { about } => Some(Command::Print {
+            page: Page::Help(about),
+        }),
+        Wants::Version => Some(Command::Print {
+            page: Page::Version,
+        }),
         Wants::Load { number: _ } => None,
         Wants::Bundle { file: _ } => None,
     }

@@ -11,6 +11,7 @@ mod inputs;
 mod journal;
 mod laws;
 mod prepare;
+mod printing;
 mod run;
 mod stream_sink;
 mod top;

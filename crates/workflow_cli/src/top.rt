@@ -9,7 +9,7 @@ ghost use Rattle.workflow_cli.specs.Causes.{IsStartedOn, IsUnread, UsesJournal};
 ghost use Rattle.workflow_cli.specs.Counting.{StatusCounts};
 ghost use Rattle.workflow_cli.specs.Running.{IsBadInputs, IsFailed, IsIdle, IsTooMany, IsUnkept, IsUnlaunched, SomeRun, trace_by};
 ghost use Rattle.workflow_cli.specs.Writing.{IsCut, IsExcluded, IsReported, IsWritten, Lines};
-ghost use Rattle.workflow_cli.specs.Complete.{CheckIsComplete, CwlIsComplete, DocumentIsComplete, InputsIsComplete, MainIsComplete, NotBuiltIsComplete, RunIsComplete, UsageIsComplete};
+ghost use Rattle.workflow_cli.specs.Complete.{CheckIsComplete, CwlIsComplete, DocumentIsComplete, FormIsComplete, InputsIsComplete, MainIsComplete, NotBuiltIsComplete, PrintIsComplete, RunIsComplete, UsageIsComplete};
 
 use crate::ended::{Ended, Worked};
 use crate::finish::finish;
@@ -27,7 +27,8 @@ use wdl_value::Steps;
 /// a job that has a row with the same request and a successful status is not launched, and each answer is kept. `check FILE`
 /// writes `ok` and a newline, where the document has a checked form. `cwl FILE` writes the CWL document of the main workflow and
 /// a newline, and `cwl --inputs INPUTS FILE` the CWL input object of these inputs and a newline, where no rule of the subset is
-/// broken. With another status its line is written to `err`.
+/// broken. `inputs FILE` writes the inputs of the main workflow as a JSON object to fill in and a newline; `help` and `version`,
+/// which have other spellings, a text of the program and a newline. With another status its line is written to `err`.
 ///
 /// Not built yet are `load` and `bundle`.
 pub fn workflow<
@@ -104,6 +105,10 @@ pub fn workflow<
     ensures check_complete { CheckIsComplete (F.tells shelf.old) words.now (Rose (F.faults shelf.old) (F.faults shelf.new))
         (Rose (O.faults out.old) (O.faults out.new) ⊎ Rose (E.faults err.old) (E.faults err.new)) result.status }
     ensures cwl_complete { CwlIsComplete (F.tells shelf.old) words.now (Rose (F.faults shelf.old) (F.faults shelf.new))
+        (Rose (O.faults out.old) (O.faults out.new) ⊎ Rose (E.faults err.old) (E.faults err.new)) result.status }
+    ensures form_complete { FormIsComplete (F.tells shelf.old) words.now (Rose (F.faults shelf.old) (F.faults shelf.new))
+        (Rose (O.faults out.old) (O.faults out.new) ⊎ Rose (E.faults err.old) (E.faults err.new)) result.status }
+    ensures print_complete { PrintIsComplete words.now
         (Rose (O.faults out.old) (O.faults out.new) ⊎ Rose (E.faults err.old) (E.faults err.new)) result.status }
     ensures run_complete { RunIsComplete (F.tells shelf.old) words.now (L.refuses launcher.now)
         (Rose (F.faults shelf.old) (F.faults shelf.new))

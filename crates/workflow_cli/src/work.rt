@@ -11,6 +11,7 @@ use crate::asking::{Command, asked};
 use crate::checking::{checked_of, stop};
 use crate::cwl::cwl;
 use crate::ended::{Work, Worked};
+use crate::printing::{form, printed};
 use crate::run::{idle, run};
 use report_text::Status;
 use std::alloc::Global;
@@ -66,6 +67,8 @@ pub fn work<F: Shelf, L: Launcher + Sync, K: Keeper, R: Threads + Wait + Sync, S
         ),
         Ok(Command::Check { file }) => idle(alloc, accepted(alloc, &file, shelf)),
         Ok(Command::Cwl { file, inputs }) => idle(alloc, cwl(alloc, &file, &inputs, shelf)),
+        Ok(Command::Inputs { file }) => idle(alloc, form(alloc, &file, shelf)),
+        Ok(Command::Print { page }) => idle(alloc, printed(alloc, page)),
         Err(status) => idle(alloc, Work::Stop(stop(alloc, status))),
     }
 }

@@ -75,3 +75,9 @@ returns-clause-cwl_complete g c = complete.cwl_complete _ _ _ _ _ _ _ _ _ _ _ _ 
 
 pub returns-clause-counted : goal.returns-clause-counted
 returns-clause-counted g c = finishes _ _ _ _ _ _ _ _ c.work-work.result.work _ c.work-work.ensures.counted c.finish-status.ensures.value
+
+pub returns-clause-form_complete : goal.returns-clause-form_complete
+returns-clause-form_complete g c = complete.form_complete _ _ _ _ _ _ _ _ _ _ _ _ _ _ (outcome _ _ _ _ _ _ _ _ _ _ _ _ _ c.work-work.result.work _ c.work-work.ensures.cause.cause c.finish-status.ensures.value)
+
+pub returns-clause-print_complete : goal.returns-clause-print_complete
+returns-clause-print_complete g c = complete.print_complete _ _ _ _ _ _ _ _ _ _ _ _ _ _ (outcome _ _ _ _ _ _ _ _ _ _ _ _ _ c.work-work.result.work _ c.work-work.ensures.cause.cause c.finish-status.ensures.value)

@@ -1,5 +1,6 @@
 use Rattle.std.proofs.Common.{refl}
-use Rattle.workflow_cli.proofs.Works.{check_is_work, cwl_is_work, run_is_work, uses_journal}
+use Rattle.workflow_cli.proofs.Counts.{works}
+use Rattle.workflow_cli.proofs.Works.{check_is_work, cwl_is_work, form_is_work, print_is_work, run_is_work, uses_journal}
 use Rattle.workflow_cli.proofs.work.work.Goals as goal
 
 pub returns-in-Ok-Run-clause-cause : goal.returns-in-Ok-Run-clause-cause
@@ -19,6 +20,18 @@ returns-in-Ok-Cwl-clause-cause g c =
     let i = c.idle-in-Ok-Cwl.ensures in
     rw i.work (cwl_is_work _ _ _ _ _ _ _ (record { no_answer = i.journal; no_job = i.steps; no_count = i.counts; no_step = refl; no_row = refl }) _ _ asked c.cwl.result c.cwl.ensures.value)
 
+pub returns-in-Ok-Inputs-clause-cause : goal.returns-in-Ok-Inputs-clause-cause
+returns-in-Ok-Inputs-clause-cause g c =
+    let asked = rw c.in-Ok-Inputs.field-0-is at c.in-Ok-Inputs.ensures.value in
+    let i = c.idle-in-Ok-Inputs.ensures in
+    rw i.work (form_is_work _ _ _ _ _ _ _ (record { no_answer = i.journal; no_job = i.steps; no_count = i.counts; no_step = refl; no_row = refl }) _ asked c.form.result c.form.ensures.value)
+
+pub returns-in-Ok-Print-clause-cause : goal.returns-in-Ok-Print-clause-cause
+returns-in-Ok-Print-clause-cause g c =
+    let asked = rw c.in-Ok-Print.field-0-is at c.in-Ok-Print.ensures.value in
+    let i = c.idle-in-Ok-Print.ensures in
+    rw i.work (print_is_work _ _ _ _ _ _ _ (record { no_answer = i.journal; no_job = i.steps; no_count = i.counts; no_step = refl; no_row = refl }) _ asked c.printed.result c.printed.ensures.value)
+
 pub returns-in-Ok-Run-clause-keeper : goal.returns-in-Ok-Run-clause-keeper
 returns-in-Ok-Run-clause-keeper g c =
     let asked = rw c.in-Ok-Run.field-0-is at c.in-Ok-Run.ensures.value in
@@ -29,3 +42,9 @@ returns-in-Ok-Check-clause-counted g c = rw c.idle.ensures.work c.accepted.ensur
 
 pub returns-in-Ok-Cwl-clause-counted : goal.returns-in-Ok-Cwl-clause-counted
 returns-in-Ok-Cwl-clause-counted g c = rw c.idle-in-Ok-Cwl.ensures.work c.cwl.ensures.counted
+
+pub returns-in-Ok-Inputs-clause-counted : goal.returns-in-Ok-Inputs-clause-counted
+returns-in-Ok-Inputs-clause-counted g c = rw c.idle-in-Ok-Inputs.ensures.work c.form.ensures.counted
+
+pub returns-in-Ok-Print-clause-counted : goal.returns-in-Ok-Print-clause-counted
+returns-in-Ok-Print-clause-counted g c = rw c.idle-in-Ok-Print.ensures.work (works c.printed.result _ _ refl)
