@@ -71,7 +71,7 @@ checks() {
 }
 
 echo "words"
-usage='usage: wdl run [--inputs FILE] [--workers N] [--root DIR] [--journal FILE] FILE | check FILE | cwl [--inputs FILE] FILE\n'
+usage='usage: wdl run [--inputs FILE] [--workers N] [--root DIR] [--journal FILE] FILE | check FILE | inputs FILE | cwl [--inputs FILE] FILE\n'
 document bare.wdl 'workflow w { }'
 expect "no words" 2 '' "$usage"
 expect "another command" 2 '' "$usage" walk bare.wdl
@@ -82,7 +82,9 @@ expect "an option that there is not" 2 '' "$usage" run --fast bare.wdl
 expect "an option of another command" 2 '' "$usage" check --root /tmp bare.wdl
 expect "an option twice" 2 '' "$usage" run --root /tmp --root /tmp bare.wdl
 expect "an option without its value" 2 '' "$usage" run bare.wdl --inputs
-expect "help" 2 '' "$usage" --help
+expect "help behind other words" 2 '' "$usage" run bare.wdl --help
+expect "a file that is named help" 5 '' 'cannot read help\n' check help
+expect "the inputs of a workflow without any" 0 '{}\n' '' inputs bare.wdl
 expect "a root that is relative" 2 '' "$usage" run --root tmp bare.wdl
 long=$(awk 'BEGIN { while (length(s) < 511) s = s "a"; print s }')
 expect "a root of 512 bytes" 0 '{}\n' '' run --root "/$long" bare.wdl
@@ -307,13 +309,15 @@ if [ $# = 0 ]; then
 fi
 
 echo "scripts"
-# script NAME: a script of tests/, whose last line counts its own checks.
+# script NAME [PAGE]: a script of tests/, whose last line counts its own checks.
 script() {
-  sh "$top/tests/$1.sh" "$program" >out 2>&1 && pass || fail "tests/$1.sh: $(cat out)"
+  sh "$top/tests/$1.sh" "$program" ${2+"$top/$2"} >out 2>&1 && pass || fail "tests/$*: $(cat out)"
 }
 script program
 script moving
 script workers
+script notes
+script page examples/FIRST.md
 script cwl
 grep '^cwltool' out
 script journal

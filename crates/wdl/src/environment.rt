@@ -1,6 +1,7 @@
 //! What the program reads of its environment.
+use either::Either;
 use std::env::{Env, VarError};
-use std::io::ErrorKind;
+use std::io::{ErrorKind, IsTerminal};
 use std::{env, io};
 use wdl_value::NoMemory;
 
@@ -29,5 +30,28 @@ pub(crate) fn shell<R: Env + AllocGlobal>(rt: &R) -> Result<Option<String>, NoMe
         Ok(_) | Err(VarError::NotPresent) => Ok(Some(String::from_str(rt.alloc(), "sh")?)),
         Err(VarError::NotUnicode) => Ok(None),
         Err(VarError::OutOfMemory) => Err(NoMemory),
+    }
+}
+
+/// Returns whether a person reads the notes: where the stream is a terminal, or the environment has `WDL_NOTES=1`.
+fn shows_notes<R: Env + AllocGlobal, W: IsTerminal>(rt: &R, stream: &W) -> bool {
+    if stream.is_terminal() {
+        return true;
+    }
+    match env::var(rt, "WDL_NOTES") {
+        Ok(value) => value.as_str() == "1",
+        Err(_) => false,
+    }
+}
+
+/// Returns the stream of the notes: the given one, or where nobody reads them one that takes everything and keeps nothing.
+pub(crate) fn note_stream<R: Env + AllocGlobal, W: IsTerminal>(
+    rt: &R,
+    stream: W,
+) -> Either<W, io::Sink> {
+    if shows_notes(rt, &stream) {
+        Either::Left(stream)
+    } else {
+        Either::Right(io::sink())
     }
 }

@@ -5,7 +5,7 @@ ghost use Rattle.std.specs.Prelude.{◌≡◌, ◌<◌, None};
 
 mod environment;
 
-use environment::shell;
+use environment::{note_stream, shell};
 use job_launcher::ShellLauncher;
 use keeper_sql::SqlKeeper;
 use report_text::{Status, no_memory_line, number_of};
@@ -18,9 +18,10 @@ use std::process::ExitCode;
 use std::sync::Wait;
 use std::sync::ledger::{Blank, Ledger};
 use std::thread::Threads;
+use std::time::Clock;
 use wdl_port::{Keeper, Launcher, Shelf, Sink};
 use wdl_value::{NoMemory, Steps};
-use workflow_cli::{FileShelf, StreamSink, workflow};
+use workflow_cli::{FileShelf, Recall, RecallingShelf, StreamSink, workflow};
 
 /// The words after the program's name. Where they are no text there are none, which has no reading.
 fn words<R: Env + AllocGlobal>(rt: &R) -> Result<Vec<String>, NoMemory> {
@@ -39,12 +40,13 @@ fn words<R: Env + AllocGlobal>(rt: &R) -> Result<Vec<String>, NoMemory> {
 
 /// Makes the top call with a count of steps that nobody reads, and gives the number of its status.
 fn number<
-    F: Shelf,
+    F: Shelf + Recall,
     O: Sink,
     E: Sink,
+    N: Sink,
     L: Launcher + Sync,
     K: Keeper,
-    R: Threads + Wait + Sync,
+    R: Threads + Wait + Clock + Sync,
     S: Ledger,
 >(
     rt: &R,
@@ -53,6 +55,7 @@ fn number<
     shelf: &mut F,
     out: &mut O,
     err: &mut E,
+    notes: &mut N,
     launcher: &L,
     keeper: &mut K,
     blank: Blank,
@@ -64,7 +67,7 @@ fn number<
 {
     let mut steps: Steps<S> = Steps::start(blank);
     let ended = workflow(
-        rt, alloc, words, shelf, out, err, launcher, keeper, &mut steps,
+        rt, alloc, words, shelf, out, err, notes, launcher, keeper, &mut steps,
     );
     number_of(&ended.status)
 }
@@ -76,17 +79,19 @@ fn main(rt: HostRuntime) -> ExitCode {
         let _ = err.write(no_memory_line().as_bytes());
         return ExitCode::from(number_of(&Status::NoMemory));
     };
-    let mut shelf = FileShelf::new(&rt);
+    let mut shelf = RecallingShelf::new(alloc, FileShelf::new(&rt));
     let mut out = StreamSink::new(rt.stdout());
+    let mut notes = StreamSink::new(note_stream(&rt, rt.stderr()));
     let launcher = ShellLauncher::new(&rt, shell);
     let mut keeper = SqlKeeper::new(&rt);
-    let number = number::<_, _, _, _, _, _, Brand>(
+    let number = number::<_, _, _, _, _, _, _, Brand>(
         &rt,
         alloc,
         words.as_slice(),
         &mut shelf,
         &mut out,
         &mut err,
+        &mut notes,
         &launcher,
         &mut keeper,
         Blank::new(1),

@@ -5,6 +5,7 @@ use std::alloc::Global;
 use std::sync::Wait;
 use std::test::Fail;
 use std::thread::Threads;
+use std::time::Clock;
 
 /// `> LINE`, `>. TEXT` without a newline, or `>* NUMBER PIECE`.
 fn push_line(expected: &mut String, line: &str) -> Result<(), Fail> {
@@ -31,7 +32,7 @@ fn expected(alloc: Global, lines: &str) -> Result<String, Fail> {
 }
 
 /// What is wrong with a case, if anything is.
-fn mistake<R: Threads + Wait + Sync>(
+fn mistake<R: Threads + Wait + Clock + Sync>(
     rt: &R,
     alloc: Global,
     lines: &str,
@@ -45,7 +46,7 @@ fn mistake<R: Threads + Wait + Sync>(
 }
 
 /// The first of the cases, which empty lines part, whose call shows anything else than what stands behind `>`; with what it shows.
-pub fn first_mistake<R: Threads + Wait + Sync>(
+pub fn first_mistake<R: Threads + Wait + Clock + Sync>(
     rt: &R,
     alloc: Global,
     cases: &str,

@@ -14,7 +14,8 @@
 //!   many letters there, `odd PLACE` a byte that is no text, and `long PLACE` more than is kept;
 //! - `refuse PLACE` refuses that place.
 //!
-//! `$ WORDS` are the words of the call, and `room OUT ERR` the bytes that the two sinks take. What is to be seen stands behind `>`.
+//! `$ WORDS` are the words of the call, and `room OUT ERR` the bytes that the two sinks take. The sink of the notes takes nothing, so that
+//! each write there fails, or the bytes of `notes NUMBER`. What is to be seen stands behind `>`.
 #![tactic(auto)]
 
 mod answers;

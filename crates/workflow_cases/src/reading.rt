@@ -22,6 +22,7 @@ pub struct Case {
     pub words: Vec<String>,
     pub out: MemorySink,
     pub err: MemorySink,
+    pub notes: MemorySink,
 }
 
 /// An empty sink with room for so many bytes.
@@ -33,6 +34,7 @@ fn sink(alloc: Global, room: usize) -> Result<MemorySink, NoMemory> {
 fn start(alloc: Global) -> Result<Case, NoMemory> {
     let out = sink(alloc, 100_000)?;
     let err = sink(alloc, 1_000)?;
+    let notes = sink(alloc, 0)?;
     Ok(Case {
         text: String::new(alloc),
         left: Items::new(alloc),
@@ -44,6 +46,7 @@ fn start(alloc: Global) -> Result<Case, NoMemory> {
         words: Vec::new(alloc),
         out,
         err,
+        notes,
     })
 }
 
@@ -61,6 +64,11 @@ fn set_rooms(alloc: Global, case: &mut Case, rest: &str) -> Result<(), Fail> {
     let (out, err) = rest.split_once(' ').unwrap_or((rest, ""));
     case.out = sink(alloc, out.parse::<usize>()?)?;
     case.err = sink(alloc, err.parse::<usize>()?)?;
+    Ok(())
+}
+
+fn set_notes(alloc: Global, case: &mut Case, rest: &str) -> Result<(), Fail> {
+    case.notes = sink(alloc, rest.parse::<usize>()?)?;
     Ok(())
 }
 
@@ -107,6 +115,7 @@ fn read_line(alloc: Global, case: &mut Case, line: &str) -> Result<(), Fail> {
     match word {
         "$" => push_words(alloc, &mut case.words, rest),
         "room" => set_rooms(alloc, case, rest),
+        "notes" => set_notes(alloc, case, rest),
         _ => Ok(()),
     }
 }

@@ -7,9 +7,10 @@ use std::sync::Wait;
 use std::sync::ledger::{Blank, Ledger};
 use std::test::Fail;
 use std::thread::Threads;
+use std::time::Clock;
 use wdl_port::{Keeper, Launcher, MapKeeper, MemoryShelf, MemorySink, TableLauncher};
 use wdl_value::Steps;
-use workflow_cli::{Ended, workflow};
+use workflow_cli::{Ended, RecallingShelf, workflow};
 
 /// How a call ended, what was written, and the journal's keeper.
 #[derive(Drop)]
@@ -17,16 +18,18 @@ pub struct Outcome {
     pub ended: Ended,
     pub out: MemorySink,
     pub err: MemorySink,
+    pub notes: MemorySink,
     pub keeper: MapKeeper,
 }
 
-fn run<L: Launcher + Sync, K: Keeper, R: Threads + Wait + Sync, S: Ledger>(
+fn run<L: Launcher + Sync, K: Keeper, R: Threads + Wait + Clock + Sync, S: Ledger>(
     rt: &R,
     alloc: Global,
     words: &[String],
-    shelf: &mut MemoryShelf,
+    shelf: &mut RecallingShelf<MemoryShelf>,
     out: &mut MemorySink,
     err: &mut MemorySink,
+    notes: &mut MemorySink,
     launcher: &L,
     keeper: &mut K,
     blank: Blank,
@@ -38,28 +41,30 @@ fn run<L: Launcher + Sync, K: Keeper, R: Threads + Wait + Sync, S: Ledger>(
 {
     let mut steps: Steps<S> = Steps::start(blank);
     workflow(
-        rt, alloc, words, shelf, out, err, launcher, keeper, &mut steps,
+        rt, alloc, words, shelf, out, err, notes, launcher, keeper, &mut steps,
     )
 }
 
 /// The call of a case.
-pub fn run_case<R: Threads + Wait + Sync>(
+pub fn run_case<R: Threads + Wait + Clock + Sync>(
     rt: &R,
     alloc: Global,
     case: Case,
 ) -> Result<Outcome, Fail> {
     let Case {
         words,
-        mut shelf,
+        shelf,
         rows,
         refused,
         keeper,
         unkept,
         mut out,
         mut err,
+        mut notes,
         ..
     } = case;
     let launcher = TableLauncher::new(alloc, rows, refused)?;
+    let mut shelf = RecallingShelf::new(alloc, shelf);
     let mut keeper = keeper.again(unkept);
     let ended = run::<TableLauncher, MapKeeper, R, Brand>(
         rt,
@@ -68,6 +73,7 @@ pub fn run_case<R: Threads + Wait + Sync>(
         &mut shelf,
         &mut out,
         &mut err,
+        &mut notes,
         &launcher,
         &mut keeper,
         Blank::new(1),
@@ -76,6 +82,7 @@ pub fn run_case<R: Threads + Wait + Sync>(
         ended,
         out,
         err,
+        notes,
         keeper,
     })
 }

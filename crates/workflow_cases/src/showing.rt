@@ -5,6 +5,7 @@ use std::alloc::Global;
 use std::sync::Wait;
 use std::test::Fail;
 use std::thread::Threads;
+use std::time::Clock;
 use wdl_value::{Entry, Laid, Place, Source, Step, place_text};
 
 fn push_place(alloc: Global, shown: &mut String, mark: &str, place: &Place) -> Result<(), Fail> {
@@ -66,9 +67,24 @@ fn push_written(shown: &mut String, outcome: &Outcome) -> Result<(), Fail> {
     Ok(())
 }
 
+/// Behind `#` the lines of the notes, without the times in them.
+fn push_notes(shown: &mut String, notes: &str) -> Result<(), Fail> {
+    for line in notes.lines() {
+        let (line, _) = line.split_once(" after ").unwrap_or((line, ""));
+        shown.push_str("# ")?;
+        shown.push_str(line)?;
+        shown.push_str("\n")?;
+    }
+    Ok(())
+}
+
 /// What is seen of a call: the number of its status and how many jobs it collected, the jobs that were taken and settled, what was
-/// written to the output, behind `!` what was written to the error stream, and the requests of its journal.
-pub fn shown<R: Threads + Wait + Sync>(rt: &R, alloc: Global, case: Case) -> Result<String, Fail> {
+/// written to the output, behind `!` what was written to the error stream, the requests of its journal, and its notes.
+pub fn shown<R: Threads + Wait + Clock + Sync>(
+    rt: &R,
+    alloc: Global,
+    case: Case,
+) -> Result<String, Fail> {
     let outcome = run_case(rt, alloc, case)?;
     let number = number_of(&outcome.ended.status);
     let collected = outcome.ended.counts.collected;
@@ -76,5 +92,6 @@ pub fn shown<R: Threads + Wait + Sync>(rt: &R, alloc: Global, case: Case) -> Res
     push_steps(alloc, &mut shown, outcome.ended.steps.as_slice())?;
     push_written(&mut shown, &outcome)?;
     push_entries(&mut shown, outcome.ended.journal.as_slice())?;
+    push_notes(&mut shown, str::from_utf8(outcome.notes.bytes.as_slice())?)?;
     Ok(shown)
 }

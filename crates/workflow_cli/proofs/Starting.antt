@@ -1,5 +1,7 @@
 -- A run that begins.
-use Rattle.std.proofs.Common.{◌≡◌, true, ℕ, List, [], Some, IsSome, slice_get, ap, sym, subst, ◌∙◌}
+use Rattle.std.specs.Prelude.{String}
+use Rattle.std.specs.declared.alloc.Global.{Global}
+use Rattle.std.proofs.Common.{◌≡◌, true, ℕ, List, [], Option, Some, None, IsSome, slice_get, ap, sym, subst, ◌∙◌}
 use Rattle.wdl_value.specs.declared.env.Bind.{Bind}
 use Rattle.wdl_typed.specs.declared.checked.Checked.{Checked}
 use Rattle.wdl_typed.specs.declared.flow.FlowDef.{FlowDef}
@@ -33,12 +35,12 @@ module _ (c : Checked) (given : List Bind) where
   begun_is site main core name m e n f fit = record { core = e; name = n ∙ ap (λ (x : FlowDef). x.name) (some_same (sym m ∙ fit.main)) }
 
 -- the work of a stop that names no document
-pub stop_is : (st : Stop) (s : Status) → st.status ≡ s → st.paths ≡ [] → work.Stop st ≡ stops s
-stop_is st s e p = ap (λ x. make x st.paths) e ∙ ap (make s) p
+pub stop_is : (st : Stop) (s : Status) → st.status ≡ s → st.paths ≡ [] → st.note ≡ None → work.Stop st ≡ stops s
+stop_is st s e p n = ap (λ x. make x st.paths st.note) e ∙ ap (λ x. make s x st.note) p ∙ ap (make s []) n
   where
-    make : Status → List (List ℕ) → Work
-    make x ps = work.Stop (record { status = x; paths = ps })
+    make : Status → List (List ℕ) → Option (String Global) → Work
+    make x ps note = work.Stop (record { status = x; paths = ps; note = note })
 
-pub stop_turns : (name : List ℕ) (core : CoreState) (why : Why) (st : Stop) (s : Status) → st.status ≡ s → st.paths ≡ [] → StopsAs core why s
+pub stop_turns : (name : List ℕ) (core : CoreState) (why : Why) (st : Stop) (s : Status) → st.status ≡ s → st.paths ≡ [] → st.note ≡ None → StopsAs core why s
     → Turns name core (Some why) (work.Stop st)
-stop_turns name core why st s e p h = (s, stop_is st s e p, h)
+stop_turns name core why st s e p n h = (s, stop_is st s e p n, h)

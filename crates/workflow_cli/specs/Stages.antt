@@ -123,7 +123,7 @@ Prepares tells refused rose file inputs (Err stop) = PrepareStops tells refused 
 -- ---- what a run comes to
 
 abbrev pub stops : Status → Work
-stops s = work.Stop (record { status = s; paths = [] })
+stops s = work.Stop (record { status = s; paths = []; note = None })
 
 -- after a fault: a fault of the flow over the journal, or the flow is past its limits
 abbrev pub IsFailedAs : CoreState → Status → Type 0

@@ -1,6 +1,6 @@
 //! The documents, from their files to the checked form.
 
-ghost use Rattle.std.specs.Prelude.{◌≡◌, ◌≤◌, ◌↔◌, ◌<◌, ℕ, List, [], IfOk, IfErr, length, Some, slice_get};
+ghost use Rattle.std.specs.Prelude.{◌≡◌, ◌≤◌, ◌↔◌, ◌<◌, ℕ, List, [], IfOk, IfErr, length, Some, None, slice_get};
 ghost use Rattle.report_text.specs.Lines.{HasPath};
 ghost use Rattle.wdl_port.specs.Causes.{Rose};
 ghost use Rattle.workflow_cli.specs.Counting.{StopCounts};
@@ -8,6 +8,8 @@ ghost use Rattle.workflow_cli.specs.Documents as spec;
 ghost use Rattle.workflow_cli.specs.Documents.{Checks, Gathers, Locates, LocatesIn, Types, paths_of};
 
 use crate::ended::Stop;
+use crate::note::note_on;
+use crate::recall::Recall;
 use report_text::Status;
 use std::alloc::Global;
 use wdl_check_doc::{CheckFault, check};
@@ -28,10 +30,12 @@ pub struct Located {
 pub fn stop(alloc: Global, status: Status) -> Stop
     ensures status { result.status ≡ status }
     ensures paths { result.paths ≡ [] }
+    ensures note { result.note ≡ None }
 {
     Stop {
         status,
         paths: Items::new(alloc),
+        note: None,
     }
 }
 
@@ -50,7 +54,7 @@ fn paths_to(alloc: Global, number: u32, path: Text) -> Result<Items<Text>, NoMem
 }
 
 /// The stop of a document in which a rule is broken.
-fn refused(alloc: Global, code: u16, path: Text, span: Span) -> Stop
+fn refused(alloc: Global, code: u16, path: Text, span: Span, note: Option<String>) -> Stop
     ensures value { spec.IsRefusal code span path result.status result.paths }
     ensures paths { HasPath result.status result.paths }
 {
@@ -58,13 +62,14 @@ fn refused(alloc: Global, code: u16, path: Text, span: Span) -> Stop
         Ok(paths) => Stop {
             status: Status::Document(code, span),
             paths,
+            note,
         },
         Err(_) => stop(alloc, Status::NoMemory),
     }
 }
 
 /// The library of the document at a path.
-fn gathered<F: Shelf>(alloc: Global, file: &Text, shelf: &mut F) -> Result<Library, Stop>
+fn gathered<F: Shelf + Recall>(alloc: Global, file: &Text, shelf: &mut F) -> Result<Library, Stop>
     ensures outcome { Gathers (F.tells shelf.old) file.now (F.refuses shelf.old) (Rose (F.faults shelf.old) (F.faults shelf.new)) result }
     ensures counted { StopCounts result (F.faults shelf.old) (F.faults shelf.new) }
     ensures paths { IfErr result (λ s. HasPath s.status s.paths) }
@@ -75,7 +80,10 @@ fn gathered<F: Shelf>(alloc: Global, file: &Text, shelf: &mut F) -> Result<Libra
     match gather(alloc, shelf, file) {
         Ok(library) => Ok(library),
         Err(ImportFault::Read { path }) => Err(stop(alloc, Status::Read(path))),
-        Err(ImportFault::Bad { code, path, span }) => Err(refused(alloc, code, path, span)),
+        Err(ImportFault::Bad { code, path, span }) => {
+            let note = note_on(alloc, &*shelf, &path, code, span, None);
+            Err(refused(alloc, code, path, span, note))
+        }
         Err(ImportFault::NoMemory) => Err(stop(alloc, Status::NoMemory)),
     }
 }
@@ -92,38 +100,41 @@ fn library_paths(alloc: Global, library: &Library) -> Result<Items<Text>, NoMemo
 }
 
 /// The stop of a library in which a rule is broken.
-fn untyped(alloc: Global, code: u16, span: Span, library: &Library) -> Stop
+fn untyped<F: Recall>(alloc: Global, code: u16, span: Span, library: &Library, shelf: &F) -> Stop
     requires within { span.doc < length library.now.docs }
     ensures value { spec.IsUntypedStop code span (paths_of library.now) result.status result.paths }
     ensures paths { HasPath result.status result.paths }
 {
+    let path = &library.docs.as_slice()[span.doc as usize].path;
+    let note = note_on(alloc, shelf, path, code, span, Some(library));
     match library_paths(alloc, library) {
         Ok(paths) => Stop {
             status: Status::Document(code, span),
             paths,
+            note,
         },
         Err(_) => stop(alloc, Status::NoMemory),
     }
 }
 
 /// The checked form of a library.
-fn typed(alloc: Global, library: &Library) -> Result<Checked, Stop>
+fn typed<F: Recall>(alloc: Global, library: &Library, shelf: &F) -> Result<Checked, Stop>
     ensures outcome { Types library.now result }
     ensures paths { IfErr result (λ s. HasPath s.status s.paths) }
 {
     match check(alloc, library) {
         Ok(checked) => Ok(checked),
-        Err(CheckFault::Bad { code, span }) => Err(untyped(alloc, code, span, library)),
+        Err(CheckFault::Bad { code, span }) => Err(untyped(alloc, code, span, library, shelf)),
         Err(CheckFault::NoMemory) => Err(stop(alloc, Status::NoMemory)),
     }
 }
 
 /// The checked form of a library, with the paths of its documents.
-fn located_in(alloc: Global, library: &Library) -> Result<Located, Stop>
+fn located_in<F: Recall>(alloc: Global, library: &Library, shelf: &F) -> Result<Located, Stop>
     ensures outcome { LocatesIn library.now result }
     ensures paths { IfErr result (λ s. HasPath s.status s.paths) }
 {
-    let checked = match typed(alloc, library) {
+    let checked = match typed(alloc, library, shelf) {
         Ok(checked) => checked,
         Err(stop) => return Err(stop),
     };
@@ -134,7 +145,11 @@ fn located_in(alloc: Global, library: &Library) -> Result<Located, Stop>
 }
 
 /// The checked form of the document at a path, and the paths of the documents that it imports.
-pub fn located_of<F: Shelf>(alloc: Global, file: &Text, shelf: &mut F) -> Result<Located, Stop>
+pub fn located_of<F: Shelf + Recall>(
+    alloc: Global,
+    file: &Text,
+    shelf: &mut F,
+) -> Result<Located, Stop>
     ensures outcome { Locates (F.tells shelf.old) file.now (F.refuses shelf.old) (Rose (F.faults shelf.old) (F.faults shelf.new)) result }
     ensures counted { StopCounts result (F.faults shelf.old) (F.faults shelf.new) }
     ensures paths { IfErr result (λ s. HasPath s.status s.paths) }
@@ -143,13 +158,17 @@ pub fn located_of<F: Shelf>(alloc: Global, file: &Text, shelf: &mut F) -> Result
     ensures same_refusals { (p : List ℕ) → F.refuses shelf.new p ↔ F.refuses shelf.old p }
 {
     match gathered(alloc, file, shelf) {
-        Ok(library) => located_in(alloc, &library),
+        Ok(library) => located_in(alloc, &library, &*shelf),
         Err(stop) => Err(stop),
     }
 }
 
 /// The checked form of the document at a path, with its imports.
-pub fn checked_of<F: Shelf>(alloc: Global, file: &Text, shelf: &mut F) -> Result<Checked, Stop>
+pub fn checked_of<F: Shelf + Recall>(
+    alloc: Global,
+    file: &Text,
+    shelf: &mut F,
+) -> Result<Checked, Stop>
     ensures outcome { Checks (F.tells shelf.old) file.now (F.refuses shelf.old) (Rose (F.faults shelf.old) (F.faults shelf.new)) result }
     ensures counted { StopCounts result (F.faults shelf.old) (F.faults shelf.new) }
     ensures paths { IfErr result (λ s. HasPath s.status s.paths) }
@@ -158,7 +177,7 @@ pub fn checked_of<F: Shelf>(alloc: Global, file: &Text, shelf: &mut F) -> Result
     ensures same_refusals { (p : List ℕ) → F.refuses shelf.new p ↔ F.refuses shelf.old p }
 {
     match gathered(alloc, file, shelf) {
-        Ok(library) => typed(alloc, &library),
+        Ok(library) => typed(alloc, &library, &*shelf),
         Err(stop) => Err(stop),
     }
 }

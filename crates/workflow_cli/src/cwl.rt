@@ -10,7 +10,9 @@ ghost use Rattle.workflow_cli.specs.Writing.{HasPaths};
 
 use crate::checking::{Located, stop};
 use crate::ended::{Stop, Work};
+use crate::note::note_on;
 use crate::prepare::{Prepared, main_of, start_of};
+use crate::recall::Recall;
 use cwl_emit::{object_text, process_text};
 use cwl_flow::translate;
 use cwl_formed::see_texts;
@@ -33,28 +35,40 @@ fn padded(alloc: Global, paths: Items<Text>, number: u32) -> Result<Items<Text>,
 }
 
 /// The stop of a rule of the subset that is broken.
-fn outside(alloc: Global, rule: u16, span: Span, paths: Items<Text>) -> Stop
+fn outside<F: Recall>(alloc: Global, rule: u16, span: Span, paths: Items<Text>, shelf: &F) -> Stop
     ensures value { spec.IsOutsideStop rule span paths result.status result.paths }
     ensures paths { HasPath result.status result.paths }
 {
+    let note = match paths.get(span.doc as usize) {
+        Some(path) => note_on(alloc, shelf, path, rule, span, None),
+        None => None,
+    };
     match padded(alloc, paths, span.doc) {
         Ok(paths) => Stop {
             status: Status::NotInSubset(rule, span),
             paths,
+            note,
         },
         Err(_) => stop(alloc, Status::NoMemory),
     }
 }
 
 /// The checked form as one of the subset.
-fn subset_of(alloc: Global, checked: Checked, paths: Items<Text>) -> Result<Subset, Stop>
+fn subset_of<F: Recall>(
+    alloc: Global,
+    checked: Checked,
+    paths: Items<Text>,
+    shelf: &F,
+) -> Result<Subset, Stop>
     requires main { IsSome checked.main }
     ensures value { spec.SubsetOf checked paths result }
     ensures paths { IfErr result (λ s. HasPath s.status s.paths) }
 {
     match in_subset(alloc, checked) {
         Ok(subset) => Ok(subset),
-        Err(SubsetFault::NotInSubset { rule, span }) => Err(outside(alloc, rule, span, paths)),
+        Err(SubsetFault::NotInSubset { rule, span }) => {
+            Err(outside(alloc, rule, span, paths, shelf))
+        }
         Err(SubsetFault::NoMemory) => Err(stop(alloc, Status::NoMemory)),
     }
 }
@@ -90,19 +104,19 @@ fn work_of(alloc: Global, text: Result<Text, NoMemory>) -> Work
     }
 }
 
-fn document_in(alloc: Global, located: Located) -> Work
+fn document_in<F: Recall>(alloc: Global, located: Located, shelf: &F) -> Work
     requires main { IsSome located.checked.main }
     ensures value { spec.DocumentWork located.checked located.paths result }
     ensures paths { HasPaths result }
 {
     let Located { checked, paths } = located;
-    match subset_of(alloc, checked, paths) {
+    match subset_of(alloc, checked, paths, shelf) {
         Ok(subset) => work_of(alloc, document_text(alloc, &subset)),
         Err(stop) => Work::Stop(stop),
     }
 }
 
-fn object_in(alloc: Global, prepared: Prepared) -> Work
+fn object_in<F: Recall>(alloc: Global, prepared: Prepared, shelf: &F) -> Work
     requires main { IsSome prepared.checked.main }
     ensures value { spec.ObjectWork prepared.checked prepared.paths prepared.given result }
     ensures paths { HasPaths result }
@@ -112,39 +126,49 @@ fn object_in(alloc: Global, prepared: Prepared) -> Work
         paths,
         given,
     } = prepared;
-    match subset_of(alloc, checked, paths) {
+    match subset_of(alloc, checked, paths, shelf) {
         Ok(_) => work_of(alloc, object_line(alloc, &given)),
         Err(stop) => Work::Stop(stop),
     }
 }
 
 /// The CWL document of the main workflow of the document at a path.
-fn document<F: Shelf>(alloc: Global, file: &Text, shelf: &mut F) -> Work
+fn document<F: Shelf + Recall>(alloc: Global, file: &Text, shelf: &mut F) -> Work
     ensures value { spec.WritesDocument (F.tells shelf.old) (F.refuses shelf.old) (Rose (F.faults shelf.old) (F.faults shelf.new)) file.now result }
     ensures counted { WorkCounts result (F.faults shelf.old) (F.faults shelf.new) }
     ensures paths { HasPaths result }
 {
     match main_of(alloc, file, shelf) {
-        Ok(located) => document_in(alloc, located),
+        Ok(located) => document_in(alloc, located, &*shelf),
         Err(stop) => Work::Stop(stop),
     }
 }
 
 /// The CWL input object of the inputs of a file, for the main workflow of the document at a path.
-fn object<F: Shelf>(alloc: Global, file: &Text, inputs: &Option<Text>, shelf: &mut F) -> Work
+fn object<F: Shelf + Recall>(
+    alloc: Global,
+    file: &Text,
+    inputs: &Option<Text>,
+    shelf: &mut F,
+) -> Work
     ensures value { spec.WritesObject (F.tells shelf.old) (F.refuses shelf.old) (Rose (F.faults shelf.old) (F.faults shelf.new)) file.now inputs.now result }
     ensures counted { WorkCounts result (F.faults shelf.old) (F.faults shelf.new) }
     ensures paths { HasPaths result }
 {
     match start_of(alloc, file, inputs, shelf) {
-        Ok(prepared) => object_in(alloc, prepared),
+        Ok(prepared) => object_in(alloc, prepared, &*shelf),
         Err(stop) => Work::Stop(stop),
     }
 }
 
 /// The CWL document of the main workflow of the document at a path; or, where the file of inputs is named, the CWL input
 /// object of these.
-pub fn cwl<F: Shelf>(alloc: Global, file: &Text, inputs: &Option<Text>, shelf: &mut F) -> Work
+pub fn cwl<F: Shelf + Recall>(
+    alloc: Global,
+    file: &Text,
+    inputs: &Option<Text>,
+    shelf: &mut F,
+) -> Work
     ensures value { spec.Translates (F.tells shelf.old) (F.refuses shelf.old) (Rose (F.faults shelf.old) (F.faults shelf.new)) file.now inputs.now result }
     ensures counted { WorkCounts result (F.faults shelf.old) (F.faults shelf.new) }
     ensures paths { HasPaths result }

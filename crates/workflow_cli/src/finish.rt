@@ -23,7 +23,11 @@ fn tell<E: Sink>(alloc: Global, stop: Stop, err: &mut E) -> Status
     requires paths { HasPath stop.status stop.paths }
     ensures value { Reports stop.status stop.paths (E.told err.old) (E.told err.new) (Rose (E.faults err.old) (E.faults err.new)) result }
 {
-    let Stop { status, paths } = stop;
+    let Stop {
+        status,
+        paths,
+        note: _,
+    } = stop;
     match line_of(alloc, &status, &paths) {
         Ok(text) => tell_line(status, text.as_str(), err),
         Err(_) => tell_line(Status::NoMemory, no_memory_line(), err),

@@ -12,6 +12,8 @@ ghost use Rattle.workflow_cli.specs.Stages as spec;
 use crate::checking::{Located, located_of, stop};
 use crate::ended::Stop;
 use crate::inputs::{given_of, inputs_text};
+use crate::note::{note_on, note_on_inputs};
+use crate::recall::Recall;
 use report_text::Status;
 use std::alloc::Global;
 use wdl_port::Shelf;
@@ -43,28 +45,32 @@ fn only_path(alloc: Global, file: &Text) -> Result<Items<Text>, NoMemory>
 }
 
 /// The stop of a document without a main workflow.
-fn mainless(alloc: Global, file: &Text) -> Stop
+fn mainless<F: Recall>(alloc: Global, file: &Text, shelf: &F) -> Stop
     ensures value { spec.IsMainlessStop file.now result.status result.paths }
     ensures paths { HasPath result.status result.paths }
 {
+    let span = Span {
+        doc: 0,
+        start: 0,
+        end: 0,
+    };
+    let note = note_on(alloc, shelf, file, 327, span, None);
     match only_path(alloc, file) {
         Ok(paths) => Stop {
-            status: Status::Document(
-                327,
-                Span {
-                    doc: 0,
-                    start: 0,
-                    end: 0,
-                },
-            ),
+            status: Status::Document(327, span),
             paths,
+            note,
         },
         Err(_) => stop(alloc, Status::NoMemory),
     }
 }
 
 /// The checked form of the document at a path, which has a main workflow.
-pub fn main_of<F: Shelf>(alloc: Global, file: &Text, shelf: &mut F) -> Result<Located, Stop>
+pub fn main_of<F: Shelf + Recall>(
+    alloc: Global,
+    file: &Text,
+    shelf: &mut F,
+) -> Result<Located, Stop>
     ensures outcome { LocatesMain (F.tells shelf.old) file.now (F.refuses shelf.old) (Rose (F.faults shelf.old) (F.faults shelf.new)) result }
     ensures counted { StopCounts result (F.faults shelf.old) (F.faults shelf.new) }
     ensures paths { IfErr result (λ s. HasPath s.status s.paths) }
@@ -77,7 +83,7 @@ pub fn main_of<F: Shelf>(alloc: Global, file: &Text, shelf: &mut F) -> Result<Lo
         Err(unchecked) => return Err(unchecked),
     };
     if main_flow(&located.checked).is_none() {
-        return Err(mainless(alloc, file));
+        return Err(mainless(alloc, file, &*shelf));
     }
     Ok(located)
 }
@@ -99,8 +105,27 @@ fn given_in<F: Shelf>(
     }
 }
 
+/// The stop of inputs that break a rule or cannot be read.
+fn unfit<F: Recall>(
+    alloc: Global,
+    status: Status,
+    checked: &Checked,
+    inputs: &Option<Text>,
+    shelf: &F,
+) -> Stop
+    ensures status { result.status ≡ status }
+    ensures paths { result.paths ≡ [] }
+{
+    let note = note_on_inputs(alloc, shelf, inputs, &status, main_flow(checked));
+    Stop {
+        status,
+        paths: Items::new(alloc),
+        note,
+    }
+}
+
 /// The checked form of the document at a path, and the inputs of its main workflow.
-pub fn start_of<F: Shelf>(
+pub fn start_of<F: Shelf + Recall>(
     alloc: Global,
     file: &Text,
     inputs: &Option<Text>,
@@ -120,6 +145,6 @@ pub fn start_of<F: Shelf>(
             paths,
             given,
         }),
-        Err(status) => Err(stop(alloc, status)),
+        Err(status) => Err(unfit(alloc, status, &checked, inputs, &*shelf)),
     }
 }

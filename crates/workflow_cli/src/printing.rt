@@ -12,6 +12,7 @@ use crate::asking::Page;
 use crate::checking::stop;
 use crate::ended::Work;
 use crate::prepare::{main_flow, main_of};
+use crate::recall::Recall;
 use help_text::{help_of, version_text};
 use input_form::inputs_form;
 use report_text::Status;
@@ -51,7 +52,7 @@ fn form_in(alloc: Global, checked: &Checked) -> Work
 }
 
 /// The form of the inputs of the main workflow of the document at a path.
-pub fn form<F: Shelf>(alloc: Global, file: &Text, shelf: &mut F) -> Work
+pub fn form<F: Shelf + Recall>(alloc: Global, file: &Text, shelf: &mut F) -> Work
     ensures value { spec.WritesForm (F.tells shelf.old) (F.refuses shelf.old) (Rose (F.faults shelf.old) (F.faults shelf.new)) file.now result }
     ensures counted { WorkCounts result (F.faults shelf.old) (F.faults shelf.new) }
     ensures paths { HasPaths result }

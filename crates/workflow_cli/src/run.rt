@@ -21,14 +21,17 @@ use crate::checking::stop;
 use crate::ended::{Work, Worked};
 use crate::journal::rows_of;
 use crate::prepare::{Prepared, main_flow, start_of};
+use crate::recall::Recall;
 use ready_core::{Core, History};
 use report_text::Status;
+use run_notes::{RunNotes, Style};
 use std::alloc::Global;
 use std::sync::Wait;
 use std::sync::ledger::Ledger;
 use std::thread::Threads;
+use std::time::Clock;
 use wdl_json::outputs_text;
-use wdl_port::{Keeper, Launcher, NoKeeper, Shelf};
+use wdl_port::{Keeper, Launcher, NoKeeper, Shelf, Sink};
 use wdl_value::{Bind, Counts, Entry, Items, Name, NoMemory, Steps, Text};
 use work_desk::{Ran, Stop, run_all};
 
@@ -177,12 +180,13 @@ fn begin<S: Ledger>(
 }
 
 /// Runs the main workflow without a journal.
-fn run_plain<L: Launcher + Sync, R: Threads + Wait + Sync, S: Ledger>(
+fn run_plain<L: Launcher + Sync, N: Sink, R: Threads + Wait + Clock + Sync, S: Ledger>(
     rt: &R,
     alloc: Global,
     prepared: Prepared,
     options: &RunOptions,
     launcher: &L,
+    notes: &mut N,
     steps: &mut Steps<S>,
 ) -> Worked
     requires fitting { (f : Flow) × IsFitting prepared.checked prepared.given f }
@@ -196,6 +200,7 @@ fn run_plain<L: Launcher + Sync, R: Threads + Wait + Sync, S: Ledger>(
     let Ok(Begun { core, name }) = begin(alloc, prepared, &options.root, steps) else {
         return idle(alloc, Work::Stop(stop(alloc, Status::NoMemory)));
     };
+    let mut progress = RunNotes::new(alloc, notes, rt, Style::Lines);
     let ran = run_all(
         rt,
         alloc,
@@ -204,13 +209,15 @@ fn run_plain<L: Launcher + Sync, R: Threads + Wait + Sync, S: Ledger>(
         None::<&mut NoKeeper>,
         Items::new(alloc),
         options.workers,
+        &mut progress,
         steps,
     );
+    progress.end(alloc, &ran.core, &options.root);
     worked(alloc, &name, ran)
 }
 
 /// Runs the main workflow over the rows of its journal, and keeps its answers there.
-fn run_over<L: Launcher + Sync, K: Keeper, R: Threads + Wait + Sync, S: Ledger>(
+fn run_over<L: Launcher + Sync, K: Keeper, N: Sink, R: Threads + Wait + Clock + Sync, S: Ledger>(
     rt: &R,
     alloc: Global,
     prepared: Prepared,
@@ -218,6 +225,7 @@ fn run_over<L: Launcher + Sync, K: Keeper, R: Threads + Wait + Sync, S: Ledger>(
     rows: Items<Entry>,
     launcher: &L,
     keeper: &mut K,
+    notes: &mut N,
     steps: &mut Steps<S>,
 ) -> Worked
     requires fitting { (f : Flow) × IsFitting prepared.checked prepared.given f }
@@ -235,6 +243,7 @@ fn run_over<L: Launcher + Sync, K: Keeper, R: Threads + Wait + Sync, S: Ledger>(
     let Ok(Begun { core, name }) = begin(alloc, prepared, &options.root, steps) else {
         return idle(alloc, Work::Stop(stop(alloc, Status::NoMemory)));
     };
+    let mut progress = RunNotes::new(alloc, notes, rt, Style::Lines);
     let ran = run_all(
         rt,
         alloc,
@@ -243,19 +252,22 @@ fn run_over<L: Launcher + Sync, K: Keeper, R: Threads + Wait + Sync, S: Ledger>(
         Some(keeper),
         rows,
         options.workers,
+        &mut progress,
         steps,
     );
+    progress.end(alloc, &ran.core, &options.root);
     worked(alloc, &name, ran)
 }
 
 /// Runs the main workflow with its inputs: over the rows of its journal where one is named.
-fn run_main<L: Launcher + Sync, K: Keeper, R: Threads + Wait + Sync, S: Ledger>(
+fn run_main<L: Launcher + Sync, K: Keeper, N: Sink, R: Threads + Wait + Clock + Sync, S: Ledger>(
     rt: &R,
     alloc: Global,
     prepared: Prepared,
     options: &RunOptions,
     launcher: &L,
     keeper: &mut K,
+    notes: &mut N,
     steps: &mut Steps<S>,
 ) -> Worked
     requires fitting { (f : Flow) × IsFitting prepared.checked prepared.given f }
@@ -268,16 +280,25 @@ fn run_main<L: Launcher + Sync, K: Keeper, R: Threads + Wait + Sync, S: Ledger>(
     ensures keeper { (keeper.new ≡ keeper.old) ⊎ NamesJournal options.now.journal (K.path keeper.new) }
 {
     let Some(path) = &options.journal else {
-        return run_plain(rt, alloc, prepared, options, launcher, steps);
+        return run_plain(rt, alloc, prepared, options, launcher, notes, steps);
     };
     match rows_of(alloc, path, keeper) {
-        Ok(rows) => run_over(rt, alloc, prepared, options, rows, launcher, keeper, steps),
+        Ok(rows) => run_over(
+            rt, alloc, prepared, options, rows, launcher, keeper, notes, steps,
+        ),
         Err(status) => idle(alloc, Work::Stop(stop(alloc, status))),
     }
 }
 
 /// Runs the main workflow of the document at a path, with the inputs of a file.
-pub fn run<F: Shelf, L: Launcher + Sync, K: Keeper, R: Threads + Wait + Sync, S: Ledger>(
+pub fn run<
+    F: Shelf + Recall,
+    L: Launcher + Sync,
+    K: Keeper,
+    N: Sink,
+    R: Threads + Wait + Clock + Sync,
+    S: Ledger,
+>(
     rt: &R,
     alloc: Global,
     file: &Text,
@@ -286,6 +307,7 @@ pub fn run<F: Shelf, L: Launcher + Sync, K: Keeper, R: Threads + Wait + Sync, S:
     shelf: &mut F,
     launcher: &L,
     keeper: &mut K,
+    notes: &mut N,
     steps: &mut Steps<S>,
 ) -> Worked
     requires workers { (1 ≤ options.now.workers) × (options.now.workers ≤ 64) }
@@ -298,7 +320,7 @@ pub fn run<F: Shelf, L: Launcher + Sync, K: Keeper, R: Threads + Wait + Sync, S:
     ensures keeper { (keeper.new ≡ keeper.old) ⊎ NamesJournal options.now.journal (K.path keeper.new) }
 {
     match start_of(alloc, file, inputs, shelf) {
-        Ok(prepared) => run_main(rt, alloc, prepared, options, launcher, keeper, steps),
+        Ok(prepared) => run_main(rt, alloc, prepared, options, launcher, keeper, notes, steps),
         Err(stop) => idle(alloc, Work::Stop(stop)),
     }
 }

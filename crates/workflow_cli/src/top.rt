@@ -13,11 +13,14 @@ ghost use Rattle.workflow_cli.specs.Complete.{CheckIsComplete, CwlIsComplete, Do
 
 use crate::ended::{Ended, Worked};
 use crate::finish::finish;
+use crate::note::write_note;
+use crate::recall::Recall;
 use crate::work::work;
 use std::alloc::Global;
 use std::sync::Wait;
 use std::sync::ledger::Ledger;
 use std::thread::Threads;
+use std::time::Clock;
 use wdl_port::{Keeper, Launcher, Shelf, Sink};
 use wdl_value::Steps;
 
@@ -30,14 +33,18 @@ use wdl_value::Steps;
 /// broken. `inputs FILE` writes the inputs of the main workflow as a JSON object to fill in and a newline; `help` and `version`,
 /// which have other spellings, a text of the program and a newline. With another status its line is written to `err`.
 ///
+/// `notes` gets what a person is told of a run as it goes on, and of why a command does no more. Nothing is promised of it here, and
+/// nothing depends on whether a write to it fails.
+///
 /// Not built yet are `load` and `bundle`.
 pub fn workflow<
-    F: Shelf,
+    F: Shelf + Recall,
     O: Sink,
     E: Sink,
+    N: Sink,
     L: Launcher + Sync,
     K: Keeper,
-    R: Threads + Wait + Sync,
+    R: Threads + Wait + Clock + Sync,
     S: Ledger,
 >(
     rt: &R,
@@ -46,6 +53,7 @@ pub fn workflow<
     shelf: &mut F,
     out: &mut O,
     err: &mut E,
+    notes: &mut N,
     launcher: &L,
     keeper: &mut K,
     steps: &mut Steps<S>,
@@ -120,7 +128,8 @@ pub fn workflow<
         journal,
         steps: taken,
         counts,
-    } = work(rt, alloc, words, shelf, launcher, keeper, steps);
+    } = work(rt, alloc, words, shelf, launcher, keeper, notes, steps);
+    write_note(&work, notes);
     let status = finish(alloc, work, out, err);
     Ended {
         status,

@@ -12,17 +12,19 @@ use crate::checking::{checked_of, stop};
 use crate::cwl::cwl;
 use crate::ended::{Work, Worked};
 use crate::printing::{form, printed};
+use crate::recall::Recall;
 use crate::run::{idle, run};
 use report_text::Status;
 use std::alloc::Global;
 use std::sync::Wait;
 use std::sync::ledger::Ledger;
 use std::thread::Threads;
-use wdl_port::{Keeper, Launcher, Shelf};
+use std::time::Clock;
+use wdl_port::{Keeper, Launcher, Shelf, Sink};
 use wdl_value::{Steps, Text};
 
 /// Checks the document at a path.
-fn accepted<F: Shelf>(alloc: Global, file: &Text, shelf: &mut F) -> Work
+fn accepted<F: Shelf + Recall>(alloc: Global, file: &Text, shelf: &mut F) -> Work
     ensures value { Accepts (F.tells shelf.old) (F.refuses shelf.old) (Rose (F.faults shelf.old) (F.faults shelf.new)) file.now result }
     ensures counted { WorkCounts result (F.faults shelf.old) (F.faults shelf.new) }
     ensures paths { HasPaths result }
@@ -37,13 +39,21 @@ fn accepted<F: Shelf>(alloc: Global, file: &Text, shelf: &mut F) -> Work
 }
 
 /// Does what the words ask for, up to the writing.
-pub fn work<F: Shelf, L: Launcher + Sync, K: Keeper, R: Threads + Wait + Sync, S: Ledger>(
+pub fn work<
+    F: Shelf + Recall,
+    L: Launcher + Sync,
+    K: Keeper,
+    N: Sink,
+    R: Threads + Wait + Clock + Sync,
+    S: Ledger,
+>(
     rt: &R,
     alloc: Global,
     words: &[String],
     shelf: &mut F,
     launcher: &L,
     keeper: &mut K,
+    notes: &mut N,
     steps: &mut Steps<S>,
 ) -> Worked
     requires fresh { K.path keeper.old ≡ None }
@@ -63,7 +73,7 @@ pub fn work<F: Shelf, L: Launcher + Sync, K: Keeper, R: Threads + Wait + Sync, S
                 options,
             },
         ) => run(
-            rt, alloc, &file, &inputs, &options, shelf, launcher, keeper, steps,
+            rt, alloc, &file, &inputs, &options, shelf, launcher, keeper, notes, steps,
         ),
         Ok(Command::Check { file }) => idle(alloc, accepted(alloc, &file, shelf)),
         Ok(Command::Cwl { file, inputs }) => idle(alloc, cwl(alloc, &file, &inputs, shelf)),

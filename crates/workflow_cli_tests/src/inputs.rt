@@ -1,6 +1,7 @@
 use std::sync::Wait;
 use std::test::Fail;
 use std::thread::Threads;
+use std::time::Clock;
 use workflow_cases::first_mistake;
 
 /// Inputs between newlines, each with the line that it gets.
@@ -14,7 +15,7 @@ const INPUTS: &str = r#"{=401 NotJson
 /// A workflow with two inputs.
 const BEFORE: &str = "version workflow w { input { Boolean c Array[String] xs } }\nfile w.wdl";
 
-fn of_inputs<R: Threads + Wait + Sync + AllocGlobal>(
+fn of_inputs<R: Threads + Wait + Clock + Sync + AllocGlobal>(
     rt: &R,
     inputs: &str,
     line: &str,

@@ -7,7 +7,11 @@ mod cwl;
 #[cfg(test)]
 mod documents;
 #[cfg(test)]
+mod forms;
+#[cfg(test)]
 mod inputs;
+#[cfg(test)]
+mod notes;
 #[cfg(test)]
 mod streams;
 #[cfg(test)]

@@ -1,18 +1,19 @@
 use std::sync::Wait;
 use std::test::Fail;
 use std::thread::Threads;
+use std::time::Clock;
 use workflow_cases::first_mistake;
 
 /// Words without a reading.
 const UNREADABLE: &str =
     "|run|walk w.wdl|run --workers 0 w.wdl|run --workers 65 w.wdl|run --root tmp w.wdl|run w.wdl w.wdl|\
-run --inputs w.wdl|check|cwl|cwl --inputs w.wdl|cwl --root /a w.wdl|load 0|load 10001|run --root /a --root /b w.wdl";
+run --inputs w.wdl|check|inputs|inputs w.wdl w.wdl|help w.wdl|help version|run --help w.wdl|cwl|cwl --inputs w.wdl|cwl --root /a w.wdl|load 0|load 10001|run --root /a --root /b w.wdl";
 
 /// Words that ask for what is not built.
 const NOT_BUILT: &str = "load 1|load 10000|bundle w.wdl";
 
 /// What is wrong with the first of these words, between bars, of which the call shows anything else.
-fn first_wrong<R: Threads + Wait + Sync + AllocGlobal>(
+fn first_wrong<R: Threads + Wait + Clock + Sync + AllocGlobal>(
     rt: &R,
     all: &str,
     expected: &str,
@@ -33,7 +34,7 @@ fn first_wrong<R: Threads + Wait + Sync + AllocGlobal>(
 #[test]
 fn words_without_a_reading_have_status_2(rt: HostRuntime) -> Result<(), Fail> {
     let expected = "> 2 0\n> ! usage: wdl run [--inputs FILE] [--workers N] [--root DIR] \
-                    [--journal FILE] FILE | check FILE | cwl [--inputs FILE] FILE";
+                    [--journal FILE] FILE | check FILE | inputs FILE | cwl [--inputs FILE] FILE";
     assert_eq!(rt; first_wrong(&rt, UNREADABLE, expected)?.as_str(), "");
     Ok(())
 }
@@ -42,6 +43,13 @@ fn words_without_a_reading_have_status_2(rt: HostRuntime) -> Result<(), Fail> {
 fn what_is_not_built_has_status_12(rt: HostRuntime) -> Result<(), Fail> {
     let expected = "> 12 0\n> ! not built yet";
     assert_eq!(rt; first_wrong(&rt, NOT_BUILT, expected)?.as_str(), "");
+    Ok(())
+}
+
+#[test]
+fn the_version_is_printed(rt: HostRuntime) -> Result<(), Fail> {
+    let words = "version|--version|-V";
+    assert_eq!(rt; first_wrong(&rt, words, "> 0 0\n> wdl 1.0.0")?.as_str(), "");
     Ok(())
 }
 
@@ -67,6 +75,12 @@ $ check w.wdl
 room 0 9
 > 6 0
 >. ! cannot wr
+
+$ version
+room 3 100
+> 6 0
+>. wdl
+> ! cannot write
 
 $ walk
 room 100 5

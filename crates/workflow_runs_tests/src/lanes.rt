@@ -3,6 +3,7 @@ use std::alloc::Global;
 use std::sync::Wait;
 use std::test::Fail;
 use std::thread::Threads;
+use std::time::Clock;
 use workflow_cases::{Case, Outcome, read_case, run_case, shown};
 
 /// A document of scatters in one another.
@@ -98,13 +99,16 @@ fn case_of(alloc: Global, document: &[u8], more: &str) -> Result<Case, Fail> {
     Ok(case)
 }
 
-fn lanes<R: Threads + Wait + Sync + AllocGlobal>(rt: &R, more: &str) -> Result<Outcome, Fail> {
+fn lanes<R: Threads + Wait + Clock + Sync + AllocGlobal>(
+    rt: &R,
+    more: &str,
+) -> Result<Outcome, Fail> {
     let alloc = rt.alloc();
     run_case(rt, alloc, case_of(alloc, LANES.as_bytes(), more)?)
 }
 
 /// Whether the run, with these lines more, ends with that status and that error line.
-fn ends<R: Threads + Wait + Sync + AllocGlobal>(
+fn ends<R: Threads + Wait + Clock + Sync + AllocGlobal>(
     rt: &R,
     more: &str,
     status: u8,
@@ -116,7 +120,10 @@ fn ends<R: Threads + Wait + Sync + AllocGlobal>(
 }
 
 /// Whether the call of this place, where it is refused, ends the run.
-fn ends_at<R: Threads + Wait + Sync + AllocGlobal>(rt: &R, place: &str) -> Result<bool, Fail> {
+fn ends_at<R: Threads + Wait + Clock + Sync + AllocGlobal>(
+    rt: &R,
+    place: &str,
+) -> Result<bool, Fail> {
     let alloc = rt.alloc();
     let more = format!(in alloc; "refuse {place}")?;
     let line = format!(in alloc; "cannot launch {place}\n")?;
@@ -181,7 +188,7 @@ fn a_job_that_is_refused_has_status_9(rt: HostRuntime) -> Result<(), Fail> {
 }
 
 /// What is seen of the run of another document.
-fn seen_of<R: Threads + Wait + Sync + AllocGlobal>(
+fn seen_of<R: Threads + Wait + Clock + Sync + AllocGlobal>(
     rt: &R,
     document: &[u8],
 ) -> Result<String, Fail> {

@@ -2,6 +2,7 @@ use report_text::number_of;
 use std::sync::Wait;
 use std::test::Fail;
 use std::thread::Threads;
+use std::time::Clock;
 use wdl_port::MapKeeper;
 use workflow_cases::{Outcome, read_case, run_case};
 
@@ -22,7 +23,7 @@ $ run --workers 1 --journal j w.wdl"#;
 const ANSWERS: &str = "answer a 0 0 A\nanswer b 0 0 B\nanswer c 0 0 C";
 
 /// A run of a document with these answers, or more lines of a case, over the rows of an earlier run, if any.
-fn run<R: Threads + Wait + Sync + AllocGlobal>(
+fn run<R: Threads + Wait + Clock + Sync + AllocGlobal>(
     rt: &R,
     document: &str,
     answers: &str,

@@ -1,0 +1,56 @@
+#!/bin/sh
+# Runs a page of docs/ or examples/ that leads a reader through commands: writes the files that it says to save, runs each command of its `console` blocks
+# and compares what is seen with the page. Its last line is 'N passed, M failed'.
+#
+#   tests/page.sh PROGRAM PAGE
+#
+# A line 'Save this as `NAME`:' stands before the block with that file. In a block of `console` each line behind `$ ` is a command, and the lines below it
+# are what is seen; `wdl` is the program, with notes, and times stand for any times.
+program=${1:?the program, with its whole path}
+page=${2:?the page, with its whole path}
+work=$(mktemp -d) || exit 1
+trap 'rm -rf "$work" /tmp/first' EXIT
+rm -rf /tmp/first
+passed=0
+failed=0
+
+mkdir "$work/bin" "$work/steps" "$work/here" || exit 1
+ln -s "$program" "$work/bin/wdl" || exit 1
+PATH=$work/bin:$PATH WDL_NOTES=1
+export PATH WDL_NOTES
+
+# Steps are numbered: `N.sh` with `N.want`, or `N.name` with `N.file`.
+awk -v to="$work/steps/" '
+  !inside && /^Save this as `[^`]*`:$/ { split($0, part, "`"); name = part[2]; next }
+  !inside && /^```console$/ { inside = console = 1; next }
+  !inside && /^```/ { inside = 1; if (name) { count++; print name >(to count ".name"); file = to count ".file"; printf "" >file } next }
+  inside && /^```$/ { if (file) close(file); file = name = ""; inside = console = 0; next }
+  console && /^\$ / { count++; print substr($0, 3) >(to count ".sh"); want = to count ".want"; printf "" >want; next }
+  console { print >want }
+  file { print >file }
+  END { print count > (to "count") }' "$page"
+
+cd "$work/here" || exit 1
+timeless() { sed 's/[0-9][0-9.]* \(ms\|s\|min\)\b/N s/g' "$1"; }
+status=0
+for step in $(seq 1 "$(cat "$work/steps/count")"); do
+  at=$work/steps/$step
+  if [ -f "$at.name" ]; then
+    cp "$at.file" "$(cat "$at.name")"
+    continue
+  fi
+  sh -c "(exit $status)
+$(cat "$at.sh")" >"$work/seen" 2>&1 </dev/null
+  status=$?
+  timeless "$work/seen" >"$work/seen.times"
+  timeless "$at.want" >"$work/want.times"
+  if cmp -s "$work/seen.times" "$work/want.times"; then passed=$((passed + 1)); else
+    failed=$((failed + 1))
+    echo "FAILED $(cat "$at.sh")"
+    diff "$work/want.times" "$work/seen.times"
+  fi
+done
+[ "$passed" -ge 10 ] || { echo "FAILED the page has too few commands"; failed=$((failed + 1)); }
+
+echo "$passed passed, $failed failed"
+[ "$failed" = 0 ]
