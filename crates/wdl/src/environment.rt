@@ -34,7 +34,7 @@ pub(crate) fn shell<R: Env + AllocGlobal>(rt: &R) -> Result<Option<String>, NoMe
 }
 
 /// Returns whether a person reads the notes: where the stream is a terminal, or the environment has `WDL_NOTES=1`.
-fn shows_notes<R: Env + AllocGlobal, W: IsTerminal>(rt: &R, stream: &W) -> bool {
+fn shows_notes<R: Env + AllocGlobal, W: IsTerminal + Drop>(rt: &R, stream: &W) -> bool {
     if stream.is_terminal() {
         return true;
     }
@@ -45,7 +45,7 @@ fn shows_notes<R: Env + AllocGlobal, W: IsTerminal>(rt: &R, stream: &W) -> bool 
 }
 
 /// Returns the stream of the notes: the given one, or where nobody reads them one that takes everything and keeps nothing.
-pub(crate) fn note_stream<R: Env + AllocGlobal, W: IsTerminal>(
+pub(crate) fn note_stream<R: Env + AllocGlobal, W: IsTerminal + Drop>(
     rt: &R,
     stream: W,
 ) -> Either<W, io::Sink> {

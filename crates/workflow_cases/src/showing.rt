@@ -67,12 +67,18 @@ fn push_written(shown: &mut String, outcome: &Outcome) -> Result<(), Fail> {
     Ok(())
 }
 
-/// Behind `#` the lines of the notes, without the times in them.
+/// A line of notes up to a time in it.
+fn timeless(line: &str) -> &str {
+    let (line, _) = line.split_once(" after ").unwrap_or((line, ""));
+    let (line, _) = line.split_once(", in ").unwrap_or((line, ""));
+    line
+}
+
+/// Behind `#` the lines of the notes, each up to a time in it.
 fn push_notes(shown: &mut String, notes: &str) -> Result<(), Fail> {
     for line in notes.lines() {
-        let (line, _) = line.split_once(" after ").unwrap_or((line, ""));
         shown.push_str("# ")?;
-        shown.push_str(line)?;
+        shown.push_str(timeless(line))?;
         shown.push_str("\n")?;
     }
     Ok(())

@@ -8,4 +8,6 @@ mod ends;
 #[cfg(test)]
 mod lanes;
 #[cfg(test)]
+mod notes;
+#[cfg(test)]
 mod resume;
