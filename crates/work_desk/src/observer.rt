@@ -1,19 +1,41 @@
+use crate::progress::Progress;
 use std::sync::ledger::Ledger;
-use wdl_value::Steps;
+use wdl_typed::Success;
+use wdl_value::{Entry, Request, Steps};
 
-/// What holds a counter of evaluations. A closure that takes a counter through it holds no reference that contracts follow.
-pub(crate) trait Counter<S: Ledger> {
+/// What observes a run: its progress, and the counter of its evaluations. A closure that takes both through it holds no
+/// reference that contracts follow.
+pub(crate) trait Observer<S: Ledger>: Progress {
     /// The counter.
     fn steps(&mut self) -> &mut Steps<S>;
 }
 
-/// A counter that is lent for a run.
+/// A progress and a counter that are lent for a run.
 #[derive(Drop)]
-pub(crate) struct Lent<'s, S: Ledger> {
+pub(crate) struct Lent<'s, T: Progress, S: Ledger> {
+    pub progress: &'s mut T,
     pub steps: &'s mut Steps<S>,
 }
 
-impl<'s, S: Ledger> Counter<S> for Lent<'s, S> {
+impl<'s, T: Progress, S: Ledger> Progress for Lent<'s, T, S> {
+    fn began(&mut self, request: &Request, codes: &Success) {
+        self.progress.began(request, codes);
+    }
+
+    fn ended(&mut self, entry: &Entry) {
+        self.progress.ended(entry);
+    }
+
+    fn unlaunched(&mut self, request: &Request) {
+        self.progress.unlaunched(request);
+    }
+
+    fn kept(&mut self, entry: &Entry) {
+        self.progress.kept(entry);
+    }
+}
+
+impl<'s, T: Progress, S: Ledger> Observer<S> for Lent<'s, T, S> {
     fn steps(&mut self) -> &mut Steps<S> {
         &mut *self.steps
     }
