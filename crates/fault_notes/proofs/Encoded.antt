@@ -44,21 +44,27 @@ either false xs ys f g = g refl
 characters-encode : (c : ℕ) → characters (encode c) ≡ 1
 unfolding encode
 characters-encode c =
-    let two : 192 ≤ 192 + c / 64 = omega arith in
-    let three : 192 ≤ 224 + c / 4096 = omega arith in
-    let four : 192 ≤ 240 + c / 262144 = omega arith in
+    let one : List ℕ = next c ∷ [] in
+    let two : List ℕ = next (c / 64) ∷ one in
+    let three : List ℕ = next (c / 4096) ∷ two in
+    let none : characters one ≡ 0 = characters-next c [] in
+    let none_of_two : characters two ≡ 0 = characters-next (c / 64) one ∙ none in
+    let none_of_three : characters three ≡ 0 = characters-next (c / 4096) two ∙ none_of_two in
+    let second : 192 ≤ 192 + c / 64 = omega arith in
+    let third : 192 ≤ 224 + c / 4096 = omega arith in
+    let fourth : 192 ≤ 240 + c / 262144 = omega arith in
     either (nat_lt c 128) _ _ (λ small. characters-first c [] (begins-low c (ltb-true c 128 small)))
     (λ _. either (nat_lt c 2048) _ _
-    (λ _. characters-first (192 + c / 64) _ (begins-high (192 + c / 64) two) ∙ ap (λ n. 1 + n) (characters-next c []))
+    (λ _. characters-first (192 + c / 64) one (begins-high (192 + c / 64) second) ∙ ap (λ n. 1 + n) none)
     (λ _. either (nat_lt c 65536) _ _
-    (λ _. characters-first (224 + c / 4096) _ (begins-high (224 + c / 4096) three)
-    ∙ ap (λ n. 1 + n) (characters-next (c / 64) _ ∙ characters-next c []))
-    (λ _. characters-first (240 + c / 262144) _ (begins-high (240 + c / 262144) four)
-    ∙ ap (λ n. 1 + n) (characters-next (c / 4096) _ ∙ characters-next (c / 64) _ ∙ characters-next c []))))
+    (λ _. characters-first (224 + c / 4096) two (begins-high (224 + c / 4096) third) ∙ ap (λ n. 1 + n) none_of_two)
+    (λ _. characters-first (240 + c / 262144) three (begins-high (240 + c / 262144) fourth) ∙ ap (λ n. 1 + n) none_of_three)))
 
 pub characters-encodes : (cs : List ℕ) → characters (encode_utf8_all cs) ≡ length cs
 characters-encodes [] = refl
 characters-encodes (c ∷ cs) =
+    let longer : 1 + length cs ≡ length (c ∷ cs) = omega arith in
     sum_by-append (λ x. cond (not (continues x)) 1 0) (encode c) (encode_utf8_all cs)
     ∙ ap (λ n. n + characters (encode_utf8_all cs)) (characters-encode c)
     ∙ ap (λ n. 1 + n) (characters-encodes cs)
+    ∙ longer

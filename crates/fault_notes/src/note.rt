@@ -1,6 +1,6 @@
 //! The note of a fault in a document.
 
-ghost use Rattle.std.specs.Prelude.{IfOk, string_bytes};
+ghost use Rattle.std.specs.Prelude.{◌≡◌, IfOk, string_bytes};
 ghost use Rattle.fault_notes.specs.Notes.{Begins, head_of};
 
 use crate::check_sentence::check_sentence;
@@ -30,6 +30,29 @@ fn sentence(
     }
 }
 
+/// The place of a fault, and its code with the word.
+fn head(alloc: Global, path: &str, bytes: &[u8], code: u16, start: u32) -> Result<String, NoMemory>
+    ensures { IfOk result (λ t. string_bytes t ≡ head_of path.now bytes.now start code) }
+{
+    let Position { line, column } = position_of(bytes, start);
+    let rule = code_text(alloc, code)?;
+    let rule = rule.as_str();
+    Ok(format!(in alloc; "{path}:{line}:{column}: error {rule}: ")?)
+}
+
+/// The sentence, the line of the document and the carets.
+fn told(
+    alloc: Global,
+    bytes: &[u8],
+    code: u16,
+    span: Span,
+    library: Option<&Library>,
+) -> Result<String, NoMemory> {
+    let sentence = sentence(alloc, code, bytes, span, library)?;
+    let excerpt = excerpt(alloc, bytes, span)?;
+    Ok(format!(in alloc; "{}\n{}", sentence.as_str(), excerpt.as_str())?)
+}
+
 /// The note of a fault in the document at a path, for a person: its place with the code and a
 /// sentence, the line of the document in which the span begins, and a line of carets under the
 /// span. Each of the three ends with a newline.
@@ -50,12 +73,9 @@ pub fn document_note(
 ) -> Result<String, NoMemory>
     ensures place { IfOk result (λ note. Begins (head_of path.now bytes.now span.start code) (string_bytes note)) }
 {
-    let Position { line, column } = position_of(bytes, span.start);
-    let rule = code_text(alloc, code)?;
-    let rule = rule.as_str();
-    let sentence = sentence(alloc, code, bytes, span, library)?;
-    let sentence = sentence.as_str();
-    let excerpt = excerpt(alloc, bytes, span)?;
-    let excerpt = excerpt.as_str();
-    Ok(format!(in alloc; "{path}:{line}:{column}: error {rule}: {sentence}\n{excerpt}")?)
+    let head = head(alloc, path, bytes, code, span.start)?;
+    let head = head.as_str();
+    let told = told(alloc, bytes, code, span, library)?;
+    let told = told.as_str();
+    Ok(format!(in alloc; "{head}{told}")?)
 }
