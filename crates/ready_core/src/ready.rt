@@ -191,6 +191,13 @@ impl Core {
         self.log.journal.as_slice()
     }
 
+    /// The checked form whose main workflow is run. It takes no memory.
+    pub fn checked(&self) -> &Checked
+        ensures checked { result.now ≡ self.now.origin.checked }
+    {
+        &self.over.checked
+    }
+
     /// How many jobs were taken and not settled. It takes no memory.
     pub fn out(&self) -> u32
         ensures out { result ≡ length self.now.out }

@@ -152,7 +152,7 @@ pub fn line_of(alloc: Global, status: &Status, paths: &Items<Text>) -> Result<Te
         Status::Usage => Text::from_plain(
             alloc,
             "usage: wdl run [--inputs FILE] [--workers N] [--root DIR] [--journal FILE] FILE \
-             | check FILE | cwl [--inputs FILE] FILE\n",
+             | check FILE | inputs FILE | cwl [--inputs FILE] FILE\n",
         ),
         Status::Document(code, span) => document_line(alloc, *code, *span, paths),
         Status::Inputs(code, name) => inputs_line(alloc, *code, name),

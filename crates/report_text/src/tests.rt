@@ -188,7 +188,7 @@ fn each_code_has_its_word(rt: HostRuntime) -> Result<(), Fail> {
 const STATUS_LINES: &str = "\
 1 failed scatter-0/2/if-1/say: status 255\n\
 2 usage: wdl run [--inputs FILE] [--workers N] [--root DIR] [--journal FILE] FILE \
-| check FILE | cwl [--inputs FILE] FILE\n\
+| check FILE | inputs FILE | cwl [--inputs FILE] FILE\n\
 4 inputs: 401 NotJson\n\
 5 cannot read b.wdl\n\
 6 cannot write\n\

@@ -1,16 +1,18 @@
 -- The limits of what words ask for.
-use Rattle.std.proofs.Common.{◌≡◌, ◌≤◌, ◌&&◌, ℕ, Bool, true, false, subst, not, cond, nat_le, List, [], ◌∷◌, length, Option, Some, None, codes, refl, arith}
+use Rattle.std.proofs.Common.{◌≡◌, ◌≤◌, ◌&&◌, ◌||◌, ℕ, Bool, true, false, subst, not, cond, nat_le, List, [], ◌∷◌, length, Option, Some, None, codes, refl, arith}
 use Rattle.std.specs.Prelude.{option_and_then, option_map}
+use Rattle.std.specs.Option.{option_or}
 use Rattle.std.specs.Str.{bytes_eq}
 use Rattle.std.specs.Str.Parse.{digits_value}
 use Rattle.std.proofs.lemmas.Bool.Decides.{nat_tests}
 use Rattle.clap.specs.Words.{Row, Text, first_of}
 use Rattle.wdl_base.specs.Plain.{has_nul}
 use Rattle.wdl_words.specs.Commands.{cwl_app, found_in, run_app}
-use Rattle.wdl_words.specs.Words.{IsWithinLimits, begins_with_slash, cwl_in, cwl_of, cwl_with, directory_of, file_in, file_of, is_numeral, load_in, named_by_first, not_empty, number_within, operand_in, optional_file, root_of, run_in, run_of, run_with, some_nul, wants, wants_by, without_slashes, workers_of}
+use Rattle.wdl_words.specs.Help.{by_one, by_two, explained, is_help_option, is_version_word}
+use Rattle.wdl_words.specs.Words.{IsWithinLimits, begins_with_slash, cwl_in, cwl_of, cwl_with, directory_of, file_in, file_of, is_numeral, load_in, named_by_first, not_empty, number_within, operand_in, optional_file, root_of, run_in, run_of, run_with, some_nul, wants, wants_by, wants_of_plain, without_slashes, workers_of}
 use Rattle.wdl_words.proofs.Slashes.{slashes_short}
 use Rattle.wdl_words.specs.declared.wants.Wants.{Wants}
-use Rattle.wdl_words.specs.declared.wants.Wants.TheVariants.{Run, Check, Cwl, Load, Bundle}
+use Rattle.wdl_words.specs.declared.wants.Wants.TheVariants.{Run, Check, Inputs, Cwl, Load, Bundle, Help, Version}
 
 and_then_some : {A B : Type 0} (f : A → Option B) (o : Option A) (b : B) → option_and_then f o ≡ Some b
     → (a : A) × (o ≡ Some a) × (f a ≡ Some b)
@@ -100,29 +102,51 @@ load_limits words n h =
 by_command : (command : Text) (words : List Text) (asked : Wants) → wants_by command words ≡ Some asked → IsWithinLimits asked
 unfolding run_in cwl_in
 by_command command words asked h =
-    go (bytes_eq command (codes "run")) (bytes_eq command (codes "check")) (bytes_eq command (codes "cwl"))
+    go (bytes_eq command (codes "run")) (bytes_eq command (codes "check")) (bytes_eq command (codes "inputs")) (bytes_eq command (codes "cwl"))
     (bytes_eq command (codes "load")) (bytes_eq command (codes "bundle")) h
   where
-    go : (a b c d e : Bool) → cond a (run_in words) (cond b (option_map Check (file_in command words))
-        (cond c (cwl_in words) (cond d (option_map Load (load_in words))
-        (cond e (option_map Bundle (file_in command words)) None)))) ≡ Some asked → IsWithinLimits asked
-    go true b c d e found =
+    go : (a b i c d e : Bool) → cond a (run_in words) (cond b (option_map Check (file_in command words))
+        (cond i (option_map Inputs (file_in command words)) (cond c (cwl_in words) (cond d (option_map Load (load_in words))
+        (cond e (option_map Bundle (file_in command words)) None))))) ≡ Some asked → IsWithinLimits asked
+    go true b i c d e found =
         let rows = and_then_some run_of (found_in run_app words) asked found in
         rows_limits rows.0 asked rows.2
-    go false true c d e found = mapped Check (file_in command words) asked (λ file given. tt) found
-    go false false true d e found =
+    go false true i c d e found = mapped Check (file_in command words) asked (λ file given. tt) found
+    go false false true c d e found = mapped Inputs (file_in command words) asked (λ file given. tt) found
+    go false false false true d e found =
         let rows = and_then_some cwl_of (found_in cwl_app words) asked found in
         cwl_limits rows.0 asked rows.2
-    go false false false true e found = mapped Load (load_in words) asked (load_limits words) found
-    go false false false false true found = mapped Bundle (file_in command words) asked (λ file given. tt) found
-    go false false false false false found = cc
+    go false false false false true e found = mapped Load (load_in words) asked (load_limits words) found
+    go false false false false false true found = mapped Bundle (file_in command words) asked (λ file given. tt) found
+    go false false false false false false found = cc
+
+first_limits : (words : List Text) (asked : Wants) → named_by_first words ≡ Some asked → IsWithinLimits asked
+first_limits [] asked h = cc
+first_limits (command ∷ rest) asked h = by_command command (command ∷ rest) asked h
+
+one_limits : (word : Text) (asked : Wants) → by_one word ≡ Some asked → IsWithinLimits asked
+one_limits word asked h = go (bytes_eq word (codes "help") || is_help_option word) (is_version_word word) h
+  where
+    go : (a b : Bool) → cond a (Some (Help None)) (cond b (Some Version) None) ≡ Some asked → IsWithinLimits asked
+    go true b found = let same : Help None ≡ asked = cc in subst IsWithinLimits same tt
+    go false true found = let same : Version ≡ asked = cc in subst IsWithinLimits same tt
+    go false false found = cc
+
+explained_limits : (words : List Text) (asked : Wants) → explained words ≡ Some asked → IsWithinLimits asked
+explained_limits [] asked h = cc
+explained_limits (word ∷ []) asked h = one_limits word asked h
+explained_limits (first ∷ second ∷ []) asked h = mapped (λ c. Help (Some c)) (by_two first second) asked (λ c given. tt) h
+explained_limits (first ∷ second ∷ third ∷ rest) asked h = cc
 
 -- what words ask for is within the limits
 pub wants_within : (words : List Text) (asked : Wants) → wants words ≡ Some asked → IsWithinLimits asked
-unfolding named_by_first
-wants_within words asked h = go (some_nul words) words h
+unfolding wants_of_plain
+wants_within words asked h = go (some_nul words) h
   where
-    go : (b : Bool) (all : List Text) → cond b None (named_by_first all) ≡ Some asked → IsWithinLimits asked
-    go true all found = cc
-    go false [] found = cc
-    go false (command ∷ rest) found = by_command command (command ∷ rest) asked found
+    either : (o : Option Wants) → ((w : Wants) → o ≡ Some w → IsWithinLimits w) → option_or o (named_by_first words) ≡ Some asked → IsWithinLimits asked
+    either None fits found = first_limits words asked found
+    either (Some w) fits found = fits asked found
+
+    go : (b : Bool) → cond b None (option_or (explained words) (named_by_first words)) ≡ Some asked → IsWithinLimits asked
+    go true found = cc
+    go false found = either (explained words) (explained_limits words) found

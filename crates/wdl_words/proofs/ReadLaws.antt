@@ -2,7 +2,7 @@
 use Rattle.std.proofs.Common.{◌≡◌, false, List, Option, Some, None, Result, Ok, Err, IfOk, IsErrOf}
 use Rattle.clap.specs.Words.{Text}
 use Rattle.wdl_words.proofs.Limits.{wants_within}
-use Rattle.wdl_words.specs.Words.{IsWithinLimits, named_by_first, some_nul}
+use Rattle.wdl_words.specs.Words.{IsWithinLimits, wants_of_plain, some_nul}
 use Rattle.wdl_words.specs.declared.wants.Wants.{Wants}
 use Rattle.wdl_words.specs.Faults.{Reads}
 use Rattle.wdl_words.specs.declared.error.WordFault.{WordFault}
@@ -17,7 +17,7 @@ read_usage o (Ok v) h e = cc
 read_usage o (Err Usage) h e = h
 read_usage o (Err NoMemory) h e = cc
 
-pub within : (words : List Text) (r : Result Wants WordFault) → some_nul words ≡ false → Reads (named_by_first words) r
+pub within : (words : List Text) (r : Result Wants WordFault) → some_nul words ≡ false → Reads (wants_of_plain words) r
     → IfOk r IsWithinLimits
-within words (Ok asked) plain h = wants_within words asked (rw plain h)
+within words (Ok w) plain h = wants_within words w (rw plain h)
 within words (Err e) plain h = tt

@@ -1,3 +1,4 @@
 pub mod Commands
+pub mod Help
 pub mod Words
 pub mod Faults

@@ -1,13 +1,15 @@
 -- The reading of the words.
 use Rattle.std.specs.Prelude.{ℕ, ◌≤◌, Bool, false, ◌==◌, ◌||◌, ◌&&◌, not, nat_le, nat_lt, List, [], ◌∷◌, length}
 use Rattle.std.specs.Prelude.{Option, Some, None, option_map, option_and_then, if◌then◌else◌, codes}
+use Rattle.std.specs.Option.{option_or}
 use Rattle.std.specs.Str.{bytes_eq, all_ascii_digits}
 use Rattle.std.specs.Str.Parse.{digits_value}
 use Rattle.clap.specs.Words.{Row, Text, first_of}
 use Rattle.wdl_base.specs.Plain.{has_nul}
 use Rattle.wdl_words.specs.Commands.{cwl_app, found_in, operand_app, run_app}
+use Rattle.wdl_words.specs.Help.{explained}
 use Rattle.wdl_words.specs.declared.wants.Wants.{Wants}
-use Rattle.wdl_words.specs.declared.wants.Wants.TheVariants.{Run, Check, Cwl, Load, Bundle}
+use Rattle.wdl_words.specs.declared.wants.Wants.TheVariants.{Run, Check, Inputs, Cwl, Load, Bundle}
 
 -- ---- values
 
@@ -110,6 +112,7 @@ abbrev pub wants_by : Text → List Text → Option Wants
 wants_by command words =
     if bytes_eq command (codes "run") then run_in words
     else if bytes_eq command (codes "check") then option_map Check (file_in command words)
+    else if bytes_eq command (codes "inputs") then option_map Inputs (file_in command words)
     else if bytes_eq command (codes "cwl") then cwl_in words
     else if bytes_eq command (codes "load") then option_map Load (load_in words)
     else if bytes_eq command (codes "bundle") then option_map Bundle (file_in command words)
@@ -119,13 +122,17 @@ abbrev pub some_nul : List Text → Bool
 some_nul [] = false
 some_nul (word ∷ words) = has_nul word || some_nul words
 
-unfoldable pub named_by_first : List Text → Option Wants
+abbrev pub named_by_first : List Text → Option Wants
 named_by_first [] = None
 named_by_first (command ∷ rest) = wants_by command (command ∷ rest)
 
+-- help and the version, or what the first word names
+unfoldable pub wants_of_plain : List Text → Option Wants
+wants_of_plain words = option_or (explained words) (named_by_first words)
+
 -- what the words ask for, or none where they have no reading
 abbrev pub wants : List Text → Option Wants
-wants words = if some_nul words then None else named_by_first words
+wants words = if some_nul words then None else wants_of_plain words
 
 -- 1 to 64 workers, a root of at most 512 bytes, 1 to 10,000 calls
 abbrev pub IsWithinLimits : Wants → Type 0

@@ -3,10 +3,11 @@
 
 mod commands;
 mod error;
+mod help;
 mod reading;
 mod values;
 mod wants;
 
 pub use error::WordFault;
 pub use reading::read_words;
-pub use wants::Wants;
+pub use wants::{Command, Wants};

@@ -6,6 +6,7 @@ ghost use Rattle.wdl_words.specs.declared.error.WordFault.TheVariants.{Usage};
 
 use crate::commands::{cwl_matches, operand_in, run_matches, value_of};
 use crate::error::WordFault;
+use crate::help::explained;
 use crate::values::{file_of, number_within, optional_file, root_of, workers_of};
 use crate::wants::Wants;
 use clap::ArgMatches;
@@ -71,6 +72,9 @@ fn wants_by(alloc: Global, command: &str, words: &[String]) -> Result<Wants, Wor
         "check" => Ok(Wants::Check {
             file: file_in(alloc, command, words)?,
         }),
+        "inputs" => Ok(Wants::Inputs {
+            file: file_in(alloc, command, words)?,
+        }),
         "cwl" => cwl_in(alloc, words),
         "load" => Ok(Wants::Load {
             number: load_in(alloc, words)?,
@@ -93,10 +97,13 @@ fn some_nul(words: &[String]) -> bool
     false
 }
 
-#[tactic(auto, unfolding(crate::specs::Words::named_by_first))]
-fn named_by_first(alloc: Global, words: &[String]) -> Result<Wants, WordFault>
-    ensures { Reads (spec.named_by_first (map string_bytes words.now)) result }
+#[tactic(auto, unfolding(crate::specs::Words::wants_of_plain))]
+fn wants_of_plain(alloc: Global, words: &[String]) -> Result<Wants, WordFault>
+    ensures { Reads (spec.wants_of_plain (map string_bytes words.now)) result }
 {
+    if let Some(wants) = explained(words) {
+        return Ok(wants);
+    }
     match words {
         [command, ..] => wants_by(alloc, command.as_str(), words),
         [] => Err(WordFault::Usage),
@@ -106,12 +113,15 @@ fn named_by_first(alloc: Global, words: &[String]) -> Result<Wants, WordFault>
 /// What the words of the command line, after the program's own name, ask for: `Usage` exactly where they have no
 /// reading.
 ///
-/// The words are `run [--inputs FILE] [--workers N] [--root DIR] [--journal FILE] FILE`, `check FILE`,
-/// `cwl [--inputs FILE] FILE`,
-/// `load N` or `bundle FILE`. Each option takes one value, as a word of its own or after `=`, and stands at most
-/// once. N is one or more decimal digits, for 1 to 64 workers (4 where it is left out) or 1 to 10,000 calls. DIR
-/// begins with `/`, has at most 512 bytes as it is given, and is `/tmp/wdl-run` where it is left out; the slashes at its
-/// end are cut, and something is left. No word holds NUL, no FILE is empty, and a word that asks for help has no reading.
+/// The words are `run [--inputs FILE] [--workers N] [--root DIR] [--journal FILE] FILE`, `check FILE`, `inputs FILE`,
+/// `cwl [--inputs FILE] FILE`, `load N` or `bundle FILE`. Each option takes one value, as a word of its own or after `=`,
+/// and stands at most once. N is one or more decimal digits, for 1 to 64 workers (4 where it is left out) or 1 to 10,000
+/// calls. DIR begins with `/`, has at most 512 bytes as it is given, and is `/tmp/wdl-run` where it is left out; the slashes
+/// at its end are cut, and something is left. No word holds NUL, and no FILE is empty.
+///
+/// Help is asked for by `help`, `--help` or `-h` alone, and that of a command by `help COMMAND`, `COMMAND --help` or
+/// `COMMAND -h` alone, where COMMAND is `run`, `check`, `inputs`, `cwl`, `load`, `bundle` or `help`; the version by
+/// `version`, `--version` or `-V` alone. Among other words `--help`, `-h`, `--version` and `-V` have no reading.
 #[tactic(auto, using(crate::proofs::ReadLaws::read_value, crate::proofs::ReadLaws::within, crate::proofs::ReadLaws::read_usage))]
 pub fn read_words(alloc: Global, words: &[String]) -> Result<Wants, WordFault>
     ensures value { IfOk result (λ asked. spec.wants (map string_bytes words.now) ≡ Some asked) }
@@ -121,5 +131,5 @@ pub fn read_words(alloc: Global, words: &[String]) -> Result<Wants, WordFault>
     if some_nul(words) {
         return Err(WordFault::Usage);
     }
-    named_by_first(alloc, words)
+    wants_of_plain(alloc, words)
 }

@@ -1,5 +1,17 @@
 use wdl_value::Text;
 
+/// A command of the program that has a page of help.
+#[derive(Clone, Copy, Debug, PartialEq, Eq)]
+pub enum Command {
+    Run,
+    Check,
+    Inputs,
+    Cwl,
+    Load,
+    Bundle,
+    Help,
+}
+
 /// What the words of the command line ask for.
 #[derive(Debug, Drop)]
 pub enum Wants {
@@ -21,6 +33,11 @@ pub enum Wants {
     Check {
         file: Text,
     },
+    /// Write the inputs of the workflow of a document, to be filled in.
+    Inputs {
+        /// The document's path, not empty.
+        file: Text,
+    },
     /// Translate a document to CWL, or the inputs of its workflow where they are named.
     Cwl {
         /// The document's path, not empty.
@@ -36,4 +53,10 @@ pub enum Wants {
     Bundle {
         file: Text,
     },
+    /// Write the help of a command, or of the whole program where none is named.
+    Help {
+        about: Option<Command>,
+    },
+    /// Write the version of the program.
+    Version,
 }

@@ -1,7 +1,7 @@
 use std::alloc::Global;
 use std::test::Fail;
 use wdl_value::Text;
-use wdl_words::{Wants, WordFault, read_words};
+use wdl_words::{Command, Wants, WordFault, read_words};
 
 /// The words of a line, between its bars.
 fn words_of(alloc: Global, line: &str) -> Result<Vec<String>, Fail> {
@@ -97,6 +97,14 @@ fn other_commands_take_one_word(rt: HostRuntime) -> Result<(), Fail> {
         Wants::Check { file } => assert!(rt; file.is(" w.wdl")),
         _ => assert!(rt; false),
     }
+    match read_words(alloc, words_of(alloc, "check|help")?.as_slice())? {
+        Wants::Check { file } => assert!(rt; file.is("help")),
+        _ => assert!(rt; false),
+    }
+    match read_words(alloc, words_of(alloc, "inputs|w.wdl")?.as_slice())? {
+        Wants::Inputs { file } => assert!(rt; file.is("w.wdl")),
+        _ => assert!(rt; false),
+    }
     match read_words(alloc, words_of(alloc, "bundle|w.wdl")?.as_slice())? {
         Wants::Bundle { file } => assert!(rt; file.is("w.wdl")),
         _ => assert!(rt; false),
@@ -131,6 +139,40 @@ fn cwl_may_name_inputs(rt: HostRuntime) -> Result<(), Fail> {
     Ok(())
 }
 
+fn is_help(asked: &Wants, wanted: Option<Command>) -> bool {
+    match asked {
+        Wants::Help { about } => *about == wanted,
+        _ => false,
+    }
+}
+
+#[test]
+fn help_and_the_version_are_asked_for_alone(rt: HostRuntime) -> Result<(), Fail> {
+    let alloc = rt.alloc();
+    let rows = [
+        ("help", None),
+        ("--help", None),
+        ("-h", None),
+        ("help|run", Some(Command::Run)),
+        ("check|--help", Some(Command::Check)),
+        ("inputs|-h", Some(Command::Inputs)),
+        ("cwl|-h", Some(Command::Cwl)),
+        ("load|--help", Some(Command::Load)),
+        ("help|bundle", Some(Command::Bundle)),
+        ("help|--help", Some(Command::Help)),
+        ("help|help", Some(Command::Help)),
+    ];
+    for (words, wanted) in rows {
+        let asked = read_words(alloc, words_of(alloc, words)?.as_slice())?;
+        assert!(rt; is_help(&asked, wanted), "{words}");
+    }
+    for words in ["version", "--version", "-V"] {
+        let asked = read_words(alloc, words_of(alloc, words)?.as_slice())?;
+        assert!(rt; matches!(asked, Wants::Version), "{words}");
+    }
+    Ok(())
+}
+
 #[test]
 fn other_words_are_refused(rt: HostRuntime) -> Result<(), Fail> {
     let alloc = rt.alloc();
@@ -156,7 +198,7 @@ fn other_words_are_refused(rt: HostRuntime) -> Result<(), Fail> {
         "run|--root=/|w.wdl",
         "run|--root=///|w.wdl",
         "run|--color|w.wdl",
-        "run|--help",
+        "run|--help|w.wdl",
         "run|-h|w.wdl",
         "run|--version",
         "run|-V|w.wdl",
@@ -170,9 +212,17 @@ fn other_words_are_refused(rt: HostRuntime) -> Result<(), Fail> {
         "load|10001",
         "load|-1",
         "load|ten",
+        "inputs",
+        "inputs|",
+        "inputs|--inputs|i.json|w.wdl",
         "Run|w.wdl",
-        "help",
-        "--help",
+        "help|w.wdl",
+        "help|version",
+        "help|run|check",
+        "--help|run",
+        "-h|-h",
+        "version|--help",
+        "check|--help|--help",
     ];
     let none: Vec<String> = Vec::new(alloc);
     assert!(rt; read_words(alloc, none.as_slice()).is_err());

@@ -13,6 +13,7 @@ ghost use Rattle.work_desk.specs.Stops.{NotKeep, is_strict};
 ghost use Rattle.work_desk.specs.Views.{Good};
 
 use crate::desk::Desk;
+use crate::observer::Observer;
 use crate::pact::{Pact, Shares};
 use crate::placed::see_place;
 use crate::rows::Rows;
@@ -24,7 +25,7 @@ use std::alloc::Global;
 use std::sync::Wait;
 use std::sync::ledger::Ledger;
 use wdl_port::{KeepFault, Keeper, LaunchFault, Launcher};
-use wdl_value::{Steps, copy_place};
+use wdl_value::copy_place;
 
 /// What the caller of a run has: the core and the shares of the desk's ledgers, which are its own alone, and the first stop.
 #[derive(Drop)]
@@ -36,13 +37,13 @@ pub(crate) struct Caller<P: Pact> {
 
 impl<P: Pact> Caller<P> {
     // Settles an answer, and looks at the flow.
-    fn settle<S: Ledger, R: Wait>(
+    fn settle<O: Observer<S>, S: Ledger, R: Wait>(
         &mut self,
         rt: &R,
         alloc: Global,
         rows: &Rows,
         answered: Answered,
-        steps: &mut Steps<S>,
+        observer: &mut O,
     )
         requires run { IsRun P.workers P.gives P.refuses rows.now 1 self.old.core self.old.shares self.old.stop }
         requires given { IsGiven P.gives rows.now self.old.core.taken answered }
@@ -51,7 +52,7 @@ impl<P: Pact> Caller<P> {
         ensures shares { self.new.shares ≡ self.old.shares }
         ensures settling { Settling answered self.old.core self.old.stop self.new.core self.new.stop }
     {
-        match self.core.settle(alloc, answered, steps) {
+        match self.core.settle(alloc, answered, observer.steps()) {
             Ok(()) => judge(&mut self.stop, &self.core),
             Err(SettleFault::NoMemory(_)) => halt(&mut self.stop, Stop::NoMemory),
             Err(SettleFault::Stranger(_)) => wait_for_good(rt),
@@ -59,13 +60,13 @@ impl<P: Pact> Caller<P> {
     }
 
     // Takes a job, if one is to be taken, and puts it on the desk, or settles it by its row. False where there was none.
-    fn take_one<S: Ledger, R: Wait>(
+    fn take_one<O: Observer<S>, S: Ledger, R: Wait>(
         &mut self,
         rt: &R,
         alloc: Global,
         desk: &Desk<P>,
         rows: &Rows,
-        steps: &mut Steps<S>,
+        observer: &mut O,
     ) -> bool
         requires run { IsRun P.workers P.gives P.refuses rows.now 0 self.old.core self.old.shares self.old.stop }
         requires goes_on { self.old.stop ≡ None }
@@ -79,6 +80,7 @@ impl<P: Pact> Caller<P> {
             return false;
         };
         let Some(found) = rows.find(&job) else {
+            observer.began(job.request(), job.codes());
             desk.put(rt, job, &mut self.shares);
             return true;
         };
@@ -89,19 +91,20 @@ impl<P: Pact> Caller<P> {
         let Ok(answered) = job.kept(row) else {
             unreachable!();
         };
-        self.settle(rt, alloc, rows, answered, steps);
+        observer.kept(answered.entry());
+        self.settle(rt, alloc, rows, answered, observer);
         true
     }
 
     // Takes jobs until as many are out as there are workers, or nothing more is to be taken, or the run stops.
-    fn fill<S: Ledger, R: Wait>(
+    fn fill<O: Observer<S>, S: Ledger, R: Wait>(
         &mut self,
         rt: &R,
         alloc: Global,
         desk: &Desk<P>,
         rows: &Rows,
         workers: u32,
-        steps: &mut Steps<S>,
+        observer: &mut O,
     )
         requires run { IsRun P.workers P.gives P.refuses rows.now 0 self.old.core self.old.shares self.old.stop }
         requires workers { workers ≡ P.workers }
@@ -119,7 +122,7 @@ impl<P: Pact> Caller<P> {
             if out >= workers {
                 return;
             }
-            if !self.take_one(rt, alloc, desk, rows, steps) {
+            if !self.take_one(rt, alloc, desk, rows, observer) {
                 return;
             }
         }
@@ -127,14 +130,14 @@ impl<P: Pact> Caller<P> {
     }
 
     // Puts an answer that was launched into the keeper, and settles it.
-    fn keep<K: Keeper, S: Ledger, R: Wait>(
+    fn keep<K: Keeper, O: Observer<S>, S: Ledger, R: Wait>(
         &mut self,
         rt: &R,
         alloc: Global,
         rows: &Rows,
         keeper: &mut K,
         answered: Answered,
-        steps: &mut Steps<S>,
+        observer: &mut O,
     )
         requires run { IsRun P.workers P.gives P.refuses rows.now 1 self.old.core self.old.shares self.old.stop }
         requires launched { answered.source ≡ Launched }
@@ -150,10 +153,10 @@ impl<P: Pact> Caller<P> {
     {
         see_place(&answered.entry().request.place);
         match keeper.put(alloc, answered.entry()) {
-            Ok(()) => self.settle(rt, alloc, rows, answered, steps),
+            Ok(()) => self.settle(rt, alloc, rows, answered, observer),
             Err(KeepFault::Failed) => {
                 halt(&mut self.stop, Stop::Keep);
-                self.settle(rt, alloc, rows, answered, steps);
+                self.settle(rt, alloc, rows, answered, observer);
             }
             Err(KeepFault::NoMemory) => halt(&mut self.stop, Stop::NoMemory),
         }
@@ -200,14 +203,14 @@ impl<P: Pact> Caller<P> {
     }
 
     // Keeps and settles an answer that was collected, or stops at a job that was not launched.
-    fn absorb<K: Keeper, S: Ledger, R: Wait>(
+    fn absorb<K: Keeper, O: Observer<S>, S: Ledger, R: Wait>(
         &mut self,
         rt: &R,
         alloc: Global,
         rows: &Rows,
         keeper: &mut K,
         finished: Finished,
-        steps: &mut Steps<S>,
+        observer: &mut O,
     )
         requires run { IsRun P.workers P.gives P.refuses rows.now 1 self.old.core self.old.shares self.old.stop }
         requires good { Good P.gives P.refuses finished }
@@ -221,14 +224,20 @@ impl<P: Pact> Caller<P> {
         ensures holds { Holds P.gives rows.now self.old.core self.old.stop (keeper_view (K.kept keeper.old) (K.path keeper.old) (K.faults keeper.old)) self.new.core self.new.stop (keeper_view (K.kept keeper.new) (K.path keeper.new) (K.faults keeper.new)) }
     {
         match finished {
-            Finished::Done(answered) => self.keep(rt, alloc, rows, keeper, answered, steps),
-            Finished::Undone(unlaunched) => self.give_up(rt, alloc, rows, unlaunched),
+            Finished::Done(answered) => {
+                observer.ended(answered.entry());
+                self.keep(rt, alloc, rows, keeper, answered, observer);
+            }
+            Finished::Undone(unlaunched) => {
+                observer.unlaunched(unlaunched.job.request());
+                self.give_up(rt, alloc, rows, unlaunched);
+            }
         }
     }
 
     /// The caller's part of a run, up to the point where nothing is out and nothing more is to be taken, or, after a stop, all that
     /// was out has come back. With `alone` it launches the jobs itself.
-    pub(crate) fn drive<L: Launcher, K: Keeper, S: Ledger, R: Wait>(
+    pub(crate) fn drive<L: Launcher, K: Keeper, O: Observer<S>, S: Ledger, R: Wait>(
         &mut self,
         rt: &R,
         alloc: Global,
@@ -238,7 +247,7 @@ impl<P: Pact> Caller<P> {
         workers: u32,
         alone: bool,
         keeper: &mut K,
-        steps: &mut Steps<S>,
+        observer: &mut O,
     )
         requires run { IsRun P.workers P.gives P.refuses rows.now 0 self.old.core self.old.shares self.old.stop }
         requires workers { (workers ≡ P.workers) × (0 < workers) }
@@ -251,7 +260,7 @@ impl<P: Pact> Caller<P> {
         ensures holds { Holds P.gives rows.now self.old.core self.old.stop (keeper_view (K.kept keeper.old) (K.path keeper.old) (K.faults keeper.old)) self.new.core self.new.stop (keeper_view (K.kept keeper.new) (K.path keeper.new) (K.faults keeper.new)) }
     {
         for _ in rt.forever() {
-            self.fill(rt, alloc, desk, rows, workers, steps);
+            self.fill(rt, alloc, desk, rows, workers, observer);
             if desk.out(rt, &mut self.shares) == 0 {
                 return;
             }
@@ -261,7 +270,7 @@ impl<P: Pact> Caller<P> {
                 }
             }
             let finished = desk.take_answer(rt, &mut self.shares);
-            self.absorb(rt, alloc, rows, keeper, finished, steps);
+            self.absorb(rt, alloc, rows, keeper, finished, observer);
         }
         unreachable!()
     }

@@ -18,6 +18,7 @@ pub struct Desk<P: Pact> {
     answers: Condvar,
 }
 
+/// A new desk, and the whole shares of its two ledgers, which are the caller's alone.
 #[derive(Drop)]
 pub struct Opened<P: Pact> {
     pub desk: Desk<P>,
@@ -25,6 +26,7 @@ pub struct Opened<P: Pact> {
 }
 
 impl<P: Pact> Desk<P> {
+    /// Returns an empty desk, with room for the jobs and the answers of all workers. Each blank becomes a ledger of the desk.
     pub fn new(
         alloc: Global,
         workers: u32,

@@ -4,9 +4,10 @@
 
 mod caller;
 mod desk;
-mod lent;
+mod observer;
 mod pact;
 mod placed;
+mod progress;
 mod rows;
 mod run;
 mod state;
@@ -16,6 +17,7 @@ mod worker;
 
 pub use desk::{Desk, Opened};
 pub use pact::{CollectedOf, Pact, PutOf, Shares};
+pub use progress::Progress;
 pub use run::{Ran, run_all, run_kept};
 pub use state::{DeskState, Finished};
 pub use stop::Stop;

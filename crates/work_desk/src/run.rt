@@ -11,8 +11,9 @@ ghost use Rattle.work_desk.specs.declared.stop.Stop.TheVariants as stop;
 
 use crate::caller::Caller;
 use crate::desk::{Desk, Opened};
-use crate::lent::{Counter, Lent};
+use crate::observer::{Lent, Observer};
 use crate::pact::{Pact, Shares};
+use crate::progress::Progress;
 use crate::rows::Rows;
 use crate::stop::{Stop, judge};
 use crate::unkept::Unkept;
@@ -54,7 +55,7 @@ fn unstarted(core: Core) -> Ran
 }
 
 /// The caller's part of a run, from its beginning to its end.
-fn conduct<P: Pact, L: Launcher, K: Keeper, S: Ledger, C: Counter<S> + Drop, R: Wait>(
+fn conduct<P: Pact, L: Launcher, K: Keeper, O: Observer<S> + Drop, S: Ledger, R: Wait>(
     rt: &R,
     alloc: Global,
     desk: &Desk<P>,
@@ -65,7 +66,7 @@ fn conduct<P: Pact, L: Launcher, K: Keeper, S: Ledger, C: Counter<S> + Drop, R: 
     keeper: &mut K,
     core: Core,
     shares: Shares<P>,
-    counter: C,
+    observer: O,
 ) -> Ran
     requires core { core ≡ started core.origin }
     requires shares { shares ≡ held 0 0 }
@@ -78,7 +79,7 @@ fn conduct<P: Pact, L: Launcher, K: Keeper, S: Ledger, C: Counter<S> + Drop, R: 
     ensures origin { result.core.origin ≡ core.origin }
     ensures keeper { Went (L.gives launcher.now) result.core result.stop (keeper_view (K.kept keeper.old) (K.path keeper.old) (K.faults keeper.old)) (keeper_view (K.kept keeper.new) (K.path keeper.new) (K.faults keeper.new)) }
 {
-    let mut counter = counter;
+    let mut observer = observer;
     let mut caller = Caller {
         core,
         shares,
@@ -94,7 +95,7 @@ fn conduct<P: Pact, L: Launcher, K: Keeper, S: Ledger, C: Counter<S> + Drop, R: 
         workers,
         alone,
         keeper,
-        counter.steps(),
+        &mut observer,
     );
     desk.close(rt);
     let counts = desk.counts(rt, &mut caller.shares);
@@ -111,8 +112,8 @@ fn in_threads<
     P: Pact + Send + Sync,
     L: Launcher + Sync,
     K: Keeper,
+    O: Observer<S> + Drop,
     S: Ledger,
-    C: Counter<S> + Drop,
     R: Threads + Wait + Sync,
 >(
     rt: &R,
@@ -124,7 +125,7 @@ fn in_threads<
     workers: u32,
     core: Core,
     shares: Shares<P>,
-    counter: C,
+    observer: O,
 ) -> Ran
     requires core { core ≡ started core.origin }
     requires shares { shares ≡ held 0 0 }
@@ -157,7 +158,7 @@ fn in_threads<
                     alone = false;
                 }
             }
-            let ran = conduct::<P, L, K, S, C, R>(
+            let ran = conduct::<P, L, K, O, S, R>(
                 rt,
                 alloc,
                 desk,
@@ -168,7 +169,7 @@ fn in_threads<
                 &mut *keeper,
                 core,
                 shares,
-                counter,
+                observer,
             );
             (ran, keeper)
         },
@@ -182,6 +183,7 @@ fn run_with<
     P: Pact + Send + Sync,
     L: Launcher + Sync,
     K: Keeper,
+    T: Progress,
     S: Ledger,
     R: Threads + Wait + Sync,
 >(
@@ -194,6 +196,7 @@ fn run_with<
     workers: u32,
     put: Blank,
     collected: Blank,
+    progress: &mut T,
     steps: &mut Steps<S>,
 ) -> Ran
     requires core { core ≡ started core.origin }
@@ -211,9 +214,12 @@ fn run_with<
     let Ok(Opened { desk, shares }) = Desk::<P>::new(alloc, workers, put, collected) else {
         return unstarted(core);
     };
-    let counter = Lent { steps: &mut *steps };
-    in_threads::<P, L, K, S, Lent<S>, R>(
-        rt, alloc, &desk, launcher, keeper, rows, workers, core, shares, counter,
+    let observer = Lent {
+        progress: &mut *progress,
+        steps: &mut *steps,
+    };
+    in_threads::<P, L, K, Lent<T, S>, S, R>(
+        rt, alloc, &desk, launcher, keeper, rows, workers, core, shares, observer,
     )
 }
 
@@ -222,7 +228,14 @@ fn run_with<
 ///
 /// A job that has a usable row is settled by it, and every other one is put on the desk and launched. It returns once nothing is
 /// out and nothing more is to be taken, or, after a stop, once all that was out has come back.
-pub fn run_kept<'a, L: Launcher + Sync, K: Keeper, S: Ledger, R: Threads + Wait + Sync>(
+pub fn run_kept<
+    'a,
+    L: Launcher + Sync,
+    K: Keeper,
+    T: Progress,
+    S: Ledger,
+    R: Threads + Wait + Sync,
+>(
     rt: &'a R,
     alloc: Global,
     core: Core,
@@ -230,6 +243,7 @@ pub fn run_kept<'a, L: Launcher + Sync, K: Keeper, S: Ledger, R: Threads + Wait 
     keeper: &mut K,
     rows: Items<Entry>,
     workers: u32,
+    progress: &mut T,
     steps: &mut Steps<S>,
 ) -> Ran
     requires core { core ≡ started core.origin }
@@ -244,7 +258,7 @@ pub fn run_kept<'a, L: Launcher + Sync, K: Keeper, S: Ledger, R: Threads + Wait 
     let Ok(rows) = Rows::new(alloc, rows) else {
         return unstarted(core);
     };
-    run_with::<Brand, L, K, S, R>(
+    run_with::<Brand, L, K, T, S, R>(
         rt,
         alloc,
         core,
@@ -254,12 +268,13 @@ pub fn run_kept<'a, L: Launcher + Sync, K: Keeper, S: Ledger, R: Threads + Wait 
         workers,
         Blank::new(1),
         Blank::new(1),
+        progress,
         steps,
     )
 }
 
 /// As `run_kept`, with a keeper or without one. Without one the rows serve all the same.
-pub fn run_all<'a, L: Launcher + Sync, K: Keeper, S: Ledger, R: Threads + Wait + Sync>(
+pub fn run_all<'a, L: Launcher + Sync, K: Keeper, T: Progress, S: Ledger, R: Threads + Wait + Sync>(
     rt: &'a R,
     alloc: Global,
     core: Core,
@@ -267,6 +282,7 @@ pub fn run_all<'a, L: Launcher + Sync, K: Keeper, S: Ledger, R: Threads + Wait +
     keeper: Option<&mut K>,
     rows: Items<Entry>,
     workers: u32,
+    progress: &mut T,
     steps: &mut Steps<S>,
 ) -> Ran
     requires core { core ≡ started core.origin }
@@ -280,10 +296,22 @@ pub fn run_all<'a, L: Launcher + Sync, K: Keeper, S: Ledger, R: Threads + Wait +
     ensures keeper { MatchOption keeper.entry ⊤ (λ k. elim keeper.exit as (λ _. Type 0) [ inl n ↦ ⊤ | inr x ↦ elim x as (λ _. Type 0) [ inl f ↦ Went (L.gives launcher.now) result.core result.stop (keeper_view (K.kept k.now) (K.path k.now) (K.faults k.now)) (keeper_view (K.kept f.0.now) (K.path f.0.now) (K.faults f.0.now)) | inr n ↦ ⊤ ] ]) }
 {
     match keeper {
-        Some(keeper) => run_kept(rt, alloc, core, launcher, keeper, rows, workers, steps),
+        Some(keeper) => run_kept(
+            rt, alloc, core, launcher, keeper, rows, workers, progress, steps,
+        ),
         None => {
             let mut unkept = Unkept::started(alloc);
-            run_kept(rt, alloc, core, launcher, &mut unkept, rows, workers, steps)
+            run_kept(
+                rt,
+                alloc,
+                core,
+                launcher,
+                &mut unkept,
+                rows,
+                workers,
+                progress,
+                steps,
+            )
         }
     }
 }

@@ -11,7 +11,9 @@ use wdl_value::Counts;
 /// The end of a launch.
 #[derive(Debug, Drop)]
 pub enum Finished {
+    /// The command ended, and this is its answer.
     Done(Answered),
+    /// The launcher gave no answer.
     Undone(Unlaunched),
 }
 
@@ -56,6 +58,7 @@ impl<P: Pact> DeskState<P> {
         self.collected_book.audit(&mut shares.collected);
     }
 
+    /// Puts a job on the desk. Its room was made by `Desk::new`, so it takes no memory.
     pub fn put(&mut self, job: Job, shares: &mut Shares<P>)
         requires out { out_of self.old < P.workers }
         requires few { self.old.put < 20000 }
@@ -67,6 +70,7 @@ impl<P: Pact> DeskState<P> {
         self.put += 1;
     }
 
+    /// Takes a job to run it. `None` where no job waits. It takes no memory.
     pub fn pick(&mut self) -> Option<Job>
         ensures { MatchOption result ((self.old.waiting ≡ []) × (self.new ≡ self.old))
             (λ j. (self.old.waiting ≡ self.new.waiting ++ j ∷ []) × (self.new ≡ record self.old { waiting = self.new.waiting; running = self.old.running + 1; picked = self.old.picked + 1 })) }
@@ -77,6 +81,7 @@ impl<P: Pact> DeskState<P> {
         Some(job)
     }
 
+    /// Lays down the end of a launch. It is handed back where no job is being run. It takes no memory.
     pub fn finish(&mut self, f: Finished) -> Result<(), Finished>
         requires { Good P.gives P.refuses f }
         ensures { MatchResult result
@@ -92,6 +97,7 @@ impl<P: Pact> DeskState<P> {
         Ok(())
     }
 
+    /// Takes the end of a launch from the desk. `None` where none waits. It takes no memory.
     pub fn collect(&mut self, shares: &mut Shares<P>) -> Option<Finished>
         ensures { MatchOption result ((self.old.answers ≡ []) × (self.new ≡ self.old) × (shares.new ≡ shares.old))
             (λ f. Good P.gives P.refuses f × (self.old.answers ≡ self.new.answers ++ f ∷ []) × (self.new ≡ record self.old { answers = self.new.answers; collected = self.old.collected + 1 }) × (shares.new ≡ held shares.old.put (shares.old.collected + 1))) }
@@ -102,12 +108,14 @@ impl<P: Pact> DeskState<P> {
         Some(f)
     }
 
+    /// Closes the desk: no job is put on it from now on.
     pub fn close(&mut self)
         ensures { self.new ≡ record self.old { closed = true } }
     {
         self.closed = true;
     }
 
+    /// Whether the desk was closed.
     pub fn closed(&self) -> bool
         ensures { result ≡ self.now.closed }
     {
@@ -123,12 +131,14 @@ impl<P: Pact> DeskState<P> {
         self.answers.is_empty()
     }
 
+    /// How many jobs wait or are being run, and how many ends of launches wait, together: at most the workers.
     pub fn out(&self) -> u32
         ensures { result ≡ out_of self.now }
     {
         self.waiting.len() as u32 + self.running + self.answers.len() as u32
     }
 
+    /// How many jobs were put on the desk, picked, finished and collected.
     pub fn counts(&self) -> Counts
         ensures { result ≡ counts self.now }
     {

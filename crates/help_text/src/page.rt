@@ -1,0 +1,164 @@
+//! The texts, of at most 80 columns.
+
+/// The version of the program.
+pub const VERSION: &str = "wdl 1.0.0\n";
+
+pub const PROGRAM: &str = "\
+Checks, runs and translates workflows in WDL 1.1.
+
+usage: wdl COMMAND ..
+
+  run      run a workflow
+  check    check a document and all that it imports
+  inputs   write the inputs of a workflow as a JSON object to fill in
+  cwl      write a workflow, or its inputs, for CWL v1.2
+  help     show this help, or that of a command: wdl help run
+  version  show the version of the program
+
+The output is written to standard output. With every status but 0 nothing is
+written there (with 6 a part of the output may be), and one line on standard
+error says what is wrong.
+
+status  meaning
+     0  success: all output was written
+     1  a job failed, or an expression has no value
+     2  the command line is not valid
+     3  the document, or one that it imports, has an error
+     4  the inputs file has an error
+     5  a file cannot be read
+     6  the output cannot be written
+     7  out of memory
+     8  the workflow has no CWL form
+     9  the command of a job cannot be started
+    10  the journal cannot be used
+    11  the run has too many jobs
+    12  the command is not built yet
+
+example:
+  wdl run --inputs lanes.json lanes.wdl
+";
+
+pub const RUN: &str = "\
+Runs the workflow of a document, and writes its outputs as one JSON object.
+
+usage: wdl run [--inputs FILE] [--workers N] [--root DIR] [--journal FILE] FILE
+
+  --inputs FILE   the inputs, a JSON object; wdl inputs writes one to fill in
+                  (default: no inputs)
+  --workers N     how many jobs run at once, 1 to 64 (default: 4)
+  --root DIR      where each job gets a directory of its own: a path of at most
+                  512 bytes that begins with / and names something below it
+                  (default: /tmp/wdl-run)
+  --journal FILE  keep the answer of each job in a SQLite file; after a run was
+                  stopped, the same command line goes on where it stopped
+                  (default: no journal)
+
+Each option may be given once, as --workers 8 or --workers=8. Jobs are run by
+sh, or by the program that the environment variable WDL_SHELL names, as
+PROGRAM -c COMMAND.
+
+status  meaning
+     0  success: the outputs were written
+     1  a job failed, or an expression has no value
+     2  the command line is not valid
+     3  the document, or one that it imports, has an error or no workflow
+     4  the inputs file does not give the workflow what it declares
+     5  a document or the inputs file cannot be read
+     6  the output cannot be written
+     7  out of memory
+     9  the command of a job cannot be started
+    10  the journal cannot be used
+    11  the run has more than 20,000 jobs or 1,000,000 statements
+
+example:
+  wdl run --inputs lanes.json --workers 8 --journal lanes.journal lanes.wdl
+";
+
+pub const CHECK: &str = "\
+Checks a document and all that it imports, and writes ok where it has no error.
+
+usage: wdl check FILE
+
+status  meaning
+     0  success: ok was written
+     2  the command line is not valid
+     3  the document, or one that it imports, has an error
+     5  a document cannot be read
+     6  the output cannot be written
+     7  out of memory
+
+example:
+  wdl check lanes.wdl
+";
+
+pub const INPUTS: &str = "\
+Writes the inputs of the workflow of a document as a JSON object to fill in: a
+member for each input, with its type, whether it is optional, and its default.
+
+usage: wdl inputs FILE
+
+Put a value in place of each text, and leave out what is optional or has a
+default. The result is what wdl run --inputs and wdl cwl --inputs take.
+
+status  meaning
+     0  success: the object was written
+     2  the command line is not valid
+     3  the document, or one that it imports, has an error or no workflow
+     5  a document cannot be read
+     6  the output cannot be written
+     7  out of memory
+
+example:
+  wdl inputs lanes.wdl >lanes.json
+";
+
+pub const CWL: &str = "\
+Writes the workflow of a document, with all that it imports and calls, as one
+document in CWL v1.2, or its inputs as the input object of that document.
+
+usage: wdl cwl [--inputs FILE] FILE
+
+  --inputs FILE  write the input object of these inputs, a JSON object as wdl
+                 run takes it (default: write the workflow)
+
+status  meaning
+     0  success: the document or the object was written
+     2  the command line is not valid
+     3  the document, or one that it imports, has an error or no workflow
+     4  the inputs file does not give the workflow what it declares
+     5  a document or the inputs file cannot be read
+     6  the output cannot be written
+     7  out of memory
+     8  the workflow has no CWL form
+
+example:
+  wdl cwl lanes.wdl >lanes.cwl
+  wdl cwl --inputs lanes.json lanes.wdl >object.json
+  cwltool lanes.cwl object.json
+";
+
+pub const LOAD: &str = "\
+wdl load N is not built yet: it ends with status 12.
+";
+
+pub const BUNDLE: &str = "\
+wdl bundle FILE is not built yet: it ends with status 12.
+";
+
+pub const HELP: &str = "\
+Shows the commands of the program, or the help of one of them.
+
+usage: wdl help [COMMAND]
+
+wdl COMMAND --help and wdl COMMAND -h show the help of a command too, and
+wdl --help and wdl -h the commands.
+
+status  meaning
+     0  success: the help was written
+     2  the command line is not valid
+     6  the output cannot be written
+     7  out of memory
+
+example:
+  wdl help run
+";

@@ -1,0 +1,17 @@
+use Rattle.std.proofs.Common.{false, ap, ◌≡◌, ◌∙◌}
+use Rattle.json.specs.Print.{quoted}
+use Rattle.serde_json.specs.View.{view}
+use Rattle.serde_json.specs.Written.{compact_text, has_float}
+use Rattle.wdl_base.specs.Plain.{has_nul}
+use Rattle.wdl_json.proofs.Texts.{text_nul}
+use Rattle.input_form.proofs.line.quoted.Goals as goal
+
+pub from_string-requires : goal.from_string-requires
+from_string-requires c =
+    let exact : has_float (view c.in_ok-json.json) ≡ false = ap has_float c.in_ok-json.ensures in
+    ap has_nul (c.in_ok-to_string.ensures.text exact) ∙ text_nul (view c.in_ok-json.json)
+
+pub returns : goal.returns
+returns c =
+    let exact : has_float (view c.in_ok-json.json) ≡ false = ap has_float c.in_ok-json.ensures in
+    c.from_string.ensures ∙ c.in_ok-to_string.ensures.text exact ∙ ap compact_text c.in_ok-json.ensures ∙ ap quoted c.as_str.ensures.value

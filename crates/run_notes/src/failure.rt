@@ -1,0 +1,132 @@
+use crate::lookup::push_file;
+use crate::note::{Note, last_lines};
+use std::alloc::Global;
+use wdl_typed::TaskDef;
+use wdl_value::{Body, Entry, Fault, NoMemory, Place, Seen, Text, Why, place_text, same_place};
+
+/// The most lines of a command that are shown.
+const COMMAND_LINES: usize = 12;
+
+/// The most lines of standard error that are shown.
+const ERROR_LINES: usize = 10;
+
+/// The most names of files that are shown.
+const FILE_NAMES: usize = 12;
+
+/// The last entry of a place.
+fn last_at<'a>(journal: &'a [Entry], place: &Place) -> Option<&'a Entry> {
+    let mut last = None;
+    for entry in journal {
+        if same_place(entry.request.place.as_slice(), place.as_slice()) {
+            last = Some(entry);
+        }
+    }
+    last
+}
+
+/// Appends the place of the entry, and what became of it.
+fn push_head(alloc: Global, note: &mut Note, entry: &Entry, what: &str) -> Result<(), NoMemory> {
+    let place = place_text(alloc, &entry.request.place)?;
+    note.push(place.as_str())?;
+    if entry.request.attempt > 0 {
+        let number = u64::from(entry.request.attempt) + 1;
+        let attempt = format!(in alloc; ", attempt {number}")?;
+        note.push(attempt.as_str())?;
+    }
+    note.push(": ")?;
+    note.push(what)?;
+    note.push("\n")
+}
+
+/// Appends the last lines of what is kept of standard error.
+fn push_error(note: &mut Note, body: &Body) -> Result<(), NoMemory> {
+    match body {
+        Body::Long => note.push("  standard error is long\n"),
+        Body::Bytes(bytes) if bytes.is_empty() => note.push("  standard error is empty\n"),
+        Body::Bytes(bytes) => {
+            note.push("  standard error ends with:\n")?;
+            note.push_lines(last_lines(bytes.as_slice(), ERROR_LINES), ERROR_LINES)
+        }
+    }
+}
+
+/// Appends the path of a file of the directory behind a label.
+fn push_path(note: &mut Note, label: &str, dir: &Text, name: &str) -> Result<(), NoMemory> {
+    note.push(label)?;
+    note.push(dir.as_str())?;
+    note.push("/")?;
+    note.push(name)?;
+    note.push("\n")
+}
+
+/// Appends what is known of a command that ended with a status that is no success.
+fn push_status(alloc: Global, note: &mut Note, entry: &Entry, status: u8) -> Result<(), NoMemory> {
+    let signal = if status == 255 {
+        ", or was killed by a signal"
+    } else {
+        ""
+    };
+    let what = format!(in alloc; "the command ended with status {status}{signal}")?;
+    push_head(alloc, note, entry, what.as_str())?;
+    note.push("  command:\n")?;
+    note.push_lines(entry.request.command.as_str().as_bytes(), COMMAND_LINES)?;
+    push_error(note, &entry.answer.err)?;
+    push_path(note, "  standard output: ", &entry.request.dir, "_stdout")?;
+    push_path(note, "  standard error: ", &entry.request.dir, "_stderr")
+}
+
+/// Appends the names of the files, one a line.
+fn push_files(alloc: Global, note: &mut Note, files: &[Seen]) -> Result<(), NoMemory> {
+    for file in files.iter().take(FILE_NAMES) {
+        note.push_lines(file.name.as_str().as_bytes(), 1)?;
+    }
+    if files.len() > FILE_NAMES {
+        let more = files.len() - FILE_NAMES;
+        let line = format!(in alloc; "    and {more} more\n")?;
+        note.push(line.as_str())?;
+    }
+    Ok(())
+}
+
+/// Appends what is known of an output without a value.
+fn push_output(
+    alloc: Global,
+    note: &mut Note,
+    entry: &Entry,
+    output: &Text,
+    task: Option<&TaskDef>,
+) -> Result<(), NoMemory> {
+    let name = output.as_str();
+    let what = format!(in alloc; "its output `{name}` has no value")?;
+    push_head(alloc, note, entry, what.as_str())?;
+    if let Some(task) = task {
+        push_file(note, task, output)?;
+    }
+    note.push("  directory: ")?;
+    note.push(entry.request.dir.as_str())?;
+    if entry.answer.files.is_empty() {
+        return note.push("\n  no files are there but _stdout and _stderr\n");
+    }
+    note.push("\n  files there, beside _stdout and _stderr:\n")?;
+    push_files(alloc, note, entry.answer.files.as_slice())
+}
+
+/// Returns what is known of a job that failed, in some 30 lines at most: of a status that is no success the command, the
+/// end of what it wrote to standard error, and the paths of its streams; of an output without a value the file that its
+/// expression names and the files that are there. `task` is the task of the job. It is empty where the fault is of no
+/// job of the journal.
+pub fn failed_note(
+    alloc: Global,
+    fault: &Fault,
+    journal: &[Entry],
+    task: Option<&TaskDef>,
+) -> Result<Vec<u8>, NoMemory> {
+    let mut note = Note::new(alloc);
+    if let Some(entry) = last_at(journal, &fault.place) {
+        match fault.why {
+            Why::Status(status) => push_status(alloc, &mut note, entry, status)?,
+            Why::Code(_) => push_output(alloc, &mut note, entry, &fault.name, task)?,
+        }
+    }
+    Ok(note.into_bytes())
+}

@@ -1,0 +1,82 @@
+use std::alloc::Global;
+use wdl_value::NoMemory;
+
+/// A text of lines that is built up. It holds what programs wrote, so it need not be UTF-8.
+#[derive(Drop)]
+pub struct Note {
+    bytes: Vec<u8>,
+}
+
+/// The bytes in front of the first newline, and those behind it.
+fn split_line(bytes: &[u8]) -> (&[u8], &[u8]) {
+    match bytes.iter().position(|byte| *byte == b'\n') {
+        Some(at) => (&bytes[..at], &bytes[at + 1..]),
+        None => (bytes, &[]),
+    }
+}
+
+/// The last lines of the bytes, at most so many, without the newline at the end.
+pub fn last_lines(bytes: &[u8], most: usize) -> &[u8] {
+    let whole = match bytes {
+        [front @ .., b'\n'] => front,
+        _ => bytes,
+    };
+    let lines = whole.split(|byte| *byte == b'\n').count();
+    let mut rest = whole;
+    for _ in most..lines {
+        rest = split_line(rest).1;
+    }
+    rest
+}
+
+impl Note {
+    /// A note without bytes.
+    pub fn new(alloc: Global) -> Note {
+        Note {
+            bytes: Vec::new(alloc),
+        }
+    }
+
+    /// Appends a text.
+    pub fn push(&mut self, text: &str) -> Result<(), NoMemory> {
+        self.bytes.extend_from_slice(text.as_bytes())?;
+        Ok(())
+    }
+
+    /// Appends what a program wrote, with `?` in place of control characters but tabs, which a terminal would obey.
+    fn push_bytes(&mut self, bytes: &[u8]) -> Result<(), NoMemory> {
+        for byte in bytes {
+            let shown = if byte.is_ascii_control() && *byte != b'\t' {
+                b'?'
+            } else {
+                *byte
+            };
+            self.bytes.push(shown)?;
+        }
+        Ok(())
+    }
+
+    /// Appends the first lines of the bytes, at most so many, each with an indent, and `..` where there are more.
+    pub fn push_lines(&mut self, bytes: &[u8], most: usize) -> Result<(), NoMemory> {
+        let mut rest = bytes;
+        for _ in 0..most {
+            if rest.is_empty() {
+                return Ok(());
+            }
+            let (line, after) = split_line(rest);
+            self.push("    ")?;
+            self.push_bytes(line)?;
+            self.push("\n")?;
+            rest = after;
+        }
+        if !rest.is_empty() {
+            self.push("    ..\n")?;
+        }
+        Ok(())
+    }
+
+    /// The bytes of the note.
+    pub fn into_bytes(self) -> Vec<u8> {
+        self.bytes
+    }
+}

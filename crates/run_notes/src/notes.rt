@@ -1,0 +1,183 @@
+use crate::failure::failed_note;
+use crate::line::{Event, counts_text, event_text, summary_text};
+use crate::lookup::task_at;
+use crate::tally::Tally;
+use ready_core::Core;
+use std::alloc::Global;
+use std::collections::BTreeMap;
+use std::time::{Clock, Duration, Instant};
+use wdl_port::Sink;
+use wdl_typed::Success;
+use wdl_value::{Entry, NoMemory, Place, Request, Text, place_text};
+use work_desk::Progress;
+
+/// Moves to the beginning of a terminal's line, and clears it.
+const CLEAR: &str = "\r\u{1b}[K";
+
+/// How the counts of a run are shown.
+#[derive(Clone, Copy, Debug, PartialEq, Eq)]
+pub enum Style {
+    /// In front of each event.
+    Lines,
+    /// In one line below the events, which is drawn anew.
+    Terminal,
+}
+
+/// A job that is running: when it began, where the clock could be read, and which statuses are its successes.
+#[derive(Drop)]
+struct Running {
+    began: Option<Instant>,
+    codes: Success,
+}
+
+/// The notes of a run, written to a sink for a person. A write that fails ends them, and a line for which there is no memory is
+/// left out.
+#[derive(Drop)]
+pub struct RunNotes<'s, N: Sink, C: Clock + Drop> {
+    alloc: Global,
+    sink: &'s mut N,
+    clock: C,
+    style: Style,
+    ended: bool,
+    began: Option<Instant>,
+    running: BTreeMap<String, Running>,
+    tally: Tally,
+}
+
+/// Writes all of the bytes. False where a write failed.
+fn write_all<N: Sink>(sink: &mut N, bytes: &[u8]) -> bool {
+    let mut rest = bytes;
+    while !rest.is_empty() {
+        match sink.write(rest) {
+            Ok(count) => rest = &rest[count..],
+            Err(_) => return false,
+        }
+    }
+    true
+}
+
+impl<'s, N: Sink, C: Clock + Drop> RunNotes<'s, N, C> {
+    /// Returns notes that are empty yet. The time of the run begins here.
+    pub fn new(alloc: Global, sink: &'s mut N, clock: C, style: Style) -> RunNotes<'s, N, C> {
+        let began = Instant::now(&clock).ok();
+        RunNotes {
+            alloc,
+            sink,
+            clock,
+            style,
+            ended: false,
+            began,
+            running: BTreeMap::new(alloc),
+            tally: Tally::default(),
+        }
+    }
+
+    /// How long it is since an instant, where the clock could be read both times.
+    fn since(&self, began: Option<Instant>) -> Option<Duration> {
+        began?.elapsed(&self.clock).ok()
+    }
+
+    fn write(&mut self, bytes: &[u8]) {
+        if !self.ended {
+            self.ended = !write_all(self.sink, bytes);
+        }
+    }
+
+    /// Clears the line of the counts.
+    fn clear(&mut self) {
+        if self.style == Style::Terminal {
+            self.write(CLEAR.as_bytes());
+        }
+    }
+
+    /// The line of an event, with the counts.
+    fn line(&self, place: &Place, event: Event) -> Result<String, NoMemory> {
+        let place = place_text(self.alloc, place)?;
+        let event = event_text(self.alloc, place.as_str(), event)?;
+        let counts = counts_text(self.alloc, &self.tally)?;
+        match self.style {
+            Style::Lines => Ok(format!(in self.alloc; "{counts} {event}\n")?),
+            Style::Terminal => Ok(format!(in self.alloc; "{CLEAR}{event}\n{counts}")?),
+        }
+    }
+
+    fn tell(&mut self, place: &Place, event: Event) {
+        if let Ok(line) = self.line(place, event) {
+            self.write(line.as_bytes());
+        }
+    }
+
+    /// Keeps the time at which a job began, and its successes.
+    fn start(&mut self, request: &Request, codes: &Success) -> Result<(), NoMemory> {
+        let place = place_text(self.alloc, &request.place)?;
+        let key = String::from_str(self.alloc, place.as_str())?;
+        let codes = codes.copy(self.alloc)?;
+        let began = Instant::now(&self.clock).ok();
+        self.running.insert(key, Running { began, codes })?;
+        Ok(())
+    }
+
+    /// The job of a place, which no longer runs. None where there was no memory to keep it.
+    fn stop(&mut self, place: &Place) -> Option<Running> {
+        let place = place_text(self.alloc, place).ok()?;
+        self.running.remove(place.as_str())
+    }
+
+    /// Writes what is known of the job that failed.
+    fn tell_failed(&mut self, alloc: Global, core: &Core) {
+        let Some(fault) = core.fault() else {
+            return;
+        };
+        let task = task_at(core.checked(), &fault.place);
+        if let Ok(note) = failed_note(alloc, fault, core.journal(), task) {
+            self.clear();
+            self.write(note.as_slice());
+        }
+    }
+
+    /// Writes the summary. `root` is the directory of the jobs.
+    pub fn summarize(&mut self, alloc: Global, root: &Text) {
+        let took = self.since(self.began);
+        self.clear();
+        if let Ok(text) = summary_text(alloc, &self.tally, took, root.as_str()) {
+            self.write(text.as_bytes());
+        }
+    }
+
+    /// Ends the notes of a run: writes what is known of the job that failed, where one did, and the summary. `root` is the directory
+    /// of the jobs.
+    pub fn end(&mut self, alloc: Global, core: &Core, root: &Text) {
+        self.tell_failed(alloc, core);
+        self.summarize(alloc, root);
+    }
+}
+
+impl<'s, N: Sink, C: Clock + Drop> Progress for RunNotes<'s, N, C> {
+    fn began(&mut self, request: &Request, codes: &Success) {
+        self.tally.begin(request.attempt);
+        let _ = self.start(request, codes);
+        let attempt = request.attempt;
+        self.tell(&request.place, Event::Started { attempt });
+    }
+
+    fn ended(&mut self, entry: &Entry) {
+        let status = entry.answer.status;
+        let (succeeded, took) = match self.stop(&entry.request.place) {
+            Some(running) => (running.codes.holds(status), self.since(running.began)),
+            None => (status == 0, None),
+        };
+        self.tally.end(succeeded);
+        self.tell(&entry.request.place, Event::Ended { status, took });
+    }
+
+    fn unlaunched(&mut self, request: &Request) {
+        let _ = self.stop(&request.place);
+        self.tally.give_up();
+        self.tell(&request.place, Event::Unlaunched);
+    }
+
+    fn kept(&mut self, entry: &Entry) {
+        self.tally.keep(entry.request.attempt);
+        self.tell(&entry.request.place, Event::Kept);
+    }
+}
