@@ -58,7 +58,8 @@ scatter (i in «3») { } | 326 NotAnArray | expected an array to scatter over, f
 ";
 
 /// A task and a struct before the workflow of a row.
-const BEFORE: &str = "version 1.1 struct P { Int x Int? y } task count { input { Array[String]+ words Int limit = 3 } command <<<>>> \
+const BEFORE: &str =
+    "version 1.1 struct P { Int x Int? y } task count { input { Array[String]+ words Int limit = 3 } command <<<>>> \
 output { Int n = 1 String text = 'a' } } workflow w { ";
 
 /// The text with double quotes in the place of single ones.
@@ -93,7 +94,14 @@ fn told(alloc: Global, row: &str, before: &str, behind: &str) -> Result<String, 
     let Marked { text, span } = marked(alloc, quoted(alloc, text.as_str())?.as_str())?;
     let library = library_of(alloc, text.as_str())?;
     let code = code.parse::<u16>()?;
-    let note = document_note(alloc, "w.wdl", text.as_bytes(), code, span, library.as_ref())?;
+    let note = document_note(
+        alloc,
+        "w.wdl",
+        text.as_bytes(),
+        code,
+        span,
+        library.as_ref(),
+    )?;
     let (head, _) = note.as_str().split_once('\n').unwrap_or(("", ""));
     let (_, said) = head.split_once(": error ").unwrap_or((head, ""));
     let (rule, sentence) = said.split_once(": ").unwrap_or((said, ""));
