@@ -1,9 +1,6 @@
-//! Tests of the translation of workflows, in a crate of their own: the gate proves a crate once more for the tests in it.
+//! A test of the tool of a task, in a crate of its own: the gate proves a crate once more for the tests in it. Whole workflows
+//! are tested in `workflow_cli_tests`.
 #![tactic(auto)]
 
 #[cfg(test)]
-mod documents;
-#[cfg(test)]
-mod processes;
-#[cfg(test)]
-mod workflows;
+mod tools;

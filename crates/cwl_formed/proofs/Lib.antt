@@ -7,3 +7,6 @@ mod Processes
 mod Sources
 mod Tools
 pub mod Whole
+mod Values
+mod Given
+pub mod Orders

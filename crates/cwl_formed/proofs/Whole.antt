@@ -28,7 +28,7 @@ use Rattle.cwl_formed.proofs.Processes.{Forms, IsClear, empty_kept, flow_kept, o
 use Rattle.cwl_formed.proofs.Sources.{body_is_fine}
 use Rattle.cwl_formed.proofs.Tools.{inputs_clear, inputs_kept, inputs_slashless, task_kept}
 
-nothing_broken : (bs : List Broken) → is_empty bs ≡ true → bs ≡ []
+pub nothing_broken : (bs : List Broken) → is_empty bs ≡ true → bs ≡ []
 nothing_broken [] h = refl
 nothing_broken (b ∷ bs) h = absurd (false≢true h)
 

@@ -1,2 +1,4 @@
 pub mod Plain
 pub mod Images
+pub mod Objects
+pub mod Given

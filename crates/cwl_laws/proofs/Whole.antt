@@ -46,7 +46,7 @@ some_same h = cc
 
 -- ---- the object of the inputs
 
-bind_plain : (structs : Structs) (is : List TInput) (b : Bind) → bind_fits structs is b ≡ true → b.key.second ≡ None
+pub bind_plain : (structs : Structs) (is : List TInput) (b : Bind) → bind_fits structs is b ≡ true → b.key.second ≡ None
 bind_plain structs [] b h = absurd (false≢true h)
 bind_plain structs (i ∷ is) b h = by_test (same_key b.key (plain_key i.name)) refl h (λ q. bind_plain structs is b q)
   where
@@ -55,7 +55,7 @@ bind_plain structs (i ∷ is) b h = by_test (same_key b.key (plain_key i.name)) 
     by_test false e q rest = rest q
 
 -- What is given under a name is its value in the object.
-object_same : (structs : Structs) (is : List TInput) (given : List Bind) → list_all (bind_fits structs is) given ≡ true → (name : List ℕ) → lookup given (plain_key name) ≡ value_at (object_of given) name
+pub object_same : (structs : Structs) (is : List TInput) (given : List Bind) → list_all (bind_fits structs is) given ≡ true → (name : List ℕ) → lookup given (plain_key name) ≡ value_at (object_of given) name
 object_same structs is [] h name = refl
 object_same structs is (b ∷ bs) h name =
     let p = and_parts (bind_fits structs is b) (list_all (bind_fits structs is) bs) h in
@@ -85,7 +85,7 @@ bind_own structs (j ∷ is) i b d c h e =
         itself name = ap (λ w. w && true) ((bytes_eq-Decides name name).1 refl)
     by_test false s q (inr k) rest apart = rest k q
 
-given_fits : (structs : Structs) (is : List TInput) (i : TInput) (given : List Bind) → are_distinct (input_names is) ≡ true → Contains is i → list_all (bind_fits structs is) given ≡ true → (x : Value)
+pub given_fits : (structs : Structs) (is : List TInput) (i : TInput) (given : List Bind) → are_distinct (input_names is) ≡ true → Contains is i → list_all (bind_fits structs is) given ≡ true → (x : Value)
     → lookup given (plain_key i.name) ≡ Some x → value_fits structs i.ty x ≡ true
 given_fits structs is i [] d c h x e = none_some e
 given_fits structs is i (b ∷ bs) d c h x e =

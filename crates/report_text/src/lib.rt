@@ -5,7 +5,7 @@ mod code;
 mod line;
 mod status;
 
-pub use line::{line_of, no_memory_line, write_line};
+pub use line::{code_text, line_of, no_memory_line, write_line};
 pub use status::{Status, number_of};
 
 #[cfg(test)]

@@ -22,7 +22,8 @@ fn coded(alloc: Global, code: u16, word: &str) -> Result<Text, NoMemory>
     }
 }
 
-fn code_text(alloc: Global, code: u16) -> Result<Text, NoMemory>
+/// The number of a code, and its word where it has one, as `301 UnknownName`.
+pub fn code_text(alloc: Global, code: u16) -> Result<Text, NoMemory>
     ensures { IfOk result (λ t. t ≡ spec.code_text code) }
 {
     coded(alloc, code, word_of(code))

@@ -10,20 +10,22 @@ use Rattle.wdl_ast.specs.DocumentWords.{each, maybe, statement_words}
 use Rattle.wdl_parse_expr.specs.Outcome.{Outcome, Parser, then_, found, eat}
 use Rattle.wdl_parse_expr.specs.Reading.{one_more}
 use Rattle.wdl_parse_expr.proofs.Steps.{ate, then_is, found_some, found_none}
-use Rattle.wdl_parse_expr.proofs.Says.{Says, Takes, Sound, carry, says_then, says_found}
+use Rattle.wdl_parse_expr.proofs.Says.{Says, Takes, carry, says_then, says_found}
 use Rattle.wdl_parse_doc.specs.declared.head.BlockHead.{BlockHead}
 use Rattle.wdl_parse_doc.specs.declared.head.BlockHead.TheVariants as head
 use Rattle.wdl_parse_doc.specs.declared.block.OpenBlock.{OpenBlock}
 use Rattle.wdl_parse_doc.specs.declared.block.Block.{Block}
 use Rattle.wdl_parse_doc.specs.declared.block.Turn.{Turn}
 use Rattle.wdl_parse_doc.specs.declared.block.Turn.TheVariants as turn
+use Rattle.wdl_parse_doc.specs.Context as ctx
+use Rattle.wdl_parse_doc.specs.Context.{Stands}
 use Rattle.wdl_parse_doc.specs.Grammar as g
 use Rattle.wdl_parse_doc.specs.Grammar.{Each, IfThere, AreStatements, IsStatement}
 use Rattle.wdl_parse_doc.specs.Reading.Blocks as r
 use Rattle.wdl_parse_doc.specs.Reading.Blocks.{closed, closing, block_of, after_turn, turns_from}
-use Rattle.wdl_parse_doc.proofs.Formats.{Format, starts_some}
+use Rattle.wdl_parse_doc.proofs.Formats.{Doc, SoundAt, Format, starts_some, at_once}
 use Rattle.wdl_parse_doc.proofs.CallLaws.{Quiet, brace_quiet}
-use Rattle.wdl_parse_doc.proofs.StatementLaws.{head_words, IsHead, HeadOf, head_sound, head_full, closed_words, closed_is, Simple, simple_sound, call_simple, declaration_simple, statements_quiet}
+use Rattle.wdl_parse_doc.proofs.StatementLaws.{head_words, IsHead, HeadOf, head_sound, head_full, closed_words, closed_is, head_stands, each_stands, Simple, simple_sound, call_simple, declaration_simple, statements_quiet}
 
 -- ---- what was read of the blocks that are open
 
@@ -75,42 +77,56 @@ closed_text all b c ts rest e h = e ∙ ap (λ z. block_words b ++ z) h ∙ text
     text : block_words b ++ marked mark.CloseBrace c ∷ rest ≡ before b.around ++ ((head_words b.head ++ (each statement_words b.body ++ marked mark.CloseBrace c ∷ [])) ++ rest)
     text = simp append_assoc
 
-opening_then : (all : Words) (b : Block) (ts : Words) (x : Option BlockHead) (rest : Words) → all ≡ block_words b ++ ts → IsBlock b → HeadOf ts x rest
-    → Says (TurnOf all) all (one_more x (λ h. Ok (r.opened b h, rest)) (then_ (r.simple rest) (λ s more. Ok (r.longer b s, more))))
+opened_stands : (front : Words) (h : BlockHead) (xs : List Statement) → IsHead h → AreStatements xs → Stands ctx.a_statement front → Stands ctx.a_statement (front ++ (head_words h ++ each statement_words xs))
+opened_stands front h xs p q here = subst (Stands ctx.a_statement) (append_assoc front (head_words h) (each statement_words xs)) (each_stands xs q (front ++ head_words h) (head_stands front h p here))
+
+before_stands : (around : List OpenBlock) → Each IsOpen around → (front : Words) → Stands ctx.a_statement front → Stands ctx.a_statement (front ++ before around)
+unfolding before
+before_stands [] p front here = at_once (Stands ctx.a_statement) front here
+before_stands (o ∷ below) p front here =
+    subst (Stands ctx.a_statement) (append_assoc front (before below) (head_words o.head ++ each statement_words o.before)) (opened_stands (front ++ before below) o.head o.before p.0.0 p.0.1 (before_stands below p.1 front here))
+
+-- behind what was read of the blocks that are open a statement stands
+block_stands : (front : Words) (b : Block) → IsBlock b → Stands ctx.a_statement front → Stands ctx.a_statement (front ++ block_words b)
+block_stands front b p here =
+    subst (Stands ctx.a_statement) (append_assoc front (before b.around) (head_words b.head ++ each statement_words b.body)) (opened_stands (front ++ before b.around) b.head b.body p.1 p.2 (before_stands b.around p.0 front here))
+
+opening_then : (doc front all : Words) → doc ≡ front ++ all → Stands ctx.a_statement front → (b : Block) (ts : Words) (x : Option BlockHead) (rest : Words) → all ≡ block_words b ++ ts → IsBlock b → HeadOf ts x rest
+    → Says (Doc doc) (TurnOf all) (one_more x (λ h. Ok (r.opened b h, rest)) (then_ (r.simple rest) (λ s more. Ok (r.longer b s, more))))
 unfolding before r.opened r.longer
-opening_then all b ts (Some h) rest e p t = (e ∙ ap (λ z. block_words b ++ z) t.0 ∙ sym (append_assoc (block_words b) (head_words h) rest) ∙ ap (λ z. (block_words b ++ z) ++ rest) (sym (append-nil (head_words h))), (((p.1, p.2), p.0), t.1, g.none))
-opening_then all b ts None rest e p t = says_then (Takes IsStatement statement_words rest) (TurnOf all) all (block_words b) rest (r.simple rest) _ (e ∙ ap (λ z. block_words b ++ z) t.0) (simple_sound rest)
+opening_then doc front all eq here b ts (Some h) rest e p t = (e ∙ ap (λ z. block_words b ++ z) t.0 ∙ sym (append_assoc (block_words b) (head_words h) rest) ∙ ap (λ z. (block_words b ++ z) ++ rest) (sym (append-nil (head_words h))), (((p.1, p.2), p.0), t.1, g.none))
+opening_then doc front all eq here b ts None rest e p t = says_then (Doc doc) (Takes IsStatement statement_words rest) (TurnOf all) (r.simple rest) _ (simple_sound doc (front ++ block_words b) rest (eq ∙ ap (λ z. front ++ z) (e ∙ ap (λ z. block_words b ++ z) t.0) ∙ sym (append_assoc front (block_words b) rest)) (block_stands front b p here))
     (λ s more q. (added all (before b.around) b.head b.body s more (e ∙ ap (λ z. block_words b ++ z) (t.0 ∙ q.0)), (p.0, p.1, are_more b.body p.2 (s ∷ []) q.1)))
 
-turn_sound : (all : Words) (b : Block) (ts : Words) → all ≡ block_words b ++ ts → IsBlock b → Says (TurnOf all) all (r.turn_at b ts)
+turn_sound : (doc front all : Words) → doc ≡ front ++ all → Stands ctx.a_statement front → (b : Block) (ts : Words) → all ≡ block_words b ++ ts → IsBlock b → Says (Doc doc) (TurnOf all) (r.turn_at b ts)
 unfolding r.turn_at r.opening r.ended
-turn_sound all b ts e p =
-    says_found (TurnOf all) all (eat mark.CloseBrace ts) _ _
+turn_sound doc front all eq here b ts e p =
+    says_found (Doc doc) (TurnOf all) (eat mark.CloseBrace ts) _ _
     (λ c h. closing_says all b.around (closed b.head b.body c.0) c.1 (closed_text all b c.0 ts c.1 e (ate mark.CloseBrace ts c h)) p.0 (closed_is b.head b.body c.0 [] p.1 p.2 g.none))
-    (λ _. says_then (HeadOf ts) (TurnOf all) all (block_words b) ts (r.head_at ts) _ e (head_sound ts) (λ x rest t. opening_then all b ts x rest e p t))
+    (λ _. says_then (Doc doc) (HeadOf ts) (TurnOf all) (r.head_at ts) _ (head_sound doc (front ++ block_words b) ts (eq ∙ ap (λ z. front ++ z) e ∙ sym (append_assoc front (block_words b) ts)) (block_stands front b p here)) (λ x rest t. opening_then doc front all eq here b ts x rest e p t))
 
 -- a turn, and those behind it
-turned_says : (n : ℕ) (all : Words) → ((b : Block) (ts : Words) → all ≡ block_words b ++ ts → IsBlock b → Says (Takes IsStatement statement_words all) all (turns_from n b ts))
-    → (x : Turn) (rest : Words) → TurnOf all x rest → Says (Takes IsStatement statement_words all) all (after_turn x (λ b. turns_from n b rest) rest)
-turned_says n all more (turn.Done s) rest t = t
-turned_says n all more (turn.Going b) rest t = more b rest t.0 t.1
+turned_says : (n : ℕ) (doc all : Words) → ((b : Block) (ts : Words) → all ≡ block_words b ++ ts → IsBlock b → Says (Doc doc) (Takes IsStatement statement_words all) (turns_from n b ts))
+    → (x : Turn) (rest : Words) → TurnOf all x rest → Says (Doc doc) (Takes IsStatement statement_words all) (after_turn x (λ b. turns_from n b rest) rest)
+turned_says n doc all more (turn.Done s) rest t = t
+turned_says n doc all more (turn.Going b) rest t = more b rest t.0 t.1
 
-turns_sound : (n : ℕ) (all : Words) (b : Block) (ts : Words) → all ≡ block_words b ++ ts → IsBlock b → Says (Takes IsStatement statement_words all) all (turns_from n b ts)
+turns_sound : (n : ℕ) (doc front all : Words) → doc ≡ front ++ all → Stands ctx.a_statement front → (b : Block) (ts : Words) → all ≡ block_words b ++ ts → IsBlock b → Says (Doc doc) (Takes IsStatement statement_words all) (turns_from n b ts)
 unfolding turns_from
-turns_sound zero all b ts e p = tt
-turns_sound (suc n) all b ts e p = says_then (TurnOf all) (Takes IsStatement statement_words all) all [] all (r.turn_at b ts) _ refl (turn_sound all b ts e p) (turned_says n all (turns_sound n all))
+turns_sound zero doc front all eq here b ts e p = tt
+turns_sound (suc n) doc front all eq here b ts e p = says_then (Doc doc) (TurnOf all) (Takes IsStatement statement_words all) (r.turn_at b ts) _ (turn_sound doc front all eq here b ts e p) (turned_says n doc all (turns_sound n doc front all eq here))
 
-block_sound : (h : BlockHead) (all ts : Words) → all ≡ head_words h ++ ts → IsHead h → Says (Takes IsStatement statement_words all) all (r.block_at h ts)
+block_sound : (h : BlockHead) (doc front all : Words) → doc ≡ front ++ all → Stands ctx.a_statement front → (ts : Words) → all ≡ head_words h ++ ts → IsHead h → Says (Doc doc) (Takes IsStatement statement_words all) (r.block_at h ts)
 unfolding r.block_at before
-block_sound h all ts e p = turns_sound (length ts) all (block_of [] h []) ts (e ∙ ap (λ z. z ++ ts) (sym (append-nil (head_words h)))) (tt, p, g.none)
+block_sound h doc front all eq here ts e p = turns_sound (length ts) doc front all eq here (block_of [] h []) ts (e ∙ ap (λ z. z ++ ts) (sym (append-nil (head_words h)))) (tt, p, g.none)
 
-pub statement_sound : Sound IsStatement statement_words r.statement
+pub statement_sound : SoundAt (Stands ctx.a_statement) IsStatement statement_words r.statement
 unfolding r.statement
-statement_sound ts = says_then (HeadOf ts) (Takes IsStatement statement_words ts) ts [] ts (r.head_at ts) _ refl (head_sound ts) go
+statement_sound doc front ts eq here = says_then (Doc doc) (HeadOf ts) (Takes IsStatement statement_words ts) (r.head_at ts) _ (head_sound doc front ts eq here) go
   where
-    go : (x : Option BlockHead) (rest : Words) → HeadOf ts x rest → Says (Takes IsStatement statement_words ts) ts (one_more x (λ h. r.block_at h rest) (r.simple rest))
-    go (Some h) rest t = block_sound h ts rest t.0 t.1
-    go None rest t = carry (Takes IsStatement statement_words rest) (Takes IsStatement statement_words ts) ts [] rest (r.simple rest) t.0 (λ s more q. (t.0 ∙ q.0, q.1)) (simple_sound rest)
+    go : (x : Option BlockHead) (rest : Words) → HeadOf ts x rest → Says (Doc doc) (Takes IsStatement statement_words ts) (one_more x (λ h. r.block_at h rest) (r.simple rest))
+    go (Some h) rest t = block_sound h doc front ts eq here rest t.0 t.1
+    go None rest t = carry (Doc doc) (Takes IsStatement statement_words rest) (Takes IsStatement statement_words ts) (r.simple rest) (λ s more q. (t.0 ∙ q.0, q.1)) (simple_sound doc front rest (eq ∙ ap (λ z. front ++ z) t.0) here)
 
 -- ---- statements are read, turn by turn
 
@@ -259,4 +275,4 @@ statement_full s (g.conditional x more e b m) tail q =
     block_full (head.Conditional (record { keyword = x.keyword; opening_paren = x.opening_paren; condition = x.condition; closing_paren = x.closing_paren; opening = x.opening })) e x.body b x.closing tail
 
 abbrev pub a_statement : Format Statement
-a_statement = record { is = IsStatement; words = statement_words; read = r.statement; before = Quiet; sound = statement_sound; full = statement_full }
+a_statement = record { is = IsStatement; words = statement_words; read = r.statement; before = Quiet; stands = Stands ctx.a_statement; sound = statement_sound; full = statement_full }

@@ -28,11 +28,13 @@ use Rattle.wdl_parse_expr.specs.Outcome.{Outcome, Parser, then_, found, is_mark,
 use Rattle.wdl_parse_expr.specs.TypeGrammar as types
 use Rattle.wdl_parse_expr.specs.TypeGrammar.{type_tree, IsBase, IsTypeOver, TypeWithin, IsType}
 use Rattle.wdl_parse_expr.proofs.Steps.{ate, ate_word, ate_ident, sees_ident, then_is, found_some, found_none, cond_true, cond_false}
-use Rattle.wdl_parse_expr.proofs.Says.{Says, Takes, Sound, says_then, says_found, says_cond}
+use Rattle.wdl_parse_expr.proofs.Says.{Says, Takes, says_then, says_found, says_cond}
+use Rattle.wdl_parse_doc.specs.Context as ctx
+use Rattle.wdl_parse_doc.specs.Context.{Stands, an_expression}
 use Rattle.wdl_parse_doc.specs.Grammar.{Each, IfThere, commas_fit, IsIdent, IsDeclaration, IsTarget, IsTargetMember, IsRenaming, IsAfter, IsArgument, IsArgumentItem, IsCallInputs, IsCallBody, IsCall}
 use Rattle.wdl_parse_doc.specs.Reading.Parts.{many, until, item}
 use Rattle.wdl_parse_doc.specs.Reading.Calls as r
-use Rattle.wdl_parse_doc.proofs.Formats.{Format, Worded, Parts, starts_some, next, goes, listed, parts_until, until_ends}
+use Rattle.wdl_parse_doc.proofs.Formats.{Doc, SoundAt, Format, Worded, Parts, starts_some, next, behind_both, goes, listed, parts_until, until_ends}
 use Rattle.wdl_parse_doc.proofs.Leaves.{Any, a_mark, a_name, an_item}
 use Rattle.wdl_parse_doc.proofs.Follows.{Settled, settled_eat, settled_sees, settled_comma, no_as, type_word}
 use Rattle.wdl_parse_doc.proofs.MetaLaws.{items_each}
@@ -47,11 +49,11 @@ pub record Quiet (ts : Words) : Type 0 where
 
 -- ---- targets and new names
 
-member_sound : Sound (IfThere IsTargetMember) (maybe target_member_words) r.target_member
+member_sound : SoundAt Any (IfThere IsTargetMember) (maybe target_member_words) r.target_member
 unfolding r.target_member
-member_sound ts =
+member_sound doc front ts eq here =
     let R : Option TargetMember → Words → Type 0 = Takes (IfThere IsTargetMember) (maybe target_member_words) ts in
-    says_found R ts (eat mark.Dot ts) _ _ (λ d h. next a_name R ts (marked mark.Dot d.0 ∷ []) d.1 _ (ate mark.Dot ts d h) (λ n a p e. (e, p))) (λ _. (refl, tt))
+    says_found (Doc doc) R (eat mark.Dot ts) _ _ (λ d h. next a_name R doc front ts eq (marked mark.Dot d.0 ∷ []) d.1 _ (ate mark.Dot ts d h) tt (λ n a p e. (e, p))) (λ _. (refl, tt))
 
 member_full : (m : Option TargetMember) → IfThere IsTargetMember m → (tail : Words) → eat mark.Dot tail ≡ None → r.target_member (maybe target_member_words m ++ tail) ≡ Ok (m, tail)
 unfolding r.target_member
@@ -59,27 +61,27 @@ member_full None p tail h = found_none (eat mark.Dot tail) _ _ h
 member_full (Some m) p tail h = found_some (eat mark.Dot (marked mark.Dot m.dot ∷ ident m.name ∷ tail)) _ _ (m.dot, ident m.name ∷ tail) refl ∙ goes a_name m.name tail _ p tt
 
 abbrev a_member : Format (Option TargetMember)
-a_member = record { is = IfThere IsTargetMember; words = maybe target_member_words; read = r.target_member; before = λ tail. eat mark.Dot tail ≡ None; sound = member_sound; full = member_full }
+a_member = record { is = IfThere IsTargetMember; words = maybe target_member_words; read = r.target_member; before = λ tail. eat mark.Dot tail ≡ None; stands = Any; sound = member_sound; full = member_full }
 
-target_sound : Sound IsTarget target_words r.target
+target_sound : SoundAt Any IsTarget target_words r.target
 unfolding r.target
-target_sound ts =
+target_sound doc front ts eq here =
     let R : CallTarget → Words → Type 0 = Takes IsTarget target_words ts in
-    next a_name R ts [] ts _ refl (λ n a p e.
-    next a_member R ts (ident n ∷ []) a _ e (λ m b q f. (f, (p, q))))
+    next a_name R doc front ts eq [] ts _ refl tt (λ n a p e.
+    next a_member R doc front ts eq (ident n ∷ []) a _ e tt (λ m b q f. (f, (p, q))))
 
 target_full : (t : CallTarget) → IsTarget t → (tail : Words) → eat mark.Dot tail ≡ None → r.target (target_words t ++ tail) ≡ Ok (t, tail)
 unfolding r.target
 target_full t p tail h = goes a_name t.first (maybe target_member_words t.second ++ tail) _ p.0 tt ∙ goes a_member t.second tail _ p.1 h
 
 abbrev a_target : Format CallTarget
-a_target = record { is = IsTarget; words = target_words; read = r.target; before = λ tail. eat mark.Dot tail ≡ None; sound = target_sound; full = target_full }
+a_target = record { is = IsTarget; words = target_words; read = r.target; before = λ tail. eat mark.Dot tail ≡ None; stands = Any; sound = target_sound; full = target_full }
 
-pub renaming_sound : Sound (IfThere IsRenaming) (maybe renaming_words) r.renaming
+pub renaming_sound : SoundAt Any (IfThere IsRenaming) (maybe renaming_words) r.renaming
 unfolding r.renaming
-renaming_sound ts =
+renaming_sound doc front ts eq here =
     let R : Option Renaming → Words → Type 0 = Takes (IfThere IsRenaming) (maybe renaming_words) ts in
-    says_found R ts (eat_word (codes "as") ts) _ _ (λ s h. next a_name R ts (keyword (codes "as") s.0 ∷ []) s.1 _ (ate_word (codes "as") ts s h) (λ n a p e. (e, p))) (λ _. (refl, tt))
+    says_found (Doc doc) R (eat_word (codes "as") ts) _ _ (λ s h. next a_name R doc front ts eq (keyword (codes "as") s.0 ∷ []) s.1 _ (ate_word (codes "as") ts s h) tt (λ n a p e. (e, p))) (λ _. (refl, tt))
 
 pub renaming_full : (m : Option Renaming) → IfThere IsRenaming m → (tail : Words) → eat_word (codes "as") tail ≡ None → r.renaming (maybe renaming_words m ++ tail) ≡ Ok (m, tail)
 unfolding r.renaming
@@ -87,20 +89,20 @@ renaming_full None p tail h = found_none (eat_word (codes "as") tail) _ _ h
 renaming_full (Some m) p tail h = found_some (eat_word (codes "as") (keyword (codes "as") m.as_word ∷ ident m.name ∷ tail)) _ _ (m.as_word, ident m.name ∷ tail) refl ∙ goes a_name m.name tail _ p tt
 
 abbrev pub a_renaming : Format (Option Renaming)
-a_renaming = record { is = IfThere IsRenaming; words = maybe renaming_words; read = r.renaming; before = λ tail. eat_word (codes "as") tail ≡ None; sound = renaming_sound; full = renaming_full }
+a_renaming = record { is = IfThere IsRenaming; words = maybe renaming_words; read = r.renaming; before = λ tail. eat_word (codes "as") tail ≡ None; stands = Any; sound = renaming_sound; full = renaming_full }
 
 -- ---- calls that have to come first
 
 abbrev AfterOf : Words → Option After → Words → Type 0
 AfterOf ts x rest = (ts ≡ maybe after_words x ++ rest) × IfThere IsAfter x
 
-after_sound : (ts : Words) → Says (AfterOf ts) ts (r.after_at ts)
+after_sound : (doc front ts : Words) → doc ≡ front ++ ts → Any front → Says (Doc doc) (AfterOf ts) (r.after_at ts)
 unfolding r.after_at
-after_sound ts =
-    says_found (AfterOf ts) ts (eat_word (codes "after") ts) _ _
-    (λ s h. says_found (AfterOf ts) ts (ident_at s.1) _ _
+after_sound doc front ts eq here =
+    says_found (Doc doc) (AfterOf ts) (eat_word (codes "after") ts) _ _
+    (λ s h. says_found (Doc doc) (AfterOf ts) (ident_at s.1) _ _
     (λ n q. let named = ate_ident s.1 n q in
-    says_cond (AfterOf ts) ts (sees mark.Assign n.1) _ _ (λ _. (refl, tt)) (λ _. (ate_word (codes "after") ts s h ∙ ap (λ z. keyword (codes "after") s.0 ∷ z) named.0, named.1)))
+    says_cond (Doc doc) (AfterOf ts) (sees mark.Assign n.1) _ _ (λ _. (refl, tt)) (λ _. (ate_word (codes "after") ts s h ∙ ap (λ z. keyword (codes "after") s.0 ∷ z) named.0, named.1)))
     (λ _. (refl, tt)))
     (λ _. (refl, tt))
 
@@ -116,39 +118,43 @@ after_full a p tail h =
     ∙ cond_false (sees mark.Assign tail) _ _ h
 
 abbrev afters : Parts After
-afters = record { is = IsAfter; words = after_words; one = r.after_at; follows = Bare; sound = after_sound; full = after_full; starts = λ a p tail. refl; some = λ a p. omega arith }
+afters = record { is = IsAfter; words = after_words; one = r.after_at; follows = Bare; stands = Any; more = λ a p front s. tt; sound = after_sound; full = after_full; starts = λ a p tail. refl; some = λ a p. omega arith }
 
 -- ---- arguments
 
-argument_sound : Sound IsArgument argument_words r.argument
+argument_sound : SoundAt (Stands ctx.an_argument) IsArgument argument_words r.argument
 unfolding r.argument
-argument_sound ts =
+argument_sound doc front ts eq here =
     let R : Argument → Words → Type 0 = Takes IsArgument argument_words ts in
-    next a_name R ts [] ts _ refl (λ n a p e.
-    next an_assigned R ts (ident n ∷ []) a _ e (λ v b q f. (f, (p, q))))
+    next a_name R doc front ts eq [] ts _ refl tt (λ n a p e.
+    next an_assigned R doc front ts eq (ident n ∷ []) a _ e (λ s. behind_both (Stands an_expression) front (ident n ∷ []) (marked mark.Assign s ∷ []) (ctx.argument_value front n s p here)) (λ v b q f. (f, (p, q))))
 
 argument_full : (a : Argument) → IsArgument a → (tail : Words) → Unassigned tail → r.argument (argument_words a ++ tail) ≡ Ok (a, tail)
 unfolding r.argument
 argument_full a p tail h = goes a_name a.name (maybe assigned_words a.value ++ tail) _ p.0 tt ∙ goes an_assigned a.value tail _ p.1 h
 
 abbrev an_argument : Format Argument
-an_argument = record { is = IsArgument; words = argument_words; read = r.argument; before = Unassigned; sound = argument_sound; full = argument_full }
+an_argument = record { is = IsArgument; words = argument_words; read = r.argument; before = Unassigned; stands = Stands ctx.an_argument; sound = argument_sound; full = argument_full }
 
 abbrev arguments : Parts (ListItem Argument)
-arguments = parts_until (an_item an_argument Settled settled_comma comma_unassigned) mark.CloseBrace Settled (λ tail h. h) (λ x p tail. refl) (λ x p tail. refl) (λ x p. omega arith)
+arguments = parts_until (an_item an_argument Settled settled_comma comma_unassigned) mark.CloseBrace (Stands ctx.an_argument) (λ front s. s) (λ x p front s. ctx.next_argument front x p s) Settled (λ tail h. h) (λ x p tail. refl) (λ x p tail. refl) (λ x p. omega arith)
 
 -- before the end of a call
 abbrev EndsBody : Words → Type 0
 EndsBody tail = (c : Span) × (rest : Words) × (tail ≡ marked mark.CloseBrace c ∷ rest)
 
-inputs_sound : Sound (IfThere IsCallInputs) (maybe call_inputs_words) r.call_inputs
+-- behind `input:` an argument stands
+abbrev InputsStand : Words → Type 0
+InputsStand front = (i c : Span) → Stands ctx.an_argument (front ++ keyword (codes "input") i ∷ marked mark.Colon c ∷ [])
+
+inputs_sound : SoundAt InputsStand (IfThere IsCallInputs) (maybe call_inputs_words) r.call_inputs
 unfolding r.call_inputs
-inputs_sound ts =
+inputs_sound doc front ts eq here =
     let R : Option CallInputs → Words → Type 0 = Takes (IfThere IsCallInputs) (maybe call_inputs_words) ts in
-    says_found R ts (eat_word (codes "input") ts) _ _ (λ k h.
-    next (a_mark mark.Colon refl) R ts (keyword (codes "input") k.0 ∷ []) k.1 _ (ate_word (codes "input") ts k h) (λ c a p e.
-    next (listed arguments) R ts (keyword (codes "input") k.0 ∷ marked mark.Colon c ∷ []) a _ e (λ xs b q f.
-    says_cond R ts (commas_fit xs) _ _
+    says_found (Doc doc) R (eat_word (codes "input") ts) _ _ (λ k h.
+    next (a_mark mark.Colon refl) R doc front ts eq (keyword (codes "input") k.0 ∷ []) k.1 _ (ate_word (codes "input") ts k h) tt (λ c a p e.
+    next (listed arguments) R doc front ts eq (keyword (codes "input") k.0 ∷ marked mark.Colon c ∷ []) a _ e (here k.0 c) (λ xs b q f.
+    says_cond (Doc doc) R (commas_fit xs) _ _
     (λ fits. (f ∙ ap (λ z. keyword (codes "input") k.0 ∷ marked mark.Colon c ∷ (z ++ b)) (sym (items_each argument_words xs)), (q, fits)))
     (λ _. tt))))
     (λ _. (refl, tt))
@@ -173,15 +179,20 @@ inputs_full None p tail h = subst (λ z. r.call_inputs z ≡ Ok (None, z)) (sym 
 inputs_full (Some i) p tail h = subst (λ z. r.call_inputs (call_inputs_words i ++ z) ≡ Ok (Some i, z)) (sym h.2) (inputs_at i p h.0 h.1)
 
 abbrev call_inputs : Format (Option CallInputs)
-call_inputs = record { is = IfThere IsCallInputs; words = maybe call_inputs_words; read = r.call_inputs; before = EndsBody; sound = inputs_sound; full = inputs_full }
+call_inputs = record { is = IfThere IsCallInputs; words = maybe call_inputs_words; read = r.call_inputs; before = EndsBody; stands = InputsStand; sound = inputs_sound; full = inputs_full }
 
-body_sound : Sound (IfThere IsCallBody) (maybe call_body_words) r.call_body
+-- behind a brace and `input:`
+abbrev BodyStands : Words → Type 0
+BodyStands front = (o i c : Span) → Stands ctx.an_argument (front ++ marked mark.OpenBrace o ∷ keyword (codes "input") i ∷ marked mark.Colon c ∷ [])
+
+body_sound : SoundAt BodyStands (IfThere IsCallBody) (maybe call_body_words) r.call_body
 unfolding r.call_body
-body_sound ts =
+body_sound doc front ts eq here =
     let R : Option CallBody → Words → Type 0 = Takes (IfThere IsCallBody) (maybe call_body_words) ts in
-    says_found R ts (eat mark.OpenBrace ts) _ _ (λ o h.
-    next call_inputs R ts (marked mark.OpenBrace o.0 ∷ []) o.1 _ (ate mark.OpenBrace ts o h) (λ i a p e.
-    next (a_mark mark.CloseBrace refl) R ts (marked mark.OpenBrace o.0 ∷ maybe call_inputs_words i) a _ e (λ c b q f. (f, p))))
+    says_found (Doc doc) R (eat mark.OpenBrace ts) _ _ (λ o h.
+    next call_inputs R doc front ts eq (marked mark.OpenBrace o.0 ∷ []) o.1 _ (ate mark.OpenBrace ts o h)
+    (λ i c. behind_both (Stands ctx.an_argument) front (marked mark.OpenBrace o.0 ∷ []) (keyword (codes "input") i ∷ marked mark.Colon c ∷ []) (here o.0 i c)) (λ i a p e.
+    next (a_mark mark.CloseBrace refl) R doc front ts eq (marked mark.OpenBrace o.0 ∷ maybe call_inputs_words i) a _ e tt (λ c b q f. (f, p))))
     (λ _. (refl, tt))
 
 body_full : (b : Option CallBody) → IfThere IsCallBody b → (tail : Words) → eat mark.OpenBrace tail ≡ None → r.call_body (maybe call_body_words b ++ tail) ≡ Ok (b, tail)
@@ -196,19 +207,27 @@ body_full (Some b) p tail h =
     ∙ goes (a_mark mark.CloseBrace refl) b.closing tail _ tt tt
 
 abbrev a_body : Format (Option CallBody)
-a_body = record { is = IfThere IsCallBody; words = maybe call_body_words; read = r.call_body; before = λ tail. eat mark.OpenBrace tail ≡ None; sound = body_sound; full = body_full }
+a_body = record { is = IfThere IsCallBody; words = maybe call_body_words; read = r.call_body; before = λ tail. eat mark.OpenBrace tail ≡ None; stands = BodyStands; sound = body_sound; full = body_full }
 
 -- ---- whole calls
 
-pub call_sound : (k : Span) (ts : Words) → Says (Takes IsCall call_words (keyword (codes "call") k ∷ ts)) (keyword (codes "call") k ∷ ts) (r.call k ts)
+arguments_at : (front : Words) (k : Span) (t : CallTarget) (n : Option Renaming) (xs : List After) → IsTarget t → IfThere IsRenaming n → Each IsAfter xs → Stands ctx.a_statement front
+    → BodyStands (front ++ (((keyword (codes "call") k ∷ target_words t) ++ maybe renaming_words n) ++ each after_words xs))
+arguments_at front k t n xs p q x here o i c =
+    let behind : Words = marked mark.OpenBrace o ∷ keyword (codes "input") i ∷ marked mark.Colon c ∷ [] in
+    let text : (front ++ (((keyword (codes "call") k ∷ target_words t) ++ maybe renaming_words n) ++ each after_words xs)) ++ behind
+    ≡ front ++ keyword (codes "call") k ∷ (target_words t ++ (maybe renaming_words n ++ (each after_words xs ++ behind))) = simp append_assoc in
+    subst (Stands ctx.an_argument) (sym text) (ctx.arguments front k t n xs o i c p q x here)
+
+pub call_sound : (doc front : Words) (k : Span) (ts : Words) → doc ≡ front ++ keyword (codes "call") k ∷ ts → Stands ctx.a_statement front → Says (Doc doc) (Takes IsCall call_words (keyword (codes "call") k ∷ ts)) (r.call k ts)
 unfolding r.call
-call_sound k ts =
+call_sound doc front k ts eq here =
     let all : Words = keyword (codes "call") k ∷ ts in
     let R : Call → Words → Type 0 = Takes IsCall call_words all in
-    next a_target R all (keyword (codes "call") k ∷ []) ts _ refl (λ t a p e.
-    next a_renaming R all (keyword (codes "call") k ∷ target_words t) a _ e (λ n b q f.
-    next (listed afters) R all ((keyword (codes "call") k ∷ target_words t) ++ maybe renaming_words n) b _ f (λ xs c x g.
-    next a_body R all (((keyword (codes "call") k ∷ target_words t) ++ maybe renaming_words n) ++ each after_words xs) c _ g (λ y d z h. (h ∙ simp append_assoc, (p, q, x, z))))))
+    next a_target R doc front all eq (keyword (codes "call") k ∷ []) ts _ refl tt (λ t a p e.
+    next a_renaming R doc front all eq (keyword (codes "call") k ∷ target_words t) a _ e tt (λ n b q f.
+    next (listed afters) R doc front all eq ((keyword (codes "call") k ∷ target_words t) ++ maybe renaming_words n) b _ f tt (λ xs c x g.
+    next a_body R doc front all eq (((keyword (codes "call") k ∷ target_words t) ++ maybe renaming_words n) ++ each after_words xs) c _ g (arguments_at front k t n xs p q x here) (λ y d z h. (h ∙ simp append_assoc, (p, q, x, z))))))
 
 -- what stands behind a part of a call does not go on with that part
 body_bare : (b : Option CallBody) (tail : Words) → Quiet tail → Bare (maybe call_body_words b ++ tail)
@@ -251,7 +270,7 @@ call_full c p tail h =
     )
 
 abbrev pub a_call : Worded Call (codes "call")
-a_call = record { is = IsCall; words = call_words; read = r.call; before = Quiet; sound = call_sound; full = call_full }
+a_call = record { is = IsCall; words = call_words; read = r.call; before = Quiet; stands = Stands ctx.a_statement; sound = call_sound; full = call_full }
 
 -- ---- what a declaration begins with is no part of a call
 

@@ -1,5 +1,5 @@
 -- Marks, words, names and the parts that expressions and types are, as formats.
-use Rattle.std.proofs.Common.{◌≡◌, ℕ, Bool, true, false, cond, ◌||◌, List, [], ◌∷◌, ◌++◌, Option, Some, None, Ok, refl, ap, sym, ◌∙◌, subst, append_assoc}
+use Rattle.std.proofs.Common.{◌≡◌, inl, inr, ℕ, Bool, true, false, cond, ◌||◌, List, [], ◌∷◌, ◌++◌, Option, Some, None, Ok, refl, ap, sym, ◌∙◌, subst, append_assoc}
 use Rattle.std.specs.Str.{bytes_eq}
 use Rattle.std.proofs.lemmas.Slice.Eq.{bytes_eq-Decides}
 use Rattle.wdl_base.specs.declared.span.Span.{Span}
@@ -19,127 +19,137 @@ use Rattle.wdl_ast.specs.declared.string.StringPart.{StringPart}
 use Rattle.wdl_ast.specs.declared.expr.Expr.{Expr}
 use Rattle.wdl_ast.specs.declared.type_tree.TypeTree.{TypeTree}
 use Rattle.wdl_ast.specs.Words.{Words, at, marked, keyword, ident, word, comma, plain_words, parts_words, words, type_words}
+use Rattle.wdl_parse_expr.specs.declared.fault.Fault.{Fault}
+use Rattle.wdl_parse_expr.specs.Context.{Points, ExprCause, TypeCause}
 use Rattle.wdl_parse_expr.specs.Outcome.{Outcome, Parser, then_, found, is_mark, eat, eat_word, ident_at}
-use Rattle.wdl_parse_expr.specs.Grammar.{IsExpr, AreParts}
+use Rattle.wdl_parse_expr.specs.Grammar.{max_depth, IsExpr, AreParts}
 use Rattle.wdl_parse_expr.specs.TypeGrammar.{IsType}
 use Rattle.wdl_parse_expr.specs.Reading.{plain}
 use Rattle.wdl_parse_expr.specs.Contract.{expr_continues, type_continues, read_expr, read_type, read_parts}
 use Rattle.wdl_parse_expr.proofs.Steps.{ate, ate_word, ate_ident, sees_ident, then_is, found_some, found_none, cond_true}
-use Rattle.wdl_parse_expr.proofs.Says.{Says, Takes, Sound, says_found}
-use Rattle.wdl_parse_expr.proofs.Strings.{plain_sound, plain_full}
+use Rattle.wdl_parse_expr.proofs.Says.{Says, Takes, says_found}
+use Rattle.wdl_parse_expr.proofs.Strings.{Quiet, plain_sound, plain_full}
 use Rattle.wdl_parse_expr.proofs.Readers.{expr_reads, expr_read, type_reads, type_read, parts_reads, parts_read}
+use Rattle.wdl_parse_doc.specs.Context as ctx
+use Rattle.wdl_parse_doc.specs.Context.{Stands, an_expression, a_command_part, WholeExpr}
 use Rattle.wdl_parse_doc.specs.Grammar.{IsIdent}
 use Rattle.wdl_parse_doc.specs.Reading.Parts.{need, mark_at, word_at, name_at, key_of, key_at, comma_at, item, attribute}
 use Rattle.wdl_parse_doc.specs.Reading.Sections.{fence_of, fence_at, fence_end_of, fence_end_at}
-use Rattle.wdl_parse_doc.proofs.Formats.{Format, next, goes}
+use Rattle.wdl_parse_doc.proofs.Formats.{Doc, SoundAt, Format, next, at_once, goes}
 
 abbrev pub Any : {A : Type 0} → A → Type 0
 Any x = Unit {0}
 
 -- ---- what has to stand there
 
-pub need_says : {A : Type 0} (R : A → Words → Type 0) (ts : Words) (o : Option (A × Words)) → ((x : A × Words) → o ≡ Some x → R x.0 x.1) → Says R ts (need o)
+pub need_says : {A : Type 0} (C : Fault → Type 0) (R : A → Words → Type 0) (o : Option (A × Words)) → ((x : A × Words) → o ≡ Some x → R x.0 x.1) → Says C R (need o)
 unfolding need
-need_says R ts (Some x) f = f x refl
-need_says R ts None f = tt
+need_says C R (Some x) f = f x refl
+need_says C R None f = tt
 
 pub need_is : {A : Type 0} (o : Option (A × Words)) (x : A × Words) → o ≡ Some x → need o ≡ Ok x
 unfolding need
 need_is o x h = ap need h
 
-pub mark_sound : (m : Mark) → Sound {A = Span} Any (λ s. marked m s ∷ []) (mark_at m)
+pub mark_sound : (m : Mark) → Quiet {A = Span} Any (λ s. marked m s ∷ []) (mark_at m)
 unfolding mark_at
-mark_sound m ts = need_says (Takes Any (λ s. marked m s ∷ []) ts) ts (eat m ts) (λ x h. (ate m ts x h, tt))
+mark_sound m C ts = need_says C (Takes Any (λ s. marked m s ∷ []) ts) (eat m ts) (λ x h. (ate m ts x h, tt))
 
 pub mark_full : (m : Mark) → is_mark m (kind.Mark m) ≡ true → (s : Span) → Any s → (tail : Words) → Any tail → mark_at m (marked m s ∷ tail) ≡ Ok (s, tail)
 unfolding mark_at
 mark_full m h s p tail q = need_is (eat m (marked m s ∷ tail)) (s, tail) (cond_true (is_mark m (kind.Mark m)) _ _ h)
 
 abbrev pub a_mark : (m : Mark) → is_mark m (kind.Mark m) ≡ true → Format Span
-a_mark m h = record { is = Any; words = λ s. marked m s ∷ []; read = mark_at m; before = Any; sound = mark_sound m; full = mark_full m h }
+a_mark m h = record { is = Any; words = λ s. marked m s ∷ []; read = mark_at m; before = Any; stands = Any; sound = λ doc front ts g here. mark_sound m (Doc doc) ts; full = mark_full m h }
 
-pub word_sound : (w : List ℕ) → Sound {A = Span} Any (λ s. keyword w s ∷ []) (word_at w)
+pub word_sound : (w : List ℕ) → Quiet {A = Span} Any (λ s. keyword w s ∷ []) (word_at w)
 unfolding word_at
-word_sound w ts = need_says (Takes Any (λ s. keyword w s ∷ []) ts) ts (eat_word w ts) (λ x h. (ate_word w ts x h, tt))
+word_sound w C ts = need_says C (Takes Any (λ s. keyword w s ∷ []) ts) (eat_word w ts) (λ x h. (ate_word w ts x h, tt))
 
 pub word_full : (w : List ℕ) (s : Span) → Any s → (tail : Words) → Any tail → word_at w (keyword w s ∷ tail) ≡ Ok (s, tail)
 unfolding word_at
 word_full w s p tail q = need_is (eat_word w (keyword w s ∷ tail)) (s, tail) (cond_true (bytes_eq w w) _ _ ((bytes_eq-Decides w w).1 refl))
 
 abbrev pub a_word : List ℕ → Format Span
-a_word w = record { is = Any; words = λ s. keyword w s ∷ []; read = word_at w; before = Any; sound = word_sound w; full = word_full w }
+a_word w = record { is = Any; words = λ s. keyword w s ∷ []; read = word_at w; before = Any; stands = Any; sound = λ doc front ts g here. word_sound w (Doc doc) ts; full = word_full w }
 
-pub name_sound : Sound IsIdent (λ n. ident n ∷ []) name_at
+pub name_sound : Quiet IsIdent (λ n. ident n ∷ []) name_at
 unfolding name_at
-name_sound ts = need_says (Takes IsIdent (λ n. ident n ∷ []) ts) ts (ident_at ts) (λ x h. ate_ident ts x h)
+name_sound C ts = need_says C (Takes IsIdent (λ n. ident n ∷ []) ts) (ident_at ts) (λ x h. ate_ident ts x h)
 
 pub name_full : (n : Ident) → IsIdent n → (tail : Words) → Any tail → name_at (ident n ∷ tail) ≡ Ok (n, tail)
 unfolding name_at
 name_full n p tail q = need_is (ident_at (ident n ∷ tail)) (n, tail) (sees_ident n tail p)
 
 abbrev pub a_name : Format Ident
-a_name = record { is = IsIdent; words = λ n. ident n ∷ []; read = name_at; before = Any; sound = name_sound; full = name_full }
+a_name = record { is = IsIdent; words = λ n. ident n ∷ []; read = name_at; before = Any; stands = Any; sound = λ doc front ts g here. name_sound (Doc doc) ts; full = name_full }
 
-key_from : (k : Kind) (s : Span) (ts : Words) → Says (Takes Any (λ w. word w ∷ []) (at k s ∷ ts)) (at k s ∷ ts) (key_of k s ts)
-key_from (kind.Word w) s ts = (refl, tt)
-key_from _ s ts = tt
+key_from : (C : Fault → Type 0) (k : Kind) (s : Span) (ts : Words) → Says C (Takes Any (λ w. word w ∷ []) (at k s ∷ ts)) (key_of k s ts)
+key_from C (kind.Word w) s ts = (refl, tt)
+key_from C _ s ts = tt
 
-pub key_sound : Sound {A = Word} Any (λ w. word w ∷ []) key_at
+pub key_sound : Quiet {A = Word} Any (λ w. word w ∷ []) key_at
 unfolding key_at
-key_sound [] = tt
-key_sound (t ∷ ts) = key_from t.kind t.span ts
+key_sound C [] = tt
+key_sound C (t ∷ ts) = key_from C t.kind t.span ts
 
 pub key_full : (w : Word) → Any w → (tail : Words) → Any tail → key_at (word w ∷ tail) ≡ Ok (w, tail)
 unfolding key_at
 key_full w p tail q = refl
 
 abbrev pub a_key : Format Word
-a_key = record { is = Any; words = λ w. word w ∷ []; read = key_at; before = Any; sound = key_sound; full = key_full }
+a_key = record { is = Any; words = λ w. word w ∷ []; read = key_at; before = Any; stands = Any; sound = λ doc front ts g here. key_sound (Doc doc) ts; full = key_full }
 
 -- ---- expressions, types and strings
 
+pub doc_expr : (doc : Words) (f : Fault) → Points (ExprCause max_depth WholeExpr f.code) doc f.span → Doc doc f
+doc_expr doc f b = (b.0, b.1, b.2, b.3, b.4, inl b.5)
+
+pub doc_type : (doc : Words) (f : Fault) → Points (TypeCause (Stands ctx.a_type) f.code) doc f.span → Doc doc f
+doc_type doc f b = (b.0, b.1, b.2, b.3, b.4, inr (inl b.5))
+
 abbrev pub an_expr : Format Expr
-an_expr = record { is = IsExpr; words = words; read = read_expr; before = λ tail. expr_continues tail ≡ false; sound = expr_reads; full = expr_read }
+an_expr = record { is = IsExpr; words = words; read = read_expr; before = λ tail. expr_continues tail ≡ false; stands = Stands an_expression; sound = λ doc front ts g here. expr_reads WholeExpr doc (Doc doc) (λ f b. doc_expr doc f b) front ts g (inl (refl, here)); full = expr_read }
 
 abbrev pub a_type : Format TypeTree
-a_type = record { is = IsType; words = type_words; read = read_type; before = λ tail. type_continues tail ≡ false; sound = type_reads; full = type_read }
+a_type = record { is = IsType; words = type_words; read = read_type; before = λ tail. type_continues tail ≡ false; stands = Stands ctx.a_type; sound = λ doc front ts g here. type_reads (Stands ctx.a_type) doc (Doc doc) (λ f b. doc_type doc f b) front ts g here; full = type_read }
 
 abbrev pub a_string : Format PlainString
-a_string = record { is = Any; words = plain_words; read = plain; before = Any; sound = plain_sound; full = λ s p tail q. plain_full s tail }
+a_string = record { is = Any; words = plain_words; read = plain; before = Any; stands = Any; sound = λ doc front ts g here. plain_sound (Doc doc) ts; full = λ s p tail q. plain_full s tail }
 
 -- ---- commands
 
-fence_from : (k : Kind) (s : Span) (ts : Words) → Says (Takes Any (λ (f : Fence × Span). at (kind.CommandOpen f.0) f.1 ∷ []) (at k s ∷ ts)) (at k s ∷ ts) (fence_of k s ts)
-fence_from (kind.CommandOpen f) s ts = (refl, tt)
-fence_from _ s ts = tt
+fence_from : (C : Fault → Type 0) (k : Kind) (s : Span) (ts : Words) → Says C (Takes Any (λ (f : Fence × Span). at (kind.CommandOpen f.0) f.1 ∷ []) (at k s ∷ ts)) (fence_of k s ts)
+fence_from C (kind.CommandOpen f) s ts = (refl, tt)
+fence_from C _ s ts = tt
 
-pub fence_sound : Sound {A = Fence × Span} Any (λ (f : Fence × Span). at (kind.CommandOpen f.0) f.1 ∷ []) fence_at
+pub fence_sound : Quiet {A = Fence × Span} Any (λ (f : Fence × Span). at (kind.CommandOpen f.0) f.1 ∷ []) fence_at
 unfolding fence_at
-fence_sound [] = tt
-fence_sound (t ∷ ts) = fence_from t.kind t.span ts
+fence_sound C [] = tt
+fence_sound C (t ∷ ts) = fence_from C t.kind t.span ts
 
 pub fence_full : (f : Fence × Span) → Any f → (tail : Words) → Any tail → fence_at (at (kind.CommandOpen f.0) f.1 ∷ tail) ≡ Ok (f, tail)
 unfolding fence_at
 fence_full f p tail q = refl
 
 abbrev pub a_fence : Format (Fence × Span)
-a_fence = record { is = Any; words = λ f. at (kind.CommandOpen f.0) f.1 ∷ []; read = fence_at; before = Any; sound = fence_sound; full = fence_full }
+a_fence = record { is = Any; words = λ f. at (kind.CommandOpen f.0) f.1 ∷ []; read = fence_at; before = Any; stands = Any; sound = λ doc front ts g here. fence_sound (Doc doc) ts; full = fence_full }
 
-fence_end_from : (k : Kind) (s : Span) (ts : Words) → Says (Takes Any (λ c. at kind.CommandClose c ∷ []) (at k s ∷ ts)) (at k s ∷ ts) (fence_end_of k s ts)
-fence_end_from kind.CommandClose s ts = (refl, tt)
-fence_end_from _ s ts = tt
+fence_end_from : (C : Fault → Type 0) (k : Kind) (s : Span) (ts : Words) → Says C (Takes Any (λ c. at kind.CommandClose c ∷ []) (at k s ∷ ts)) (fence_end_of k s ts)
+fence_end_from C kind.CommandClose s ts = (refl, tt)
+fence_end_from C _ s ts = tt
 
-pub fence_end_sound : Sound {A = Span} Any (λ c. at kind.CommandClose c ∷ []) fence_end_at
+pub fence_end_sound : Quiet {A = Span} Any (λ c. at kind.CommandClose c ∷ []) fence_end_at
 unfolding fence_end_at
-fence_end_sound [] = tt
-fence_end_sound (t ∷ ts) = fence_end_from t.kind t.span ts
+fence_end_sound C [] = tt
+fence_end_sound C (t ∷ ts) = fence_end_from C t.kind t.span ts
 
 pub fence_end_full : (c : Span) → Any c → (tail : Words) → Any tail → fence_end_at (at kind.CommandClose c ∷ tail) ≡ Ok (c, tail)
 unfolding fence_end_at
 fence_end_full c p tail q = refl
 
 abbrev pub a_fence_end : Format Span
-a_fence_end = record { is = Any; words = λ c. at kind.CommandClose c ∷ []; read = fence_end_at; before = Any; sound = fence_end_sound; full = fence_end_full }
+a_fence_end = record { is = Any; words = λ c. at kind.CommandClose c ∷ []; read = fence_end_at; before = Any; stands = Any; sound = λ doc front ts g here. fence_end_sound (Doc doc) ts; full = fence_end_full }
 
 -- before the end of a command
 abbrev pub EndsCommand : Words → Type 0
@@ -149,13 +159,13 @@ pub command_parts_full : (ps : List (StringPart Expr)) → AreParts ps → (tail
 command_parts_full ps p tail e = subst (λ z. read_parts (parts_words words ps ++ z) ≡ Ok (ps, z)) (sym e.2) (parts_read ps p e.0 e.1)
 
 abbrev pub command_parts : Format (List (StringPart Expr))
-command_parts = record { is = AreParts; words = parts_words words; read = read_parts; before = EndsCommand; sound = parts_reads; full = command_parts_full }
+command_parts = record { is = AreParts; words = parts_words words; read = read_parts; before = EndsCommand; stands = Stands a_command_part; sound = λ doc front ts g here. parts_reads WholeExpr doc (Doc doc) (λ f b. doc_expr doc f b) front ts g (inr (refl, here)); full = command_parts_full }
 
 -- ---- commas
 
-pub comma_sound : Sound {A = Option Span} Any comma comma_at
+pub comma_sound : Quiet {A = Option Span} Any comma comma_at
 unfolding comma_at
-comma_sound ts = says_found (Takes Any comma ts) ts (eat mark.Comma ts) _ _ (λ s h. (ate mark.Comma ts s h, tt)) (λ _. (refl, tt))
+comma_sound C ts = says_found C (Takes Any comma ts) (eat mark.Comma ts) _ _ (λ s h. (ate mark.Comma ts s h, tt)) (λ _. (refl, tt))
 
 pub comma_full : (m : Option Span) → Any m → (tail : Words) → eat mark.Comma tail ≡ None → comma_at (comma m ++ tail) ≡ Ok (m, tail)
 unfolding comma_at
@@ -163,7 +173,7 @@ comma_full (Some s) p tail h = found_some (eat mark.Comma (marked mark.Comma s �
 comma_full None p tail h = found_none (eat mark.Comma tail) _ _ h
 
 abbrev pub a_comma : Format (Option Span)
-a_comma = record { is = Any; words = comma; read = comma_at; before = λ tail. eat mark.Comma tail ≡ None; sound = comma_sound; full = comma_full }
+a_comma = record { is = Any; words = comma; read = comma_at; before = λ tail. eat mark.Comma tail ≡ None; stands = Any; sound = λ doc front ts g here. comma_sound (Doc doc) ts; full = comma_full }
 
 -- ---- elements with an optional comma behind them
 
@@ -175,12 +185,12 @@ module _ {E : Type 0} (F : Format E) (follows : Words → Type 0) (bare : (tail 
   abbrev pub IsItem : ListItem E → Type 0
   IsItem i = F.is i.item
 
-  pub item_sound : Sound IsItem item_words (item F.read)
+  pub item_sound : SoundAt F.stands IsItem item_words (item F.read)
   unfolding item
-  item_sound ts =
+  item_sound doc front ts g here =
       let R : ListItem E → Words → Type 0 = Takes IsItem item_words ts in
-      next F R ts [] ts _ refl (λ x a p e.
-      next a_comma R ts (F.words x) a _ e (λ m b q g. (g, p)))
+      next F R doc front ts g [] ts _ refl (at_once F.stands front here) (λ x a p e.
+      next a_comma R doc front ts g (F.words x) a _ e tt (λ m b q h. (h, p)))
 
   pub item_full : (i : ListItem E) → IsItem i → (tail : Words) → follows tail → item F.read (item_words i ++ tail) ≡ Ok (i, tail)
   unfolding item
@@ -189,7 +199,7 @@ module _ {E : Type 0} (F : Format E) (follows : Words → Type 0) (bare : (tail 
       ap (item F.read) text ∙ goes F i.item (comma i.comma ++ tail) _ p (behind i.comma tail h) ∙ goes a_comma i.comma tail _ tt (bare tail h)
 
   abbrev pub an_item : Format (ListItem E)
-  an_item = record { is = IsItem; words = item_words; read = item F.read; before = follows; sound = item_sound; full = item_full }
+  an_item = record { is = IsItem; words = item_words; read = item F.read; before = follows; stands = F.stands; sound = item_sound; full = item_full }
 
   abbrev pub attribute_words : Attribute E → Words
   attribute_words a = word a.key ∷ marked mark.Colon a.colon ∷ (F.words a.value ++ comma a.comma)
@@ -197,14 +207,18 @@ module _ {E : Type 0} (F : Format E) (follows : Words → Type 0) (bare : (tail 
   abbrev pub IsAttribute : Attribute E → Type 0
   IsAttribute a = F.is a.value
 
-  pub attribute_sound : Sound IsAttribute attribute_words (attribute F.read)
+  -- behind a key and its colon a value stands
+  abbrev pub ValueStands : Words → Type 0
+  ValueStands front = (k : Word) (c : Span) → F.stands (front ++ word k ∷ marked mark.Colon c ∷ [])
+
+  pub attribute_sound : SoundAt ValueStands IsAttribute attribute_words (attribute F.read)
   unfolding attribute
-  attribute_sound ts =
+  attribute_sound doc front ts g here =
       let R : Attribute E → Words → Type 0 = Takes IsAttribute attribute_words ts in
-      next a_key R ts [] ts _ refl (λ k a p e.
-      next (a_mark mark.Colon refl) R ts (word k ∷ []) a _ e (λ c b q f.
-      next F R ts (word k ∷ marked mark.Colon c ∷ []) b _ f (λ v d r g.
-      next a_comma R ts (word k ∷ marked mark.Colon c ∷ F.words v) d _ g (λ m z s h. (h, r)))))
+      next a_key R doc front ts g [] ts _ refl tt (λ k a p e.
+      next (a_mark mark.Colon refl) R doc front ts g (word k ∷ []) a _ e tt (λ c b q f.
+      next F R doc front ts g (word k ∷ marked mark.Colon c ∷ []) b _ f (here k c) (λ v d r i.
+      next a_comma R doc front ts g (word k ∷ marked mark.Colon c ∷ F.words v) d _ i tt (λ m z s h. (h, r)))))
 
   pub attribute_full : (a : Attribute E) → IsAttribute a → (tail : Words) → follows tail → attribute F.read (attribute_words a ++ tail) ≡ Ok (a, tail)
   unfolding attribute
@@ -218,4 +232,4 @@ module _ {E : Type 0} (F : Format E) (follows : Words → Type 0) (bare : (tail 
       ∙ goes a_comma a.comma tail _ tt (bare tail h)
 
   abbrev pub an_attribute : Format (Attribute E)
-  an_attribute = record { is = IsAttribute; words = attribute_words; read = attribute F.read; before = follows; sound = attribute_sound; full = attribute_full }
+  an_attribute = record { is = IsAttribute; words = attribute_words; read = attribute F.read; before = follows; stands = ValueStands; sound = attribute_sound; full = attribute_full }

@@ -1,5 +1,5 @@
 -- Metadata, read and written.
-use Rattle.std.proofs.Common.{◌≡◌, ℕ, zero, suc, ◌<◌, ◌≤◌, Bool, true, false, cond, inl, inr, List, [], ◌∷◌, ◌++◌, length, Option, Some, None, Ok, refl, ap, sym, ◌∙◌, subst, append_assoc, length-append, arith, codes}
+use Rattle.std.proofs.Common.{◌≡◌, ℕ, zero, suc, ◌+◌, ◌<◌, ◌≤◌, Bool, true, false, cond, inl, inr, List, [], ◌∷◌, ◌++◌, length, Option, Some, None, Ok, refl, ap, sym, ◌∙◌, subst, append_assoc, length-append, arith, codes}
 use Rattle.wdl_base.specs.declared.span.Span.{Span}
 use Rattle.wdl_ast.specs.declared.token.Mark.{Mark}
 use Rattle.wdl_ast.specs.declared.token.Mark.TheVariants as mark
@@ -16,16 +16,18 @@ use Rattle.wdl_ast.specs.declared.meta.MetaValue.TheVariants as meta
 use Rattle.wdl_ast.specs.Words.{Words, at, marked, keyword, comma, mark_words, plain_words, items_words, attributes_words, number_words, meta_words}
 use Rattle.wdl_ast.specs.DocumentWords.{each}
 use Rattle.wdl_ast.proofs.WordLaws.{meta_null, meta_true, meta_false, meta_number, meta_str, meta_object, meta_list}
-use Rattle.wdl_parse_expr.specs.Outcome.{Outcome, Parser, then_, found, is_mark, sees, eat, eat_word}
+use Rattle.wdl_parse_expr.specs.Outcome.{Outcome, Parser, then_, found, too_deep, is_mark, sees, eat, eat_word}
 use Rattle.wdl_parse_expr.specs.Reading.{plain}
 use Rattle.wdl_parse_expr.proofs.Steps.{ate, ate_word, then_is, found_some, found_none, cond_true, cond_false}
-use Rattle.wdl_parse_expr.proofs.Says.{Says, Takes, Sound, deep_sound, says_then, says_found, says_cond}
+use Rattle.wdl_parse_expr.proofs.Says.{Says, Takes, says_then, says_found, says_cond}
+use Rattle.wdl_parse_doc.specs.Context as ctx
+use Rattle.wdl_parse_doc.specs.Context.{MetaPlace, an_entry, a_value, OpenMeta}
 use Rattle.wdl_parse_doc.specs.Grammar as g
 use Rattle.wdl_parse_doc.specs.Grammar.{Each, commas_fit, IsMetaOver, MetaWithin, max_meta_depth}
 use Rattle.wdl_parse_doc.specs.Reading.Parts.{need, until, item, attribute}
 use Rattle.wdl_parse_doc.specs.Reading.Metadata as r
 use Rattle.wdl_parse_doc.specs.Reading.Metadata.{number_of, number_at, meta_at}
-use Rattle.wdl_parse_doc.proofs.Formats.{Format, Parts, starts_some, next, goes, listed, parts_until, until_ends}
+use Rattle.wdl_parse_doc.proofs.Formats.{Doc, SoundAt, Format, Parts, starts_some, next, goes, listed, parts_until, until_ends}
 use Rattle.wdl_parse_doc.proofs.Leaves.{Any, need_says, need_is, a_mark, a_string, an_item, an_attribute, item_words, attribute_words}
 use Rattle.wdl_parse_doc.proofs.Follows.{Settled, settled_comma, mark_apart}
 
@@ -77,17 +79,28 @@ number_begins None (number.Frac w s) = (at (kind.Frac w) s, [], refl, refl)
 abbrev NoComma : Words → Type 0
 NoComma ts = eat mark.Comma ts ≡ None
 
+-- Such a part of metadata stands behind these tokens, and with a value of that depth there the limit is met.
+abbrev pub MetaSpot : ℕ → MetaPlace → Words → Type 0
+MetaSpot d p front = (n : ℕ) × OpenMeta p n front × (n + d ≡ max_meta_depth)
+
+deep_sound : SoundAt (MetaSpot 0 a_value) (MetaWithin 0) meta_words too_deep
+deep_sound doc front [] eq here = tt
+deep_sound doc front (t ∷ ts) eq here = let full : here.0 ≡ max_meta_depth = omega (arith, here.2) in (front, t, ts, eq, refl, inr (inr (refl, subst (λ n. OpenMeta a_value n front) full here.1)))
+
 -- inner reads a value, one level deeper
-module _ (In : MetaValue → Type 0) (inner : Parser MetaValue) (sound : Sound In meta_words inner)
-    (full : (x : MetaValue) → In x → (tail : Words) → inner (meta_words x ++ tail) ≡ Ok (x, tail)) (begins : (x : MetaValue) → In x → MetaBegins (meta_words x)) where
+module _ (depth : ℕ) (inner : Parser MetaValue) (sound : SoundAt (MetaSpot depth a_value) (MetaWithin depth) meta_words inner)
+    (full : (x : MetaValue) → MetaWithin depth x → (tail : Words) → inner (meta_words x ++ tail) ≡ Ok (x, tail)) (begins : (x : MetaValue) → MetaWithin depth x → MetaBegins (meta_words x)) where
+  abbrev In : MetaValue → Type 0
+  In = MetaWithin depth
+
   abbrev value_inside : Format MetaValue
-  value_inside = record { is = In; words = meta_words; read = inner; before = Any; sound = sound; full = λ x p tail q. full x p tail }
+  value_inside = record { is = In; words = meta_words; read = inner; before = Any; stands = MetaSpot depth a_value; sound = sound; full = λ x p tail q. full x p tail }
 
   abbrev pub attribute_inside : Format (Attribute MetaValue)
   attribute_inside = an_attribute value_inside Settled settled_comma (λ m tail h. tt)
 
   abbrev pub attributes_inside : Parts (Attribute MetaValue)
-  attributes_inside = parts_until attribute_inside mark.CloseBrace Settled (λ tail h. h) (λ x p tail. refl) (λ x p tail. refl) (λ x p. omega arith)
+  attributes_inside = parts_until attribute_inside mark.CloseBrace (MetaSpot depth an_entry) (λ front s k c. (s.0, ctx.entry_value s.0 front k c s.1, s.2)) (λ x p front s. (s.0, ctx.next_entry s.0 front depth x p s.1, s.2)) Settled (λ tail h. h) (λ x p tail. refl) (λ x p tail. refl) (λ x p. omega arith)
 
   abbrev item_inside : Format (ListItem MetaValue)
   item_inside = an_item value_inside NoComma (λ tail h. h) (λ m tail h. tt)
@@ -106,59 +119,59 @@ module _ (In : MetaValue → Type 0) (inner : Parser MetaValue) (sound : Sound I
   item_some x p = let s = begins x.item p in starts_some (meta_words x.item ++ comma x.comma) (s.1 ++ comma x.comma) s.0 (ap (λ z. z ++ comma x.comma) s.2)
 
   abbrev items_inside : Parts (ListItem MetaValue)
-  items_inside = parts_until item_inside mark.CloseBracket NoComma (λ tail h. h) item_follows item_apart item_some
+  items_inside = parts_until item_inside mark.CloseBracket (MetaSpot depth ctx.an_item) (λ front s. (s.0, ctx.item_value s.0 front s.1, s.2)) (λ x p front s. (s.0, ctx.next_item s.0 front depth x p s.1, s.2)) NoComma (λ tail h. h) item_follows item_apart item_some
 
   -- ---- what is read is a value
 
   abbrev Value : Words → MetaValue → Words → Type 0
   Value = Takes (IsMetaOver In) meta_words
 
-  object_sound : (o : Span) (ts : Words) → Says (Value (marked mark.OpenBrace o ∷ ts)) (marked mark.OpenBrace o ∷ ts) (r.meta_object inner o ts)
+  object_sound : (doc front : Words) (o : Span) (ts : Words) → doc ≡ front ++ marked mark.OpenBrace o ∷ ts → MetaSpot (suc depth) a_value front → Says (Doc doc) (Value (marked mark.OpenBrace o ∷ ts)) (r.meta_object inner o ts)
   unfolding r.meta_object
-  object_sound o ts =
+  object_sound doc front o ts eq here =
       let all : Words = marked mark.OpenBrace o ∷ ts in
-      next (listed attributes_inside) (Value all) all (marked mark.OpenBrace o ∷ []) ts _ refl (λ xs a p e.
-      next (a_mark mark.CloseBrace refl) (Value all) all (marked mark.OpenBrace o ∷ each (attribute_words value_inside Settled settled_comma (λ m tail h. tt)) xs) a _ e (λ c b q f.
+      next (listed attributes_inside) (Value all) doc front all eq (marked mark.OpenBrace o ∷ []) ts _ refl (suc here.0, ctx.object_ here.0 front o here.1, omega (arith, here.2)) (λ xs a p e.
+      next (a_mark mark.CloseBrace refl) (Value all) doc front all eq (marked mark.OpenBrace o ∷ each (attribute_words value_inside Settled settled_comma (λ m tail h. tt)) xs) a _ e tt (λ c b q f.
       (f ∙ sym (ap (λ z. z ++ b) (meta_object o xs c ∙ ap (λ z. marked mark.OpenBrace o ∷ (z ++ marked mark.CloseBrace c ∷ [])) (attributes_each meta_words xs))), g.object_ o xs c p)))
 
-  list_sound : (o : Span) (ts : Words) → Says (Value (marked mark.OpenBracket o ∷ ts)) (marked mark.OpenBracket o ∷ ts) (r.meta_list inner o ts)
+  list_sound : (doc front : Words) (o : Span) (ts : Words) → doc ≡ front ++ marked mark.OpenBracket o ∷ ts → MetaSpot (suc depth) a_value front → Says (Doc doc) (Value (marked mark.OpenBracket o ∷ ts)) (r.meta_list inner o ts)
   unfolding r.meta_list
-  list_sound o ts =
+  list_sound doc front o ts eq here =
       let all : Words = marked mark.OpenBracket o ∷ ts in
-      next (listed items_inside) (Value all) all (marked mark.OpenBracket o ∷ []) ts _ refl (λ xs a p e.
-      next (a_mark mark.CloseBracket refl) (Value all) all (marked mark.OpenBracket o ∷ each (item_words value_inside NoComma (λ tail h. h) (λ m tail h. tt)) xs) a _ e (λ c b q f.
-      says_cond (Value all) all (commas_fit xs) _ _
+      next (listed items_inside) (Value all) doc front all eq (marked mark.OpenBracket o ∷ []) ts _ refl (suc here.0, ctx.list here.0 front o here.1, omega (arith, here.2)) (λ xs a p e.
+      next (a_mark mark.CloseBracket refl) (Value all) doc front all eq (marked mark.OpenBracket o ∷ each (item_words value_inside NoComma (λ tail h. h) (λ m tail h. tt)) xs) a _ e tt (λ c b q f.
+      says_cond (Doc doc) (Value all) (commas_fit xs) _ _
       (λ fits. (f ∙ sym (ap (λ z. z ++ b) (meta_list o xs c ∙ ap (λ z. marked mark.OpenBracket o ∷ (z ++ marked mark.CloseBracket c ∷ [])) (items_each meta_words xs))), g.list o xs c p fits))
       (λ _. tt)))
 
-  negative_sound : (s : Span) (ts : Words) → Says (Value (marked mark.Minus s ∷ ts)) (marked mark.Minus s ∷ ts) (r.negative s ts)
+  negative_sound : (doc : Words) (s : Span) (ts : Words) → Says (Doc doc) (Value (marked mark.Minus s ∷ ts)) (r.negative s ts)
   unfolding r.negative
-  negative_sound s ts =
+  negative_sound doc s ts =
       let all : Words = marked mark.Minus s ∷ ts in
-      says_then (Takes Any number_words ts) (Value all) all (marked mark.Minus s ∷ []) ts (need (number_at ts)) _ refl (need_says (Takes Any number_words ts) ts (number_at ts) (λ x h. (ate_number ts x h, tt)))
+      says_then (Doc doc) (Takes Any number_words ts) (Value all) (need (number_at ts)) _ (need_says (Doc doc) (Takes Any number_words ts) (number_at ts) (λ x h. (ate_number ts x h, tt)))
       (λ n rest a. (ap (λ z. marked mark.Minus s ∷ z) a.0 ∙ sym (ap (λ z. z ++ rest) (meta_number (Some s) n)), g.number (Some s) n))
 
-  leaf_sound : (ts : Words) → Says (Value ts) ts (r.meta_leaf ts)
+  leaf_sound : (doc front ts : Words) → doc ≡ front ++ ts → Says (Doc doc) (Value ts) (r.meta_leaf ts)
   unfolding r.meta_leaf
-  leaf_sound ts = says_found (Value ts) ts (number_at ts) _ _
+  leaf_sound doc front ts eq = says_found (Doc doc) (Value ts) (number_at ts) _ _
       (λ n h. (ate_number ts n h ∙ sym (ap (λ z. z ++ n.1) (meta_number None n.0)), g.number None n.0))
-      (λ _. next a_string (Value ts) ts [] ts _ refl (λ p rest q e. (e ∙ sym (ap (λ z. z ++ rest) (meta_str p)), g.str p)))
+      (λ _. next a_string (Value ts) doc front ts eq [] ts _ refl tt (λ p rest q e. (e ∙ sym (ap (λ z. z ++ rest) (meta_str p)), g.str p)))
 
-  word_sound : (ts : Words) → Says (Value ts) ts (r.meta_word ts)
+  word_sound : (doc front ts : Words) → doc ≡ front ++ ts → Says (Doc doc) (Value ts) (r.meta_word ts)
   unfolding r.meta_word
-  word_sound ts =
-      says_found (Value ts) ts (eat_word (codes "null") ts) _ _ (λ s h. (ate_word (codes "null") ts s h ∙ sym (ap (λ z. z ++ s.1) (meta_null s.0)), g.null s.0)) (λ _.
-      says_found (Value ts) ts (eat_word (codes "true") ts) _ _ (λ s h. (ate_word (codes "true") ts s h ∙ sym (ap (λ z. z ++ s.1) (meta_true s.0)), g.yes_ s.0)) (λ _.
-      says_found (Value ts) ts (eat_word (codes "false") ts) _ _ (λ s h. (ate_word (codes "false") ts s h ∙ sym (ap (λ z. z ++ s.1) (meta_false s.0)), g.no_ s.0)) (λ _.
-      leaf_sound ts)))
+  word_sound doc front ts eq =
+      says_found (Doc doc) (Value ts) (eat_word (codes "null") ts) _ _ (λ s h. (ate_word (codes "null") ts s h ∙ sym (ap (λ z. z ++ s.1) (meta_null s.0)), g.null s.0)) (λ _.
+      says_found (Doc doc) (Value ts) (eat_word (codes "true") ts) _ _ (λ s h. (ate_word (codes "true") ts s h ∙ sym (ap (λ z. z ++ s.1) (meta_true s.0)), g.yes_ s.0)) (λ _.
+      says_found (Doc doc) (Value ts) (eat_word (codes "false") ts) _ _ (λ s h. (ate_word (codes "false") ts s h ∙ sym (ap (λ z. z ++ s.1) (meta_false s.0)), g.no_ s.0)) (λ _.
+      leaf_sound doc front ts eq)))
 
-  pub over_sound : Sound (IsMetaOver In) meta_words (r.meta_over inner)
+  pub over_sound : SoundAt (MetaSpot (suc depth) a_value) (IsMetaOver In) meta_words (r.meta_over inner)
   unfolding r.meta_over
-  over_sound ts =
-      says_found (Value ts) ts (eat mark.OpenBrace ts) _ _ (λ o h. subst (λ z. Says (Value z) z (r.meta_object inner o.0 o.1)) (sym (ate mark.OpenBrace ts o h)) (object_sound o.0 o.1)) (λ _.
-      says_found (Value ts) ts (eat mark.OpenBracket ts) _ _ (λ o h. subst (λ z. Says (Value z) z (r.meta_list inner o.0 o.1)) (sym (ate mark.OpenBracket ts o h)) (list_sound o.0 o.1)) (λ _.
-      says_found (Value ts) ts (eat mark.Minus ts) _ _ (λ s h. subst (λ z. Says (Value z) z (r.negative s.0 s.1)) (sym (ate mark.Minus ts s h)) (negative_sound s.0 s.1)) (λ _.
-      word_sound ts)))
+  over_sound doc front ts eq here =
+      says_found (Doc doc) (Value ts) (eat mark.OpenBrace ts) _ _ (λ o h. subst (λ z. Says (Doc doc) (Value z) (r.meta_object inner o.0 o.1)) (sym (ate mark.OpenBrace ts o h)) (object_sound doc front o.0 o.1 (eq ∙ ap (λ z. front ++ z) (ate mark.OpenBrace ts o h)) here)) (λ _.
+      says_found (Doc doc) (Value ts) (eat mark.OpenBracket ts) _ _ (λ o h. subst (λ z. Says (Doc doc) (Value z) (r.meta_list inner o.0 o.1)) (sym (ate mark.OpenBracket ts o h)) (list_sound doc front o.0 o.1 (eq ∙ ap (λ z. front ++ z) (ate mark.OpenBracket ts o h)) here)) (λ _.
+      says_found (Doc doc) (Value ts) (eat mark.Minus ts) _ _ (λ s h. subst (λ z. Says (Doc doc) (Value z) (r.negative s.0 s.1)) (sym (ate mark.Minus ts s h)) (negative_sound doc s.0 s.1)) (λ _.
+      word_sound doc front ts eq)))
 
   -- ---- a value is read
 
@@ -237,17 +250,17 @@ module _ (In : MetaValue → Type 0) (inner : Parser MetaValue) (sound : Sound I
 
 abbrev Known : ℕ → Type 0
 Known d =
-    Sound (MetaWithin d) meta_words (meta_at d)
+    SoundAt (MetaSpot d a_value) (MetaWithin d) meta_words (meta_at d)
     × ((x : MetaValue) → MetaWithin d x → (tail : Words) → meta_at d (meta_words x ++ tail) ≡ Ok (x, tail))
     × ((x : MetaValue) → MetaWithin d x → MetaBegins (meta_words x))
 
 pub known : (d : ℕ) → Known d
 unfolding meta_at
-known zero = (deep_sound (MetaWithin zero) meta_words, λ x p tail. absurd p, λ x p. absurd p)
+known zero = (deep_sound, λ x p tail. absurd p, λ x p. absurd p)
 known (suc d) =
     let below = known d in
-    (over_sound (MetaWithin d) (meta_at d) below.0 below.1 below.2, over_full (MetaWithin d) (meta_at d) below.0 below.1 below.2, over_begins (MetaWithin d) (meta_at d) below.0 below.1 below.2)
+    (over_sound d (meta_at d) below.0 below.1 below.2, over_full d (meta_at d) below.0 below.1 below.2, over_begins d (meta_at d) below.0 below.1 below.2)
 
 -- the attributes of a section of metadata
 abbrev pub meta_attributes : Parts (Attribute MetaValue)
-meta_attributes = let all = known max_meta_depth in attributes_inside (MetaWithin max_meta_depth) (meta_at max_meta_depth) all.0 all.1 all.2
+meta_attributes = let all = known max_meta_depth in attributes_inside max_meta_depth (meta_at max_meta_depth) all.0 all.1 all.2

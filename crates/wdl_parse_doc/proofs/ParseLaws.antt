@@ -17,18 +17,24 @@ use Rattle.wdl_parse_expr.specs.declared.fault.ParseFault.TheVariants as fault
 use Rattle.wdl_parse_expr.specs.Outcome.{Fails}
 use Rattle.wdl_parse_expr.specs.Contract.{IsSpanOf, IsPlaced, IfBad, FaultOf}
 use Rattle.wdl_parse_expr.proofs.Steps.{same, done}
-use Rattle.wdl_parse_expr.proofs.Says.{said, blamed, later}
+use Rattle.wdl_parse_expr.proofs.Says.{Says, said, blamed}
+use Rattle.wdl_parse_doc.specs.Context.{first}
 use Rattle.wdl_parse_doc.specs.Grammar.{Each, IsSection, IsDocument}
 use Rattle.wdl_parse_doc.specs.Contract.{Written, IsNoDocument, begins_version, version_span, BehindVersion, Because, RefusesDocument, OneDocument}
 use Rattle.wdl_parse_doc.specs.Reading.Documents.{sections}
+use Rattle.wdl_parse_doc.proofs.Formats.{Doc}
 use Rattle.wdl_parse_doc.proofs.DocumentLaws.{AllOf, sections_sound, sections_full}
 
 abbrev document : Span → Span → List Section → Document
 document v n xs = record { version = v; number = n; sections = xs }
 
+-- what reading the sections says
+behind_version : (ts : Words) (v n : Span) (rest : Words) → BehindVersion ts v n rest → Says (Doc ts) (AllOf rest) (sections rest)
+behind_version ts v n rest e = sections_sound ts (keyword (codes "version") v ∷ at (kind.Frac (codes "1.1")) n ∷ []) rest e (first v n)
+
 pub is_written : (ts : Words) (v n : Span) (rest : Words) (xs : List Section) (tail : Words) → BehindVersion ts v n rest → sections rest ≡ Ok (xs, tail) → Written ts (document v n xs)
 is_written ts v n rest xs tail e h =
-    let a = said (AllOf rest) rest (sections rest) (xs, tail) (sections_sound rest) h in
+    let a = said (Doc ts) (AllOf rest) (sections rest) (xs, tail) (behind_version ts v n rest e) h in
     record { text = e ∙ ap (λ z. keyword (codes "version") v ∷ at (kind.Frac (codes "1.1")) n ∷ z) a.0; sound = a.1 }
 
 -- ---- what a document begins with
@@ -76,7 +82,7 @@ refused ts v n rest e (stop.Refused Missing) f q h =
     subst (λ z. IfBad {A = Document} (RefusesDocument ts) (Err z)) (sym q.1) (unread ts v n rest Missing e h, inr (has_version ts v n rest e, inl (refl, placed ts v n rest q.0 e q.2)))
 refused ts v n rest e (stop.Refused (Bad b)) f q h =
     subst (λ z. IfBad {A = Document} (RefusesDocument ts) (Err z)) (sym q)
-    (unread ts v n rest (Bad b) e h, inr (has_version ts v n rest e, inr (later b ts (keyword (codes "version") v ∷ at (kind.Frac (codes "1.1")) n ∷ []) rest e (blamed (AllOf rest) rest (sections rest) b (sections_sound rest) h))))
+    (unread ts v n rest (Bad b) e h, inr (has_version ts v n rest e, inr (blamed (Doc ts) (AllOf rest) (sections rest) b (behind_version ts v n rest e) h)))
 
 -- ---- at most one document
 

@@ -16,17 +16,19 @@ use Rattle.wdl_ast.specs.DocumentWords.{each, maybe, declaration_words, call_wor
 use Rattle.wdl_ast.proofs.StatementLaws.{words_declaration, words_call, words_scatter, words_conditional}
 use Rattle.wdl_parse_expr.specs.Outcome.{Outcome, Parser, then_, found, is_mark, sees, eat, eat_word}
 use Rattle.wdl_parse_expr.proofs.Steps.{ate_word, then_is, found_some, found_none, cond_false}
-use Rattle.wdl_parse_expr.proofs.Says.{Says, Takes, Sound, says_then, says_found}
+use Rattle.wdl_parse_expr.proofs.Says.{Says, Takes, says_then, says_found}
 use Rattle.wdl_parse_doc.specs.declared.head.ScatterHead.{ScatterHead}
 use Rattle.wdl_parse_doc.specs.declared.head.ConditionalHead.{ConditionalHead}
 use Rattle.wdl_parse_doc.specs.declared.head.BlockHead.{BlockHead}
 use Rattle.wdl_parse_doc.specs.declared.head.BlockHead.TheVariants as head
+use Rattle.wdl_parse_doc.specs.Context as ctx
+use Rattle.wdl_parse_doc.specs.Context.{Stands}
 use Rattle.wdl_parse_doc.specs.Grammar as g
 use Rattle.wdl_parse_doc.specs.Grammar.{Each, IfThere, IsIdent, IsDeclaration, IsCall, AreStatements, IsStatement}
 use Rattle.wdl_parse_doc.specs.Reading.Blocks as r
 use Rattle.wdl_parse_doc.specs.Reading.Blocks.{closed, there}
 use Rattle.wdl_parse_expr.specs.Grammar.{IsExpr}
-use Rattle.wdl_parse_doc.proofs.Formats.{Format, Worded, starts_some, next, goes, says_worded}
+use Rattle.wdl_parse_doc.proofs.Formats.{Doc, SoundAt, Format, Worded, starts_some, next, at_once, goes, says_worded}
 use Rattle.wdl_parse_doc.proofs.Leaves.{Any, a_mark, a_word, a_name, an_expr}
 use Rattle.wdl_parse_doc.proofs.Follows.{Settled, begins_type, no_call, no_scatter, no_if, type_word, type_some}
 use Rattle.wdl_parse_doc.proofs.SectionLaws.{a_declaration, declaration_follows, declaration_apart}
@@ -44,41 +46,41 @@ abbrev pub IsHead : BlockHead → Type 0
 IsHead (head.Scatter h) = IsIdent h.item × IsExpr h.over
 IsHead (head.Conditional h) = IsExpr h.condition
 
-scatter_sound : (k : Span) (ts : Words) → Says (Takes IsHead head_words (keyword (codes "scatter") k ∷ ts)) (keyword (codes "scatter") k ∷ ts) (r.scatter_head k ts)
+scatter_sound : (doc front : Words) (k : Span) (ts : Words) → doc ≡ front ++ keyword (codes "scatter") k ∷ ts → Stands ctx.a_statement front → Says (Doc doc) (Takes IsHead head_words (keyword (codes "scatter") k ∷ ts)) (r.scatter_head k ts)
 unfolding r.scatter_head
-scatter_sound k ts =
+scatter_sound doc front k ts eq here =
     let all : Words = keyword (codes "scatter") k ∷ ts in
     let R : BlockHead → Words → Type 0 = Takes IsHead head_words all in
-    next (a_mark mark.OpenParen refl) R all (keyword (codes "scatter") k ∷ []) ts _ refl (λ p a _ t1.
-    next a_name R all (keyword (codes "scatter") k ∷ marked mark.OpenParen p ∷ []) a _ t1 (λ n b named t2.
-    next (a_word (codes "in")) R all (keyword (codes "scatter") k ∷ marked mark.OpenParen p ∷ ident n ∷ []) b _ t2 (λ i c _ t3.
-    next an_expr R all (keyword (codes "scatter") k ∷ marked mark.OpenParen p ∷ ident n ∷ keyword (codes "in") i ∷ []) c _ t3 (λ x d over t4.
-    next (a_mark mark.CloseParen refl) R all (keyword (codes "scatter") k ∷ marked mark.OpenParen p ∷ ident n ∷ keyword (codes "in") i ∷ words x) d _ t4 (λ q y _ t5.
-    next (a_mark mark.OpenBrace refl) R all ((keyword (codes "scatter") k ∷ marked mark.OpenParen p ∷ ident n ∷ keyword (codes "in") i ∷ words x) ++ marked mark.CloseParen q ∷ []) y _ t5 (λ o z _ t6.
+    next (a_mark mark.OpenParen refl) R doc front all eq (keyword (codes "scatter") k ∷ []) ts _ refl tt (λ p a _ t1.
+    next a_name R doc front all eq (keyword (codes "scatter") k ∷ marked mark.OpenParen p ∷ []) a _ t1 tt (λ n b named t2.
+    next (a_word (codes "in")) R doc front all eq (keyword (codes "scatter") k ∷ marked mark.OpenParen p ∷ ident n ∷ []) b _ t2 tt (λ i c _ t3.
+    next an_expr R doc front all eq (keyword (codes "scatter") k ∷ marked mark.OpenParen p ∷ ident n ∷ keyword (codes "in") i ∷ []) c _ t3 (ctx.collection front k p n i named here) (λ x d over t4.
+    next (a_mark mark.CloseParen refl) R doc front all eq (keyword (codes "scatter") k ∷ marked mark.OpenParen p ∷ ident n ∷ keyword (codes "in") i ∷ words x) d _ t4 tt (λ q y _ t5.
+    next (a_mark mark.OpenBrace refl) R doc front all eq ((keyword (codes "scatter") k ∷ marked mark.OpenParen p ∷ ident n ∷ keyword (codes "in") i ∷ words x) ++ marked mark.CloseParen q ∷ []) y _ t5 tt (λ o z _ t6.
     (t6 ∙ simp append_assoc, (named, over))))))))
 
-conditional_sound : (k : Span) (ts : Words) → Says (Takes IsHead head_words (keyword (codes "if") k ∷ ts)) (keyword (codes "if") k ∷ ts) (r.conditional_head k ts)
+conditional_sound : (doc front : Words) (k : Span) (ts : Words) → doc ≡ front ++ keyword (codes "if") k ∷ ts → Stands ctx.a_statement front → Says (Doc doc) (Takes IsHead head_words (keyword (codes "if") k ∷ ts)) (r.conditional_head k ts)
 unfolding r.conditional_head
-conditional_sound k ts =
+conditional_sound doc front k ts eq here =
     let all : Words = keyword (codes "if") k ∷ ts in
     let R : BlockHead → Words → Type 0 = Takes IsHead head_words all in
-    next (a_mark mark.OpenParen refl) R all (keyword (codes "if") k ∷ []) ts _ refl (λ p a _ t1.
-    next an_expr R all (keyword (codes "if") k ∷ marked mark.OpenParen p ∷ []) a _ t1 (λ x d condition t4.
-    next (a_mark mark.CloseParen refl) R all (keyword (codes "if") k ∷ marked mark.OpenParen p ∷ words x) d _ t4 (λ q y _ t5.
-    next (a_mark mark.OpenBrace refl) R all ((keyword (codes "if") k ∷ marked mark.OpenParen p ∷ words x) ++ marked mark.CloseParen q ∷ []) y _ t5 (λ o z _ t6.
+    next (a_mark mark.OpenParen refl) R doc front all eq (keyword (codes "if") k ∷ []) ts _ refl tt (λ p a _ t1.
+    next an_expr R doc front all eq (keyword (codes "if") k ∷ marked mark.OpenParen p ∷ []) a _ t1 (ctx.condition front k p here) (λ x d condition t4.
+    next (a_mark mark.CloseParen refl) R doc front all eq (keyword (codes "if") k ∷ marked mark.OpenParen p ∷ words x) d _ t4 tt (λ q y _ t5.
+    next (a_mark mark.OpenBrace refl) R doc front all eq ((keyword (codes "if") k ∷ marked mark.OpenParen p ∷ words x) ++ marked mark.CloseParen q ∷ []) y _ t5 tt (λ o z _ t6.
     (t6 ∙ simp append_assoc, condition)))))
 
 abbrev pub HeadOf : Words → Option BlockHead → Words → Type 0
 HeadOf ts x rest = (ts ≡ maybe head_words x ++ rest) × IfThere IsHead x
 
-there_says : (ts rest : Words) (o : Outcome BlockHead) → Says (Takes IsHead head_words ts) ts o → Says (HeadOf ts) ts (there o)
-there_says ts rest o s = says_then (Takes IsHead head_words ts) (HeadOf ts) ts [] ts o _ refl s (λ x r t. t)
+there_says : (doc ts rest : Words) (o : Outcome BlockHead) → Says (Doc doc) (Takes IsHead head_words ts) o → Says (Doc doc) (HeadOf ts) (there o)
+there_says doc ts rest o s = says_then (Doc doc) (Takes IsHead head_words ts) (HeadOf ts) o _ s (λ x r t. t)
 
-pub head_sound : (ts : Words) → Says (HeadOf ts) ts (r.head_at ts)
+pub head_sound : (doc front ts : Words) → doc ≡ front ++ ts → Stands ctx.a_statement front → Says (Doc doc) (HeadOf ts) (r.head_at ts)
 unfolding r.head_at
-head_sound ts =
-    says_found (HeadOf ts) ts (eat_word (codes "scatter") ts) _ _ (λ k h. there_says ts k.1 (r.scatter_head k.0 k.1) (subst (λ z. Says (Takes IsHead head_words z) z (r.scatter_head k.0 k.1)) (sym (ate_word (codes "scatter") ts k h)) (scatter_sound k.0 k.1))) (λ _.
-    says_found (HeadOf ts) ts (eat_word (codes "if") ts) _ _ (λ k h. there_says ts k.1 (r.conditional_head k.0 k.1) (subst (λ z. Says (Takes IsHead head_words z) z (r.conditional_head k.0 k.1)) (sym (ate_word (codes "if") ts k h)) (conditional_sound k.0 k.1))) (λ _.
+head_sound doc front ts eq here =
+    says_found (Doc doc) (HeadOf ts) (eat_word (codes "scatter") ts) _ _ (λ k h. there_says doc ts k.1 (r.scatter_head k.0 k.1) (subst (λ z. Says (Doc doc) (Takes IsHead head_words z) (r.scatter_head k.0 k.1)) (sym (ate_word (codes "scatter") ts k h)) (scatter_sound doc front k.0 k.1 (eq ∙ ap (λ z. front ++ z) (ate_word (codes "scatter") ts k h)) here))) (λ _.
+    says_found (Doc doc) (HeadOf ts) (eat_word (codes "if") ts) _ _ (λ k h. there_says doc ts k.1 (r.conditional_head k.0 k.1) (subst (λ z. Says (Doc doc) (Takes IsHead head_words z) (r.conditional_head k.0 k.1)) (sym (ate_word (codes "if") ts k h)) (conditional_sound doc front k.0 k.1 (eq ∙ ap (λ z. front ++ z) (ate_word (codes "if") ts k h)) here))) (λ _.
     (refl, tt)))
 
 scatter_full : (h : ScatterHead) → IsIdent h.item → IsExpr h.over → (tail : Words)
@@ -133,14 +135,30 @@ pub closed_is : (h : BlockHead) (xs : List Statement) (c : Span) (more : List St
 closed_is (head.Scatter h) xs c more p q s = g.scatter _ more p.0 p.1 q s
 closed_is (head.Conditional h) xs c more p q s = g.conditional _ more p q s
 
+pub head_stands : (front : Words) (h : BlockHead) → IsHead h → Stands ctx.a_statement front → Stands ctx.a_statement (front ++ head_words h)
+head_stands front (head.Scatter h) p here = ctx.scatter_body front h.keyword h.opening_paren h.item h.in_word h.over h.closing_paren h.opening p.0 p.1 here
+head_stands front (head.Conditional h) p here = ctx.if_body front h.keyword h.opening_paren h.condition h.closing_paren h.opening p here
+
+-- behind one statement, and more
+one_stands : (s : Statement) (more : List Statement) → IsStatement s → ((front : Words) → Stands ctx.a_statement front → Stands ctx.a_statement (front ++ each statement_words more)) → (front : Words) → Stands ctx.a_statement front
+    → Stands ctx.a_statement (front ++ (statement_words s ++ each statement_words more))
+one_stands s more p rest front here = subst (Stands ctx.a_statement) (append_assoc front (statement_words s) (each statement_words more)) (rest (front ++ statement_words s) (ctx.next_statement front s p here))
+
+pub each_stands : (xs : List Statement) → AreStatements xs → (front : Words) → Stands ctx.a_statement front → Stands ctx.a_statement (front ++ each statement_words xs)
+each_stands xs g.none front here = at_once (Stands ctx.a_statement) front here
+each_stands xs (g.declaration d more p m) front here = one_stands (st.Declaration d) more (g.declaration d [] p g.none) (each_stands more m) front here
+each_stands xs (g.call c more p m) front here = one_stands (st.Call c) more (g.call c [] p g.none) (each_stands more m) front here
+each_stands xs (g.scatter s more p x b m) front here = one_stands (st.Scatter s) more (g.scatter s [] p x b g.none) (each_stands more m) front here
+each_stands xs (g.conditional s more x b m) front here = one_stands (st.Conditional s) more (g.conditional s [] x b g.none) (each_stands more m) front here
+
 -- ---- calls and declarations as statements
 
-pub simple_sound : Sound IsStatement statement_words r.simple
+pub simple_sound : SoundAt (Stands ctx.a_statement) IsStatement statement_words r.simple
 unfolding r.simple
-simple_sound ts =
+simple_sound doc front ts eq here =
     let R : Statement → Words → Type 0 = Takes IsStatement statement_words ts in
-    says_worded (codes "call") a_call st.Call R ts _ (λ c rest p e. (e ∙ ap (λ z. z ++ rest) (sym (words_call c)), g.call c [] p g.none))
-    (next a_declaration R ts [] ts _ refl (λ d rest p e. (e ∙ ap (λ z. z ++ rest) (sym (words_declaration d)), g.declaration d [] p g.none)))
+    says_worded (codes "call") a_call st.Call R doc front ts eq here _ (λ c rest p e. (e ∙ ap (λ z. z ++ rest) (sym (words_call c)), g.call c [] p g.none))
+    (next a_declaration R doc front ts eq [] ts _ refl (at_once (Stands ctx.a_declaration) front (ctx.statement_declaration front here)) (λ d rest p e. (e ∙ ap (λ z. z ++ rest) (sym (words_declaration d)), g.declaration d [] p g.none)))
 
 -- a statement that is read at once
 pub record Simple (s : Statement) (tail : Words) : Type 0 where

@@ -18,14 +18,16 @@ use Rattle.wdl_ast.specs.Words.{Words, marked, keyword, ident, words, type_words
 use Rattle.wdl_ast.specs.DocumentWords.{each, declaration_words, task_element_words, task_words, statement_words, workflow_element_words, workflow_words}
 use Rattle.wdl_parse_expr.specs.Outcome.{Outcome, Parser, then_, found, is_word, sees, eat, eat_word}
 use Rattle.wdl_parse_expr.proofs.Steps.{then_is, found_some, found_none, cond_true, cond_false}
-use Rattle.wdl_parse_expr.proofs.Says.{Says, Takes, Sound, says_cond}
+use Rattle.wdl_parse_expr.proofs.Says.{Says, Takes, says_cond}
 use Rattle.wdl_parse_doc.specs.declared.part.Braced.{Braced}
+use Rattle.wdl_parse_doc.specs.Context as ctx
+use Rattle.wdl_parse_doc.specs.Context.{Stands}
 use Rattle.wdl_parse_doc.specs.Grammar as g
 use Rattle.wdl_parse_doc.specs.Grammar.{Each, IsDeclaration, IsTaskElement, are_task_sections, IsTask, IsStatement, IsWorkflowElement, are_workflow_sections, IsWorkflow}
 use Rattle.wdl_parse_doc.specs.Reading.Parts.{braced, until}
 use Rattle.wdl_parse_doc.specs.Reading.Metadata.{metadata}
 use Rattle.wdl_parse_doc.specs.Reading.Tasks as r
-use Rattle.wdl_parse_doc.proofs.Formats.{Format, Worded, Parts, starts_some, next, goes, says_worded, parts_until, until_ends}
+use Rattle.wdl_parse_doc.proofs.Formats.{Doc, SoundAt, Format, Worded, Parts, starts_some, next, at_once, behind_both, goes, says_worded, parts_until, until_ends}
 use Rattle.wdl_parse_doc.proofs.Leaves.{Any, a_name}
 use Rattle.wdl_parse_doc.proofs.Follows.{Settled, settled_sees, begins_type, no_input, no_output, no_runtime, no_meta, no_parameter_meta, no_command, type_word, type_some}
 use Rattle.wdl_parse_doc.proofs.SectionLaws.{in_braces, a_declaration, declaration_follows, declaration_apart, an_input_section, an_output_section, a_runtime_section, a_meta_section, a_command_section}
@@ -35,17 +37,17 @@ use Rattle.wdl_parse_doc.proofs.BlockLaws.{a_statement}
 
 -- ---- elements of tasks
 
-element_sound : Sound IsTaskElement task_element_words r.task_element
+element_sound : SoundAt (Stands ctx.a_task_element) IsTaskElement task_element_words r.task_element
 unfolding r.task_element
-element_sound ts =
+element_sound doc front ts eq here =
     let R : TaskElement → Words → Type 0 = Takes IsTaskElement task_element_words ts in
-    says_worded (codes "input") an_input_section task.Input R ts _ (λ x rest p e. (e, p))
-    (says_worded (codes "output") an_output_section task.Output R ts _ (λ x rest p e. (e, p))
-    (says_worded (codes "runtime") a_runtime_section task.Runtime R ts _ (λ x rest p e. (e, p))
-    (says_worded (codes "meta") (a_meta_section (codes "meta")) task.Meta R ts _ (λ x rest p e. (e, p))
-    (says_worded (codes "parameter_meta") (a_meta_section (codes "parameter_meta")) task.ParameterMeta R ts _ (λ x rest p e. (e, p))
-    (says_worded (codes "command") a_command_section task.Command R ts _ (λ x rest p e. (e, p))
-    (next a_declaration R ts [] ts _ refl (λ d rest p e. (e, p))))))))
+    says_worded (codes "input") an_input_section task.Input R doc front ts eq (ctx.a_task_element, ctx.of_task, here) _ (λ x rest p e. (e, p))
+    (says_worded (codes "output") an_output_section task.Output R doc front ts eq (ctx.a_task_element, ctx.of_task, here) _ (λ x rest p e. (e, p))
+    (says_worded (codes "runtime") a_runtime_section task.Runtime R doc front ts eq here _ (λ x rest p e. (e, p))
+    (says_worded (codes "meta") (a_meta_section (codes "meta") ctx.meta) task.Meta R doc front ts eq (ctx.a_task_element, ctx.of_task, here) _ (λ x rest p e. (e, p))
+    (says_worded (codes "parameter_meta") (a_meta_section (codes "parameter_meta") ctx.parameter_meta) task.ParameterMeta R doc front ts eq (ctx.a_task_element, ctx.of_task, here) _ (λ x rest p e. (e, p))
+    (says_worded (codes "command") a_command_section task.Command R doc front ts eq here _ (λ x rest p e. (e, p))
+    (next a_declaration R doc front ts eq [] ts _ refl (at_once (Stands ctx.a_declaration) front (ctx.task_declaration front here)) (λ d rest p e. (e, p))))))))
 
 -- a declaration begins with none of the words of sections
 none_of : (w : List ℕ) → begins_type w ≡ false → (d : Declaration) → IsDeclaration d → (tail : Words) → eat_word w (declaration_words d ++ tail) ≡ None
@@ -67,13 +69,13 @@ unfolding r.task_element found
 element_full (task.Input s) p tail h = let b = an_input_section.full s p tail tt in ap r.task_element b.2 ∙ then_is (an_input_section.read b.0 b.1) _ (s, tail) b.3
 element_full (task.Output s) p tail h = let b = an_output_section.full s p tail tt in ap r.task_element b.2 ∙ then_is (an_output_section.read b.0 b.1) _ (s, tail) b.3
 element_full (task.Runtime s) p tail h = let b = a_runtime_section.full s p tail tt in ap r.task_element b.2 ∙ then_is (a_runtime_section.read b.0 b.1) _ (s, tail) b.3
-element_full (task.Meta s) p tail h = let b = (a_meta_section (codes "meta")).full s p tail tt in ap r.task_element b.2 ∙ then_is (metadata b.0 b.1) _ (s, tail) b.3
-element_full (task.ParameterMeta s) p tail h = let b = (a_meta_section (codes "parameter_meta")).full s p tail tt in ap r.task_element b.2 ∙ then_is (metadata b.0 b.1) _ (s, tail) b.3
+element_full (task.Meta s) p tail h = let b = (a_meta_section (codes "meta") ctx.meta).full s p tail tt in ap r.task_element b.2 ∙ then_is (metadata b.0 b.1) _ (s, tail) b.3
+element_full (task.ParameterMeta s) p tail h = let b = (a_meta_section (codes "parameter_meta") ctx.parameter_meta).full s p tail tt in ap r.task_element b.2 ∙ then_is (metadata b.0 b.1) _ (s, tail) b.3
 element_full (task.Command s) p tail h = let b = a_command_section.full s p tail tt in ap r.task_element b.2 ∙ then_is (a_command_section.read b.0 b.1) _ (s, tail) b.3
 element_full (task.Declaration d) p tail h = declaration_element d p tail h
 
 abbrev a_task_element : Format TaskElement
-a_task_element = record { is = IsTaskElement; words = task_element_words; read = r.task_element; before = Settled; sound = element_sound; full = element_full }
+a_task_element = record { is = IsTaskElement; words = task_element_words; read = r.task_element; before = Settled; stands = Stands ctx.a_task_element; sound = element_sound; full = element_full }
 
 element_follows : (x : TaskElement) → IsTaskElement x → (tail : Words) → Settled (task_element_words x ++ tail)
 element_follows (task.Input s) p tail = refl
@@ -103,21 +105,22 @@ element_some (task.Command s) p = omega arith
 element_some (task.Declaration d) p = type_some d.ty p.0 _
 
 abbrev task_elements : Parts TaskElement
-task_elements = parts_until a_task_element mark.CloseBrace Settled (λ tail h. h) element_follows element_apart element_some
+task_elements = parts_until a_task_element mark.CloseBrace (Stands ctx.a_task_element) (λ front s. s) (λ x p front s. ctx.next_task_element front x p s) Settled (λ tail h. h) element_follows element_apart element_some
 
 abbrev braced_task : Format (Braced TaskElement)
 braced_task = in_braces task_elements (λ c rest. (refl, until_ends mark.CloseBrace r.task_element (marked mark.CloseBrace c ∷ rest) refl))
 
 -- ---- tasks
 
-pub task_sound : (k : Span) (ts : Words) → Says (Takes IsTask task_words (keyword (codes "task") k ∷ ts)) (keyword (codes "task") k ∷ ts) (r.task k ts)
+pub task_sound : (doc front : Words) (k : Span) (ts : Words) → doc ≡ front ++ keyword (codes "task") k ∷ ts → Stands ctx.a_section front → Says (Doc doc) (Takes IsTask task_words (keyword (codes "task") k ∷ ts)) (r.task k ts)
 unfolding r.task
-task_sound k ts =
+task_sound doc front k ts eq here =
     let all : Words = keyword (codes "task") k ∷ ts in
     let R : TaskSection → Words → Type 0 = Takes IsTask task_words all in
-    next a_name R all (keyword (codes "task") k ∷ []) ts _ refl (λ n a p e.
-    next braced_task R all (keyword (codes "task") k ∷ ident n ∷ []) a _ e (λ b rest q f.
-    says_cond R all (are_task_sections b.items) _ _ (λ once. (f, (p, q, once))) (λ _. tt)))
+    next a_name R doc front all eq (keyword (codes "task") k ∷ []) ts _ refl tt (λ n a p e.
+    next braced_task R doc front all eq (keyword (codes "task") k ∷ ident n ∷ []) a _ e
+    (λ o. behind_both (Stands ctx.a_task_element) front (keyword (codes "task") k ∷ ident n ∷ []) (marked mark.OpenBrace o ∷ []) (ctx.task front k n o p here)) (λ b rest q f.
+    says_cond (Doc doc) R (are_task_sections b.items) _ _ (λ once. (f, (p, q, once))) (λ _. tt)))
 
 pub task_full : (s : TaskSection) → IsTask s → (tail : Words) → Any tail → (k : Span) × (rest : Words) × (task_words s ++ tail ≡ keyword (codes "task") k ∷ rest) × (r.task k rest ≡ Ok (s, tail))
 unfolding r.task
@@ -132,19 +135,19 @@ task_full s p tail q =
     )
 
 abbrev pub a_task : Worded TaskSection (codes "task")
-a_task = record { is = IsTask; words = task_words; read = r.task; before = Any; sound = task_sound; full = task_full }
+a_task = record { is = IsTask; words = task_words; read = r.task; before = Any; stands = Stands ctx.a_section; sound = task_sound; full = task_full }
 
 -- ---- elements of workflows
 
-part_sound : Sound IsWorkflowElement workflow_element_words r.workflow_element
+part_sound : SoundAt (Stands ctx.a_workflow_element) IsWorkflowElement workflow_element_words r.workflow_element
 unfolding r.workflow_element
-part_sound ts =
+part_sound doc front ts eq here =
     let R : WorkflowElement → Words → Type 0 = Takes IsWorkflowElement workflow_element_words ts in
-    says_worded (codes "input") an_input_section flow.Input R ts _ (λ x rest p e. (e, p))
-    (says_worded (codes "output") an_output_section flow.Output R ts _ (λ x rest p e. (e, p))
-    (says_worded (codes "meta") (a_meta_section (codes "meta")) flow.Meta R ts _ (λ x rest p e. (e, p))
-    (says_worded (codes "parameter_meta") (a_meta_section (codes "parameter_meta")) flow.ParameterMeta R ts _ (λ x rest p e. (e, p))
-    (next a_statement R ts [] ts _ refl (λ s rest p e. (e, p))))))
+    says_worded (codes "input") an_input_section flow.Input R doc front ts eq (ctx.a_workflow_element, ctx.of_workflow, here) _ (λ x rest p e. (e, p))
+    (says_worded (codes "output") an_output_section flow.Output R doc front ts eq (ctx.a_workflow_element, ctx.of_workflow, here) _ (λ x rest p e. (e, p))
+    (says_worded (codes "meta") (a_meta_section (codes "meta") ctx.meta) flow.Meta R doc front ts eq (ctx.a_workflow_element, ctx.of_workflow, here) _ (λ x rest p e. (e, p))
+    (says_worded (codes "parameter_meta") (a_meta_section (codes "parameter_meta") ctx.parameter_meta) flow.ParameterMeta R doc front ts eq (ctx.a_workflow_element, ctx.of_workflow, here) _ (λ x rest p e. (e, p))
+    (next a_statement R doc front ts eq [] ts _ refl (at_once (Stands ctx.a_statement) front (ctx.workflow_statement front here)) (λ s rest p e. (e, p))))))
 
 -- a word that no statement begins with
 abbrev IsOther : List ℕ → Type 0
@@ -184,12 +187,12 @@ part_full : (x : WorkflowElement) → IsWorkflowElement x → (tail : Words) →
 unfolding r.workflow_element found
 part_full (flow.Input s) p tail h = let b = an_input_section.full s p tail tt in ap r.workflow_element b.2 ∙ then_is (an_input_section.read b.0 b.1) _ (s, tail) b.3
 part_full (flow.Output s) p tail h = let b = an_output_section.full s p tail tt in ap r.workflow_element b.2 ∙ then_is (an_output_section.read b.0 b.1) _ (s, tail) b.3
-part_full (flow.Meta s) p tail h = let b = (a_meta_section (codes "meta")).full s p tail tt in ap r.workflow_element b.2 ∙ then_is (metadata b.0 b.1) _ (s, tail) b.3
-part_full (flow.ParameterMeta s) p tail h = let b = (a_meta_section (codes "parameter_meta")).full s p tail tt in ap r.workflow_element b.2 ∙ then_is (metadata b.0 b.1) _ (s, tail) b.3
+part_full (flow.Meta s) p tail h = let b = (a_meta_section (codes "meta") ctx.meta).full s p tail tt in ap r.workflow_element b.2 ∙ then_is (metadata b.0 b.1) _ (s, tail) b.3
+part_full (flow.ParameterMeta s) p tail h = let b = (a_meta_section (codes "parameter_meta") ctx.parameter_meta).full s p tail tt in ap r.workflow_element b.2 ∙ then_is (metadata b.0 b.1) _ (s, tail) b.3
 part_full (flow.Statement s) p tail h = statement_part s p tail h
 
 abbrev a_part : Format WorkflowElement
-a_part = record { is = IsWorkflowElement; words = workflow_element_words; read = r.workflow_element; before = Quiet; sound = part_sound; full = part_full }
+a_part = record { is = IsWorkflowElement; words = workflow_element_words; read = r.workflow_element; before = Quiet; stands = Stands ctx.a_workflow_element; sound = part_sound; full = part_full }
 
 part_follows : (x : WorkflowElement) → IsWorkflowElement x → (tail : Words) → Quiet (workflow_element_words x ++ tail)
 part_follows (flow.Input s) p tail = word_quiet (codes "input") s.keyword _ refl refl
@@ -213,21 +216,22 @@ part_some (flow.ParameterMeta s) p = omega arith
 part_some (flow.Statement s) p = statement_some s p
 
 abbrev workflow_parts : Parts WorkflowElement
-workflow_parts = parts_until a_part mark.CloseBrace Quiet (λ tail h. h) part_follows part_apart part_some
+workflow_parts = parts_until a_part mark.CloseBrace (Stands ctx.a_workflow_element) (λ front s. s) (λ x p front s. ctx.next_workflow_element front x p s) Quiet (λ tail h. h) part_follows part_apart part_some
 
 abbrev braced_workflow : Format (Braced WorkflowElement)
 braced_workflow = in_braces workflow_parts (λ c rest. (brace_quiet c rest, until_ends mark.CloseBrace r.workflow_element (marked mark.CloseBrace c ∷ rest) refl))
 
 -- ---- workflows
 
-pub workflow_sound : (k : Span) (ts : Words) → Says (Takes IsWorkflow workflow_words (keyword (codes "workflow") k ∷ ts)) (keyword (codes "workflow") k ∷ ts) (r.workflow k ts)
+pub workflow_sound : (doc front : Words) (k : Span) (ts : Words) → doc ≡ front ++ keyword (codes "workflow") k ∷ ts → Stands ctx.a_section front → Says (Doc doc) (Takes IsWorkflow workflow_words (keyword (codes "workflow") k ∷ ts)) (r.workflow k ts)
 unfolding r.workflow
-workflow_sound k ts =
+workflow_sound doc front k ts eq here =
     let all : Words = keyword (codes "workflow") k ∷ ts in
     let R : Workflow → Words → Type 0 = Takes IsWorkflow workflow_words all in
-    next a_name R all (keyword (codes "workflow") k ∷ []) ts _ refl (λ n a p e.
-    next braced_workflow R all (keyword (codes "workflow") k ∷ ident n ∷ []) a _ e (λ b rest q f.
-    says_cond R all (are_workflow_sections b.items) _ _ (λ once. (f, (p, q, once))) (λ _. tt)))
+    next a_name R doc front all eq (keyword (codes "workflow") k ∷ []) ts _ refl tt (λ n a p e.
+    next braced_workflow R doc front all eq (keyword (codes "workflow") k ∷ ident n ∷ []) a _ e
+    (λ o. behind_both (Stands ctx.a_workflow_element) front (keyword (codes "workflow") k ∷ ident n ∷ []) (marked mark.OpenBrace o ∷ []) (ctx.workflow front k n o p here)) (λ b rest q f.
+    says_cond (Doc doc) R (are_workflow_sections b.items) _ _ (λ once. (f, (p, q, once))) (λ _. tt)))
 
 pub workflow_full : (s : Workflow) → IsWorkflow s → (tail : Words) → Any tail → (k : Span) × (rest : Words) × (workflow_words s ++ tail ≡ keyword (codes "workflow") k ∷ rest) × (r.workflow k rest ≡ Ok (s, tail))
 unfolding r.workflow
@@ -242,4 +246,4 @@ workflow_full s p tail q =
     )
 
 abbrev pub a_workflow : Worded Workflow (codes "workflow")
-a_workflow = record { is = IsWorkflow; words = workflow_words; read = r.workflow; before = Any; sound = workflow_sound; full = workflow_full }
+a_workflow = record { is = IsWorkflow; words = workflow_words; read = r.workflow; before = Any; stands = Stands ctx.a_section; sound = workflow_sound; full = workflow_full }

@@ -9,8 +9,10 @@ use Rattle.wdl_ast.specs.declared.document.Document.{Document}
 use Rattle.wdl_ast.specs.Words.{Words, at, keyword}
 use Rattle.wdl_ast.specs.DocumentWords.{document_words}
 use Rattle.wdl_parse_expr.specs.Outcome.{is_word}
-use Rattle.wdl_parse_expr.specs.Contract.{IsSpanOf, Blames}
+use Rattle.wdl_parse_expr.specs.Contract.{IsSpanOf}
+use Rattle.wdl_parse_expr.specs.Context.{Points}
 use Rattle.wdl_parse_doc.specs.Grammar.{IsDocument}
+use Rattle.wdl_parse_doc.specs.Context.{Cause}
 
 -- the document has these tokens
 pub record Written (ts : Words) (d : Document) : Type 0 where
@@ -48,12 +50,12 @@ BehindVersion ts v n rest = ts ≡ keyword (codes "version") v ∷ at (kind.Frac
 
 -- ---- refusals
 
--- Why they are refused: 112 where they do not begin with the version. With 111 reading met a limit of depth at the token; with 120 to 123 a
--- form of that code begins with it. 110 is every other refusal, at one of the tokens.
+-- Why they are refused: 112 where they do not begin with the version. 111 and 120 to 123 are true of the token that has the span, as Cause says.
+-- 110 is every other refusal, at one of the tokens.
 abbrev pub Because : Words → ℕ → Span → Type 0
 Because ts c s =
     ((begins_version ts ≡ false) × (c ≡ 112) × (s ≡ version_span ts))
-    ⊎ ((begins_version ts ≡ true) × (((c ≡ 110) × IsSpanOf ts s) ⊎ Blames c s ts))
+    ⊎ ((begins_version ts ≡ true) × (((c ≡ 110) × IsSpanOf ts s) ⊎ Points (Cause c) ts s))
 
 abbrev pub RefusesDocument : Words → ℕ → Span → Type 0
 RefusesDocument ts c s = IsNoDocument ts × Because ts c s

@@ -1,4 +1,5 @@
 pub mod Grammar
+pub mod Context
 pub mod Contract
 pub mod Reading
 pub mod Nests

@@ -111,7 +111,10 @@ input { Int a String ? b = c File d = f ( b ) after e } Int x = 1 command <<< >>
 }¦ok¶\
 meta { a : null b : true , c : - 2.5 d : \" # ; e : { f : [ 1 , { } , [ ] , ] input : 1 } } \
 command <<< >>> }¦ok¶\
+meta { Float : 2.5 Object : 1.0 object : { sub : [ 1.0 ] } read_json : 1 size : 1 } command <<< \
+>>> }¦ok¶\
 command <<< ~ 2.5 ! >>> }¦120 at 8¶\
+command <<< >>> runtime { Float : 2.5 } }¦120 at 12¶\
 output { Int a = size ( b ) } command <<< >>> }¦120 at 10";
 
 /// Workflows; a row is behind `version 1.1 workflow w {`.
@@ -125,12 +128,24 @@ scatter ( a in b ) { if ( c ) { call d Int e = 1 scatter ( f in [ 1 ] ) { } } } 
 } }¦ok¶\
 String x = \" # ; + if a then \" # ; else \" # ; String y = - if a then 1 else 1 + 1 if ( if a \
 then true else false ) { } }¦ok¶\
+Int size = 1 Int sub = size Int floor = sub . ceil Int read_object = write_json }¦ok¶\
 Float x = 1.0 }¦120 at 5¶\
-Int x = object { } }¦121 at 8¶\
-String x = sub ( \" # ; , \" # ; , \" # ; ) }¦122 at 8¶\
+Int x = 1.0 }¦120 at 8¶\
+Int x = floor ( y ) }¦120 at 8¶\
+Int x = ceil ( y ) }¦120 at 8¶\
+Int x = round ( y ) }¦120 at 8¶\
 Int x = size ( y ) }¦120 at 8¶\
+Int x = read_float ( y ) }¦120 at 8¶\
+call a { input : b = [ 1 , 2.5 ] } }¦120 at 15¶\
+Map [ String , Object ] x = y }¦121 at 9¶\
+Int x = object { } }¦121 at 8¶\
+Int x = read_object ( y ) }¦121 at 8¶\
+Int x = read_objects ( y ) }¦121 at 8¶\
+Int x = write_object ( y ) }¦121 at 8¶\
+Int x = write_objects ( y ) }¦121 at 8¶\
+String x = sub ( \" # ; , \" # ; , \" # ; ) }¦122 at 8¶\
 Int x = read_json ( y ) }¦123 at 8¶\
-Int x = 1.0 }¦120 at 8";
+Int x = write_json ( y ) }¦123 at 8";
 
 /// Documents that are refused where a token fits nothing, or where they end, which the last token stands for.
 const SECTION_MISFITS: &str = "\
@@ -328,6 +343,10 @@ fn parts_in_one_another_are_read_within_their_limits(rt: HostRuntime) -> Result<
         ("meta { a : ", "[ ", "] ", 64, "ok"),
         ("meta { a : ", "[ ", "] ", 65, "111 at 73"),
         ("meta { a : ", "{ a : ", "} ", 65, "111 at 201"),
+        ("if ( b ) { Int a = ", "[ ", "] ", 64, "ok"),
+        ("if ( b ) { Int a = ", "[ ", "] ", 65, "111 at 77"),
+        ("if ( b ) { Int a = c ", ". c ", "", 63, "ok"),
+        ("if ( b ) { Int a = c ", ". c ", "", 64, "111 at 140"),
         ("", "Int a = 1 call b ", "", 2_000, "ok"),
         ("", "if ( a ) { ", "} ", 2_000, "ok"),
         ("", "scatter ( a in b ) { ", "", 2_000, "110 at 14005"),

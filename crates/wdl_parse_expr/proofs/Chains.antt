@@ -26,7 +26,7 @@ use Rattle.wdl_parse_expr.specs.Reading as r
 use Rattle.wdl_parse_expr.specs.Reading.{binary_at, unary_at, chained, linked, one_more, Step, step, turns, expr}
 use Rattle.wdl_parse_expr.specs.Contract.{continues}
 use Rattle.wdl_parse_expr.proofs.Steps.{ate, ate_ident, sees_ident, cond_true, then_is, then_bad, attempt_is, attempt_bad, attempt_missing, found_some, found_none}
-use Rattle.wdl_parse_expr.proofs.Says.{Takes, said}
+use Rattle.wdl_parse_expr.proofs.Says.{AnyFault, Takes, said}
 use Rattle.wdl_parse_expr.proofs.Sound.{IsSound, tall_words}
 use Rattle.wdl_parse_expr.proofs.Begins.{begins, calm, calm_before, Begins, Starts, name_not, if_reserved}
 use Rattle.wdl_parse_expr.proofs.Goes.{Hard, Longer, AtMost, Reaches, IsFull, longer_along, longer_then, calls, calls_go}
@@ -143,7 +143,10 @@ operand_begins (kind.Mark mark.OpenBrace) h = refl
 operand_begins (kind.Mark _) h = cc
 operand_begins _ h = cc
 
-module _ (In : Rule → ℕ → Expr → Type 0) (depth : ℕ) (inner : Rule → Parser (Tall Expr)) (sound : IsSound In inner) (full : IsFull In inner) (starts : (k : Rule) (n : ℕ) → Starts (In k n)) where
+module _ (depth : ℕ) (inner : Rule → Parser (Tall Expr)) (sound : IsSound (Tree depth) inner) (full : IsFull (Tree depth) inner) (starts : (k : Rule) (n : ℕ) → Starts (Tree depth k n)) where
+  abbrev In : Rule → ℕ → Expr → Type 0
+  In = Tree depth
+
   -- ---- members and indices
 
   member_goes : (c : Chain) (ts : Words) (dot : Span × Words) → eat mark.Dot ts ≡ Some dot → (n : Option (Ident × Words)) → ident_at dot.1 ≡ n → Stepped 0 (r.suffix depth inner c ts) ts
@@ -161,7 +164,7 @@ module _ (In : Rule → ℕ → Expr → Type 0) (depth : ℕ) (inner : Rule →
   index_closed c ts o d h i got None q = inl (found_none (eat mark.Dot ts) _ _ d ∙ found_some (eat mark.OpenBracket ts) _ _ o h ∙ attempt_is (inner rule.Expr o.1) _ _ i got ∙ found_none (eat mark.CloseBracket i.1) _ _ q)
   index_closed c ts o d h i got (Some k) q =
       let e1 = ate mark.OpenBracket ts o h in
-      let e2 = (said (Takes (λ t. In rule.Expr t.depth t.tree) tall_words o.1) o.1 _ i (sound rule.Expr o.1) got).0 in
+      let e2 = (said AnyFault (Takes (λ t. In rule.Expr t.depth t.tree) tall_words o.1) _ i (sound rule.Expr o.1) got).0 in
       let e3 = ate mark.CloseBracket i.1 k q in
       let less : length k.1 < length ts = omega (arith, ap length e1, ap length e2, ap length e3, length-append (words i.0.tree) i.1) in
       inr (
@@ -191,7 +194,7 @@ module _ (In : Rule → ℕ → Expr → Type 0) (depth : ℕ) (inner : Rule →
   abbrev Posts : ℕ → ℕ → Expr → Words → Type 0
   Posts = Upto calls (r.post depth inner) (r.suffix depth inner)
 
-  post_first : (n : ℕ) (x : Expr) (tail : Words) → Primaries In depth inner sound full starts n x tail → Posts 0 n x tail
+  post_first : (n : ℕ) (x : Expr) (tail : Words) → Primaries depth inner sound full starts n x tail → Posts 0 n x tail
   unfolding r.post
   post_first n x tail (inl h) = inl (length tail, omega arith, then_is (r.primary depth inner (words x ++ tail)) _ (tall x n, tail) h ∙ ap (λ z. turns (r.suffix depth inner) (length tail) z tail) (first_chain n x))
   post_first n x tail (inr h) = inr (h.0, longer_then (r.primary depth inner (words x ++ tail)) _ tail h.1 (λ y rest. goes_at_most 0 _ (chained y) rest (turns_goes 0 (r.suffix depth inner) suffix_goes (length rest) (chained y) rest)))
@@ -209,12 +212,12 @@ module _ (In : Rule → ℕ → Expr → Type 0) (depth : ℕ) (inner : Rule →
   index_step m i a x o y c tail p fits =
       let mid : Words = words y ++ marked mark.CloseBracket c ∷ tail in
       found_none (eat mark.Dot (marked mark.OpenBracket o ∷ mid)) _ _ refl ∙ found_some (eat mark.OpenBracket (marked mark.OpenBracket o ∷ mid)) _ _ (o, mid) refl
-      ∙ attempt_is (inner rule.Expr mid) _ _ (tall y a, marked mark.CloseBracket c ∷ tail) (inner_exact In depth inner sound full starts a y p (marked mark.CloseBracket c ∷ tail) refl)
+      ∙ attempt_is (inner rule.Expr mid) _ _ (tall y a, marked mark.CloseBracket c ∷ tail) (inner_exact depth inner sound full starts a y p (marked mark.CloseBracket c ∷ tail) refl)
       ∙ found_some (eat mark.CloseBracket (marked mark.CloseBracket c ∷ tail)) _ _ (c, tail) refl
       ∙ linked_is depth m (max i a) o (e.Index x o y c) tail fits
 
   post_by : (m i : ℕ) (x : Expr) → IsPost In m i x → m + i ≤ suc depth → (tail : Words) → Posts m i x tail
-  post_by m i x (g.primary n y q) fits tail = post_first n y tail (primary_full In depth inner sound full starts n y q (omega (arith, fits)) tail)
+  post_by m i x (g.primary n y q) fits tail = post_first n y tail (primary_full depth inner sound full starts n y q (omega (arith, fits)) tail)
   post_by m i x (g.member p j y dot n named q) fits tail =
       upto_step calls (r.post depth inner) (r.suffix depth inner) p j (suc p) j y (e.Member y dot n) (marked mark.Dot dot ∷ ident n ∷ tail) tail (post_by p j y q (omega (arith, fits)) (marked mark.Dot dot ∷ ident n ∷ tail)) refl
       (simp (words_member, append_assoc)) (member_step p j y dot n tail named fits) (omega arith)

@@ -1,5 +1,5 @@
 -- What reading answers, by the grammar alone.
-use Rattle.std.proofs.Common.{◌≡◌, ◌<◌, true, ◌⊎◌, inl, inr, length, Ok, Err, refl, ap, sym, ◌∙◌, subst, arith}
+use Rattle.std.proofs.Common.{◌≡◌, ◌<◌, true, ◌⊎◌, inl, inr, [], length, Ok, Err, refl, ap, sym, ◌∙◌, subst, arith}
 use Rattle.wdl_ast.specs.declared.expr.Expr.{Expr}
 use Rattle.wdl_ast.specs.declared.type_tree.TypeTree.{TypeTree}
 use Rattle.wdl_ast.specs.Words.{Words, words, type_words}
@@ -14,15 +14,16 @@ use Rattle.wdl_parse_expr.specs.declared.tall.Rule.TheVariants as rule
 use Rattle.wdl_parse_expr.specs.Outcome.{tall, Fails}
 use Rattle.wdl_parse_expr.specs.Grammar.{Tree, max_depth, IsExpr}
 use Rattle.wdl_parse_expr.specs.TypeGrammar.{IsType, max_type_depth}
+use Rattle.wdl_parse_expr.specs.Context.{an_expr, root, type_root, Points, ExprCause, TypeCause}
 use Rattle.wdl_parse_expr.specs.Reading.{expr}
 use Rattle.wdl_parse_expr.specs.TypeReading.{type_at}
-use Rattle.wdl_parse_expr.specs.Contract.{expr_continues, Fronts, IsLongest, StartsNone, MayGoOn, Blames, IfBad, RefusesExpr, RefusesType, FaultOf}
+use Rattle.wdl_parse_expr.specs.Contract.{expr_continues, Fronts, IsLongest, AtStart, AtFront, StartsNone, MayGoOn, IfBad, RefusesExpr, RefusesType, FaultOf}
 use Rattle.wdl_parse_expr.proofs.Steps.{same}
-use Rattle.wdl_parse_expr.proofs.Says.{Takes, said, blamed}
-use Rattle.wdl_parse_expr.proofs.Sound.{tall_words, expr_sound}
+use Rattle.wdl_parse_expr.proofs.Says.{AnyFault, Takes, said, blamed}
+use Rattle.wdl_parse_expr.proofs.Sound.{tall_words, expr_sound, expr_takes}
 use Rattle.wdl_parse_expr.proofs.Goes.{Reaches}
 use Rattle.wdl_parse_expr.proofs.Rules.{expr_full}
-use Rattle.wdl_parse_expr.proofs.TypeLaws.{ReachesType, type_sound, type_full}
+use Rattle.wdl_parse_expr.proofs.TypeLaws.{ReachesType, type_sound, type_takes, type_full}
 
 -- ---- expressions
 
@@ -30,7 +31,7 @@ abbrev Whole : Tall Expr → Type 0
 Whole t = Tree max_depth rule.Expr t.depth t.tree
 
 pub is_front : (ts : Words) (t : Tall Expr) (tail : Words) → expr max_depth rule.Expr ts ≡ Ok (t, tail) → Fronts IsExpr words ts t.tree tail
-is_front ts t tail h = let s = said (Takes Whole tall_words ts) ts _ (t, tail) (expr_sound max_depth rule.Expr ts) h in record { text = s.0; sound = (t.depth, s.1) }
+is_front ts t tail h = let s = said AnyFault (Takes Whole tall_words ts) _ (t, tail) (expr_takes max_depth rule.Expr ts) h in record { text = s.0; sound = (t.depth, s.1) }
 
 -- what stands at the front is read, or more
 front : (ts : Words) (y : Expr) (rest : Words) (f : Fronts IsExpr words ts y rest) → Reaches 6 (expr max_depth rule.Expr ts) (tall y f.sound.0) rest
@@ -59,8 +60,10 @@ may_go_on ts b h y rest f = go (front ts y rest f)
     go (inl q) = (let n = sym h ∙ q in let z : ⊥ = cc in absurd z)
     go (inr (c, _)) = c
 
-pub is_blamed : (ts : Words) (b : Fault) → expr max_depth rule.Expr ts ≡ Err (Bad b) → Blames b.code b.span ts
-is_blamed ts b h = blamed (Takes Whole tall_words ts) ts _ b (expr_sound max_depth rule.Expr ts) h
+is_blamed : (ts : Words) (b : Fault) → expr max_depth rule.Expr ts ≡ Err (Bad b) → Points (ExprCause max_depth AtStart b.code) ts b.span
+is_blamed ts b h =
+    let C : Fault → Type 0 = λ f. Points (ExprCause max_depth AtStart f.code) ts f.span in
+    blamed C (Takes Whole tall_words ts) _ b (expr_sound max_depth AtStart ts C (λ f p. p) max_depth rule.Expr ts ([], 0, refl, root an_expr [] (refl, refl), omega arith)) h
 
 pub refused : (all ts : Words) (s : Stop) (f : ParseFault) → FaultOf all s f → Fails (expr max_depth rule.Expr ts) s → IfBad {A = Expr} (RefusesExpr all ts) (Err f)
 refused all ts stop.NoMemory f q h = subst (λ z. IfBad {A = Expr} (RefusesExpr all ts) (Err z)) (sym q) tt
@@ -70,7 +73,7 @@ refused all ts (stop.Refused (Bad b)) f q h = subst (λ z. IfBad {A = Expr} (Ref
 -- ---- types
 
 pub is_type_front : (ts : Words) (t : TypeTree) (tail : Words) → type_at max_type_depth ts ≡ Ok (t, tail) → Fronts IsType type_words ts t tail
-is_type_front ts t tail h = let s = said (Takes IsType type_words ts) ts _ (t, tail) (type_sound max_type_depth ts) h in record { text = s.0; sound = s.1 }
+is_type_front ts t tail h = let s = said AnyFault (Takes IsType type_words ts) _ (t, tail) (type_takes ts) h in record { text = s.0; sound = s.1 }
 
 type_front : (ts : Words) (y : TypeTree) (rest : Words) → Fronts IsType type_words ts y rest → ReachesType (type_at max_type_depth ts) y rest
 type_front ts y rest f = subst (λ z. ReachesType (type_at max_type_depth z) y rest) (sym f.text) (type_full max_type_depth y f.sound rest)
@@ -89,8 +92,13 @@ no_type ts f h y rest k = go (type_front ts y rest k)
     go (inl q) = let n = sym h ∙ q in cc
     go (inr (c, o)) = let n = sym h ∙ o.1 in cc
 
+type_blamed : (ts : Words) (b : Fault) → type_at max_type_depth ts ≡ Err (Bad b) → Points (TypeCause AtFront b.code) ts b.span
+type_blamed ts b h =
+    let C : Fault → Type 0 = λ f. Points (TypeCause AtFront f.code) ts f.span in
+    blamed C (Takes IsType type_words ts) (type_at max_type_depth ts) b (type_sound AtFront ts C (λ f p. p) max_type_depth ts ([], 0, refl, type_root [] refl, refl)) h
+
 pub refused_type : (all ts : Words) (s : Stop) (f : ParseFault) → FaultOf all s f → Fails (type_at max_type_depth ts) s → IfBad {A = TypeTree} (RefusesType all ts) (Err f)
 refused_type all ts stop.NoMemory f q h = subst (λ z. IfBad {A = TypeTree} (RefusesType all ts) (Err z)) (sym q) tt
 refused_type all ts (stop.Refused Missing) f q h = subst (λ z. IfBad {A = TypeTree} (RefusesType all ts) (Err z)) (sym q.1) (inl (refl, q.2), no_type ts Missing h)
 refused_type all ts (stop.Refused (Bad b)) f q h =
-    subst (λ z. IfBad {A = TypeTree} (RefusesType all ts) (Err z)) (sym q) (inr (blamed (Takes IsType type_words ts) ts (type_at max_type_depth ts) b (type_sound max_type_depth ts) h), no_type ts (Bad b) h)
+    subst (λ z. IfBad {A = TypeTree} (RefusesType all ts) (Err z)) (sym q) (inr (type_blamed ts b h), no_type ts (Bad b) h)

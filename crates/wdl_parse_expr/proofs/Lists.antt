@@ -8,6 +8,7 @@ use Rattle.wdl_ast.specs.declared.token.Kind.TheVariants as kind
 use Rattle.wdl_ast.specs.declared.token.Token.{Token}
 use Rattle.wdl_ast.specs.declared.leaf.ListItem.{ListItem}
 use Rattle.wdl_ast.specs.Words.{Words, marked, comma, items_words}
+use Rattle.wdl_parse_expr.specs.declared.fault.Fault.{Fault}
 use Rattle.wdl_parse_expr.specs.declared.tall.Tall.{Tall}
 use Rattle.wdl_parse_expr.specs.declared.tall.Closed.{Closed}
 use Rattle.wdl_parse_expr.specs.Outcome.{Parser, is_mark, eat, tall}
@@ -15,7 +16,7 @@ use Rattle.wdl_parse_expr.specs.Grammar.{CommaFits, Listed}
 use Rattle.wdl_parse_expr.specs.Reading.{list_item, closed, list_from, list_of, ended}
 use Rattle.wdl_parse_expr.specs.Contract.{goes_on, continues}
 use Rattle.wdl_parse_expr.proofs.Steps.{ate, then_is, found_some, found_none, cond_false}
-use Rattle.wdl_parse_expr.proofs.Says.{Says, Takes, Sound, carry, says_then, says_found}
+use Rattle.wdl_parse_expr.proofs.Says.{AnyFault, Says, Takes, Sound, carry, says_then, says_found}
 
 module _ {E : Type 0} (P : ℕ → E → Type 0) (w : E → Words) (one : Parser (Tall E)) (close : Mark) where
   abbrev pub OfElement : Tall E → Type 0
@@ -41,18 +42,22 @@ module _ {E : Type 0} (P : ℕ → E → Type 0) (w : E → Words) (one : Parser
   one_before all i a x m ts rest more c r p e f g =
       (list_item x (Some m) ∷ g.0, g.1 ∙ append_assoc all (list_item x (Some m) ∷ []) g.0, e ∙ ap (λ z. w x ++ z) (f ∙ ap (λ z. marked mark.Comma m ∷ z) g.2) ∙ sym (simp append_assoc), (a, p, tt, g.3))
 
-  pub list_says : Sound OfElement element_words one → (n : ℕ) (all : List (ListItem E)) (i : ℕ) (ts : Words) → Says (Added all i ts) ts (list_from one close n all i ts)
-  unfolding list_from ended
-  list_says sound zero all i ts = tt
-  list_says sound (suc n) all i ts =
-      says_found (Added all i ts) ts (eat close ts) _ _ (λ c h. nothing_more all i c.0 ts c.1 (ate close ts c h)) (λ _.
-      says_then (Takes OfElement element_words ts) (Added all i ts) ts [] ts (one ts) _ refl (sound ts) (λ x rest t.
-      says_found (Added all i ts) ts (eat mark.Comma rest) _ _
-      (λ m h. carry (Added (all ++ list_item x.tree (Some m.0) ∷ []) (max i x.depth) m.1) (Added all i ts) ts (w x.tree ++ marked mark.Comma m.0 ∷ []) m.1 _
-      (t.0 ∙ ap (λ z. w x.tree ++ z) (ate mark.Comma rest m h) ∙ sym (append_assoc (w x.tree) (marked mark.Comma m.0 ∷ []) m.1))
-      (λ c r g. one_before all i x.depth x.tree m.0 ts rest m.1 c r t.1 t.0 (ate mark.Comma rest m h) g)
-      (list_says sound n (all ++ list_item x.tree (Some m.0) ∷ []) (max i x.depth) m.1))
-      (λ _. says_found (Added all i ts) ts (eat close rest) _ _ (λ c h. the_last all i x.depth x.tree c.0 ts rest c.1 t.1 t.0 (ate close rest c h)) (λ _. tt))))
+  -- C is said of faults; At says before which tokens an element may stand
+  module _ (C : Fault → Type 0) (At : Words → Type 0) (sound : (ts : Words) → At ts → Says C (Takes OfElement element_words ts) (one ts))
+      (more : (x : Tall E) (m : Span) (ts rest : Words) → OfElement x → At ts → ts ≡ (w x.tree ++ marked mark.Comma m ∷ []) ++ rest → At rest) where
+    list_says : (n : ℕ) (all : List (ListItem E)) (i : ℕ) (ts : Words) → At ts → Says C (Added all i ts) (list_from one close n all i ts)
+    unfolding list_from ended
+    list_says zero all i ts here = tt
+    list_says (suc n) all i ts here =
+        says_found C (Added all i ts) (eat close ts) _ _ (λ c h. nothing_more all i c.0 ts c.1 (ate close ts c h)) (λ _.
+        says_then C (Takes OfElement element_words ts) (Added all i ts) (one ts) _ (sound ts here) (λ x rest t.
+        says_found C (Added all i ts) (eat mark.Comma rest) _ _
+        (λ m h.
+        let text : ts ≡ (w x.tree ++ marked mark.Comma m.0 ∷ []) ++ m.1 = t.0 ∙ ap (λ z. w x.tree ++ z) (ate mark.Comma rest m h) ∙ sym (append_assoc (w x.tree) (marked mark.Comma m.0 ∷ []) m.1) in
+        carry C (Added (all ++ list_item x.tree (Some m.0) ∷ []) (max i x.depth) m.1) (Added all i ts) _
+        (λ c r g. one_before all i x.depth x.tree m.0 ts rest m.1 c r t.1 t.0 (ate mark.Comma rest m h) g)
+        (list_says n (all ++ list_item x.tree (Some m.0) ∷ []) (max i x.depth) m.1 (more x m.0 ts m.1 t.1 here text)))
+        (λ _. says_found C (Added all i ts) (eat close rest) _ _ (λ c h. the_last all i x.depth x.tree c.0 ts rest c.1 t.1 t.0 (ate close rest c h)) (λ _. tt))))
 
   -- what a whole list says
   abbrev pub IsList : Words → Closed E → Words → Type 0
@@ -61,8 +66,13 @@ module _ {E : Type 0} (P : ℕ → E → Type 0) (w : E → Words) (one : Parser
   whole : (ts : Words) (c : Closed E) (r : Words) → Added [] 0 ts c r → IsList ts c r
   whole ts c r g = (g.2 ∙ ap (λ z. items_words w z ++ marked close c.closing ∷ r) (sym g.1), subst (λ z. Listed P z 0 c.inside) (sym g.1) g.3)
 
-  pub list_sound : Sound OfElement element_words one → (ts : Words) → Says (IsList ts) ts (list_of one close ts)
-  list_sound sound ts = carry (Added [] 0 ts) (IsList ts) ts [] ts (list_of one close ts) refl (λ c r g. whole ts c r g) (list_says sound (length ts) [] 0 ts)
+  pub list_sound : (C : Fault → Type 0) (At : Words → Type 0) → ((ts : Words) → At ts → Says C (Takes OfElement element_words ts) (one ts))
+      → ((x : Tall E) (m : Span) (ts rest : Words) → OfElement x → At ts → ts ≡ (w x.tree ++ marked mark.Comma m ∷ []) ++ rest → At rest) → (ts : Words) → At ts → Says C (IsList ts) (list_of one close ts)
+  list_sound C At sound more ts here = carry C (Added [] 0 ts) (IsList ts) (list_of one close ts) (λ c r g. whole ts c r g) (list_says C At sound more (length ts) [] 0 ts here)
+
+  -- whatever faults there are
+  pub list_takes : Sound OfElement element_words one → (ts : Words) → Says AnyFault (IsList ts) (list_of one close ts)
+  list_takes sound ts = list_sound AnyFault (λ _. Unit {0}) (λ ts _. sound ts) (λ x m ts rest p here e. tt) ts tt
 
   -- ---- a list is read
 

@@ -33,14 +33,17 @@ use Rattle.wdl_parse_expr.specs.Reading as r
 use Rattle.wdl_parse_expr.specs.Reading.{binary_of, binary_at, unary_at, list_of, option_start, options_at, chained, linked, leaf, one_more, Step, step, expr}
 use Rattle.wdl_parse_expr.specs.Contract.{goes_on, continues}
 use Rattle.wdl_parse_expr.proofs.Steps.{ate, sees_ident, cond_true, cond_false, then_is, attempt_is, attempt_bad, attempt_missing, found_some, found_none, grown_is}
-use Rattle.wdl_parse_expr.proofs.Says.{said}
-use Rattle.wdl_parse_expr.proofs.Lists.{IsList, list_sound, list_is}
+use Rattle.wdl_parse_expr.proofs.Says.{AnyFault, said}
+use Rattle.wdl_parse_expr.proofs.Lists.{IsList, list_takes, list_is}
 use Rattle.wdl_parse_expr.proofs.Strings.{options_full}
-use Rattle.wdl_parse_expr.proofs.Sound.{IsSound, member_sound}
+use Rattle.wdl_parse_expr.proofs.Sound.{IsSound, member_takes}
 use Rattle.wdl_parse_expr.proofs.Begins.{begins, no_assign, calm, Begins, Starts, closer_begins, true_reserved, false_reserved, none_reserved}
 use Rattle.wdl_parse_expr.proofs.Goes.{Longer, AtMost, IsFull, longer_along, at_most_grown, exact, calls}
 
-module _ (In : Rule → ℕ → Expr → Type 0) (depth : ℕ) (inner : Rule → Parser (Tall Expr)) (sound : IsSound In inner) (full : IsFull In inner) (starts : (k : Rule) (n : ℕ) → Starts (In k n)) where
+module _ (depth : ℕ) (inner : Rule → Parser (Tall Expr)) (sound : IsSound (Tree depth) inner) (full : IsFull (Tree depth) inner) (starts : (k : Rule) (n : ℕ) → Starts (Tree depth k n)) where
+  abbrev In : Rule → ℕ → Expr → Type 0
+  In = Tree depth
+
   pub inner_exact : (n : ℕ) (x : Expr) → In rule.Expr n x → (tail : Words) → continues 6 tail ≡ false → inner rule.Expr (words x ++ tail) ≡ Ok (tall x n, tail)
   inner_exact n x i tail stops = exact 6 _ (tall x n) tail stops (full rule.Expr n x i tail)
 
@@ -154,7 +157,7 @@ module _ (In : Rule → ℕ → Expr → Type 0) (depth : ℕ) (inner : Rule →
   args_bare : (n : Ident) (o : Span) (rest tail : Words) (l : Closed Expr × Words) → tail ≡ marked mark.OpenParen o ∷ rest → list_of (inner rule.Expr) mark.CloseParen rest ≡ Ok l → (b : Bool) → ends_bare l.0.items ≡ b → Args n o rest tail
   unfolding r.arguments
   args_bare n o rest tail l h got true q =
-      let takes = said (IsList (In rule.Expr) words (inner rule.Expr) mark.CloseParen rest) rest _ l (list_sound (In rule.Expr) words (inner rule.Expr) mark.CloseParen (sound rule.Expr) rest) got in
+      let takes = said AnyFault (IsList (In rule.Expr) words (inner rule.Expr) mark.CloseParen rest) _ l (list_takes (In rule.Expr) words (inner rule.Expr) mark.CloseParen (sound rule.Expr) rest) got in
       let less : length l.1 < length tail = omega (arith, ap length h, ap length takes.0, length-append (items_words words l.0.items) (marked mark.CloseParen l.0.closing ∷ l.1)) in
       inr (bracketed tail rest l.1 o l.0.inside (e.Call n o l.0.items l.0.closing) _ (attempt_is (list_of (inner rule.Expr) mark.CloseParen rest) _ _ l got ∙ cond_true (ends_bare l.0.items) _ _ q) less)
   args_bare n o rest tail l h got false q = inl (attempt_is (list_of (inner rule.Expr) mark.CloseParen rest) _ _ l got ∙ cond_false (ends_bare l.0.items) _ _ q)
@@ -181,7 +184,7 @@ module _ (In : Rule → ℕ → Expr → Type 0) (depth : ℕ) (inner : Rule →
       → (l : Outcome (Closed (MemberEntry Expr))) → list_of (r.member inner) mark.CloseBrace rest ≡ l → Names n tail
   unfolding r.struct_literal
   name_brace n o rest tail h start (Ok l) q =
-      let takes = said (IsList (IsMember In) (member_words words) (r.member inner) mark.CloseBrace rest) rest _ l (list_sound (IsMember In) (member_words words) (r.member inner) mark.CloseBrace (member_sound In depth inner sound) rest) q in
+      let takes = said AnyFault (IsList (IsMember In) (member_words words) (r.member inner) mark.CloseBrace rest) _ l (list_takes (IsMember In) (member_words words) (r.member inner) mark.CloseBrace (member_takes depth inner sound) rest) q in
       let less : length l.1 < length tail = omega (arith, ap length h, ap length takes.0, length-append (items_words (member_words words) l.0.items) (marked mark.CloseBrace l.0.closing ∷ l.1)) in
       inr (ap calls h, bracketed tail rest l.1 o l.0.inside (e.Struct n o l.0.items l.0.closing) _ (start ∙ attempt_is (list_of (r.member inner) mark.CloseBrace rest) _ _ l q) less)
   name_brace n o rest tail h start (Err Missing) q = inl (start ∙ attempt_missing (list_of (r.member inner) mark.CloseBrace rest) _ _ q)

@@ -19,16 +19,19 @@ use Rattle.wdl_parse_expr.specs.Reading as r
 use Rattle.wdl_parse_expr.specs.Reading.{binary_at, unary_at, chained, linked, one_more, Step, step, turns, expr}
 use Rattle.wdl_parse_expr.specs.Contract.{continues}
 use Rattle.wdl_parse_expr.proofs.Steps.{cond_true, cond_false, then_is, then_bad, attempt_is, attempt_bad, attempt_missing, found_some, found_none, grown_is}
-use Rattle.wdl_parse_expr.proofs.Says.{Takes, said}
+use Rattle.wdl_parse_expr.proofs.Says.{AnyFault, Takes, said}
 use Rattle.wdl_parse_expr.proofs.Tables.{ate_binary, sees_binary, sees_unary}
-use Rattle.wdl_parse_expr.proofs.Sound.{IsSound, tall_words, Ruled, rule_sound, expr_sound}
+use Rattle.wdl_parse_expr.proofs.Sound.{IsSound, tall_words, RuledTree, rule_takes, expr_takes}
 use Rattle.wdl_parse_expr.proofs.Choices.{ends_if, ends_binary, ends_unary}
 use Rattle.wdl_parse_expr.proofs.Begins.{calm_before, Begins, Starts, binary_not_assign, unary_begins, no_assign_begins}
 use Rattle.wdl_parse_expr.proofs.Goes.{limit, level, Longer, AtMost, Reaches, IsFull, longer_along, longer_then, at_most_grown, at_limit, limit_more, limit_whole, operator_stops, operator_goes}
 use Rattle.wdl_parse_expr.proofs.Primaries.{inner_exact}
 use Rattle.wdl_parse_expr.proofs.Chains.{chain, first_chain, goes_at_most, Linked, Stepped, linked_along, linked_is, turns_goes, Upto, upto_reaches, no_sign, no_if, post_full, post_start, posted_begins}
 
-module _ (In : Rule → ℕ → Expr → Type 0) (depth : ℕ) (inner : Rule → Parser (Tall Expr)) (sound : IsSound In inner) (full : IsFull In inner) (starts : (k : Rule) (n : ℕ) → Starts (In k n)) where
+module _ (depth : ℕ) (inner : Rule → Parser (Tall Expr)) (sound : IsSound (Tree depth) inner) (full : IsFull (Tree depth) inner) (starts : (k : Rule) (n : ℕ) → Starts (Tree depth k n)) where
+  abbrev In : Rule → ℕ → Expr → Type 0
+  In = Tree depth
+
   -- ---- choices
 
   choice_full : (i : Span) (c : Expr) (t : Span) (a : Expr) (s : Span) (x : Expr) (p q w : ℕ) → In rule.Expr p c → In rule.Expr q a → In rule.Expr w x → suc (max (max p q) w) ≤ suc depth → (tail : Words)
@@ -55,9 +58,9 @@ module _ (In : Rule → ℕ → Expr → Type 0) (depth : ℕ) (inner : Rule →
       plain = ap (r.unary depth inner) text
           ∙ found_none (unary_at (keyword (codes "if") i ∷ behind)) _ _ refl
           ∙ found_some (eat_word (codes "if") (keyword (codes "if") i ∷ behind)) _ _ (i, behind) refl
-          ∙ then_is (inner rule.Expr behind) _ (tall c p, keyword (codes "then") t ∷ more) (inner_exact In depth inner sound full starts p c ic (keyword (codes "then") t ∷ more) refl)
+          ∙ then_is (inner rule.Expr behind) _ (tall c p, keyword (codes "then") t ∷ more) (inner_exact depth inner sound full starts p c ic (keyword (codes "then") t ∷ more) refl)
           ∙ found_some (eat_word (codes "then") (keyword (codes "then") t ∷ more)) _ _ (t, more) refl
-          ∙ then_is (inner rule.Expr more) _ (tall a q, after) (inner_exact In depth inner sound full starts q a ia after refl)
+          ∙ then_is (inner rule.Expr more) _ (tall a q, after) (inner_exact depth inner sound full starts q a ia after refl)
           ∙ found_some (eat_word (codes "else") after) _ _ (s, last) refl
 
       go : Reaches 6 (inner rule.Expr last) (tall x w) tail → Reaches (limit 0 (e.If i c t a s x)) (r.unary depth inner (words (e.If i c t a s x) ++ tail)) (tall (e.If i c t a s x) (suc (max (max p q) w))) tail
@@ -71,10 +74,10 @@ module _ (In : Rule → ℕ → Expr → Type 0) (depth : ℕ) (inner : Rule →
 
   unary_full : (n : ℕ) (x : Expr) → IsUnary In n x → n ≤ suc depth → (tail : Words) → Reaches (limit 0 x) (r.unary depth inner (words x ++ tail)) (tall x n) tail
   unfolding r.unary
-  unary_full n x (g.post m i y q) fits tail = go (post_full In depth inner sound full starts m i y q fits tail)
+  unary_full n x (g.post m i y q) fits tail = go (post_full depth inner sound full starts m i y q fits tail)
     where
       plain : r.unary depth inner (words y ++ tail) ≡ r.post depth inner (words y ++ tail)
-      plain = let s = post_start In depth inner sound full starts m i y q in
+      plain = let s = post_start depth inner sound full starts m i y q in
           found_none (unary_at (words y ++ tail)) _ _ (ap (λ z. unary_at (z ++ tail)) s.2 ∙ no_sign s.0.kind s.0.span (s.1 ++ tail) s.3)
           ∙ found_none (eat_word (codes "if") (words y ++ tail)) _ _ (ap (λ z. eat_word (codes "if") (z ++ tail)) s.2 ∙ cond_false (is_word (codes "if") s.0.kind) _ _ (no_if s.0.kind s.3))
 
@@ -103,7 +106,7 @@ module _ (In : Rule → ℕ → Expr → Type 0) (depth : ℕ) (inner : Rule →
   unfolding r.operation
   operand_goes k c ts o closed h (Ok x) q =
       let ate = ate_binary k ts o h in
-      let takes = (said (Takes (Ruled In depth inner sound k) tall_words o.1) o.1 _ x (rule_sound In depth inner sound k o.1) q).0 in
+      let takes = (said AnyFault (Takes (RuledTree depth k) tall_words o.1) _ x (rule_takes depth inner sound k o.1) q).0 in
       let less : length x.1 < length ts = omega (arith, ap length ate.0, ap length takes, length-append (words x.0.tree) x.1) in
       inr (
         ap (continues (suc k)) ate.0 ∙ operator_goes k o.0.0 o.0.1 o.1 ate.1,
@@ -205,7 +208,7 @@ module _ (In : Rule → ℕ → Expr → Type 0) (depth : ℕ) (inner : Rule →
   -- ---- whole expressions
 
   unary_start : (n : ℕ) (x : Expr) → IsUnary In n x → Begins (words x)
-  unary_start n x (g.post m i y q) = posted_begins In depth inner sound full starts (words y) (post_start In depth inner sound full starts m i y q)
+  unary_start n x (g.post m i y q) = posted_begins depth inner sound full starts (words y) (post_start depth inner sound full starts m i y q)
   unary_start n x (g.signed d o s y p) = (marked (unary_mark o) s, words y, words_unary o s y, unary_begins o, refl)
   unary_start n x (g.choice i c t a s y p q w ic ia iy) = (_, _, words_if i c t a s y, refl, no_assign_begins (words c) (keyword (codes "then") t ∷ (words a ++ keyword (codes "else") s ∷ words y)) (starts rule.Expr p c ic))
 
@@ -244,7 +247,7 @@ unfolding expr
 known zero = (λ k n x q tail. absurd q, λ k n x q. absurd q)
 known (suc d) =
     let below = known d in
-    (λ k n x q tail. of_rule_full (Tree d) d (expr d) (expr_sound d) below.0 below.1 k n x q.0 q.1 tail, λ k n x q. of_rule_start (Tree d) d (expr d) (expr_sound d) below.0 below.1 k n x q.0)
+    (λ k n x q tail. of_rule_full d (expr d) (expr_takes d) below.0 below.1 k n x q.0 q.1 tail, λ k n x q. of_rule_start d (expr d) (expr_takes d) below.0 below.1 k n x q.0)
 
 pub expr_full : (d : ℕ) → IsFull (Tree d) (expr d)
 expr_full d = (known d).0

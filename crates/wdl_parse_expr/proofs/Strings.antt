@@ -15,10 +15,11 @@ use Rattle.wdl_ast.specs.declared.string.PlaceholderOptions.TheVariants as optio
 use Rattle.wdl_ast.specs.Words.{Words, at, marked, keyword, chars_words, plain_words, option_words, options_words}
 use Rattle.wdl_parse_expr.specs.declared.operator.OptionWord.{OptionWord}
 use Rattle.wdl_parse_expr.specs.declared.operator.OptionWord.TheVariants as word
-use Rattle.wdl_parse_expr.specs.Outcome.{found, is_str_close, eat_if, eat}
+use Rattle.wdl_parse_expr.specs.declared.fault.Fault.{Fault}
+use Rattle.wdl_parse_expr.specs.Outcome.{Parser, found, is_str_close, eat_if, eat}
 use Rattle.wdl_parse_expr.specs.Reading.{quote_of, quote_at, chars_of, chars_at, plain_end, plain, option_word, option_from, option_start, option_end, same_option, other_option, options_by, options_at}
 use Rattle.wdl_parse_expr.proofs.Steps.{ate, ate_str_close, then_is, found_some, found_none, cond_true}
-use Rattle.wdl_parse_expr.proofs.Says.{Says, Takes, Sound, carry, says_then, says_found, says_cond}
+use Rattle.wdl_parse_expr.proofs.Says.{Says, Takes, carry, says_then, says_found, says_cond}
 
 abbrev Any : {A : Type 0} → A → Type 0
 Any x = Unit {0}
@@ -41,10 +42,14 @@ pub ate_chars : (ts : Words) → ts ≡ chars_words (chars_at ts).0 ++ (chars_at
 ate_chars [] = refl
 ate_chars (t ∷ ts) = chars_from t.kind t.span ts
 
-pub plain_sound : Sound {A = PlainString} Any plain_words plain
+-- a reader whose every fault is a C, whatever C is: it has none
+abbrev pub Quiet : {A : Type 0} → (A → Type 0) → (A → Words) → Parser A → Type 1
+Quiet P w p = (C : Fault → Type 0) (ts : Words) → Says C (Takes P w ts) (p ts)
+
+pub plain_sound : Quiet {A = PlainString} Any plain_words plain
 unfolding plain
-plain_sound ts = says_found (Takes Any plain_words ts) ts (quote_at ts) _ _
-    (λ q h. says_found (Takes Any plain_words ts) ts (eat_if is_str_close (chars_at q.1).1) _ _
+plain_sound C ts = says_found C (Takes Any plain_words ts) (quote_at ts) _ _
+    (λ q h. says_found C (Takes Any plain_words ts) (eat_if is_str_close (chars_at q.1).1) _ _
     (λ c g. (ate_quote ts q h ∙ ap (λ z. at (kind.StrOpen q.0.0) q.0.1 ∷ z) (ate_chars q.1 ∙ ap (λ z. chars_words (chars_at q.1).0 ++ z) (ate_str_close (chars_at q.1).1 c g) ∙ sym (simp append_assoc)), tt)) (λ _. tt))
     (λ _. tt)
 
@@ -114,9 +119,9 @@ begun (t ∷ ts) x h = begun_by t.kind t.span ts x h
 abbrev OptionOf : List ℕ → Span × Span → Words → PlaceholderOption → Words → Type 0
 OptionOf w s ts o r = keyword w s.0 ∷ marked mark.Assign s.1 ∷ ts ≡ option_words w o ++ r
 
-end_sound : (w : List ℕ) (s : Span × Span) (ts : Words) → Says (OptionOf w s ts) ts (option_end s ts)
+end_sound : (C : Fault → Type 0) (w : List ℕ) (s : Span × Span) (ts : Words) → Says C (OptionOf w s ts) (option_end s ts)
 unfolding option_end
-end_sound w s ts = says_then (Takes Any plain_words ts) (OptionOf w s ts) ts [] ts (plain ts) _ refl (plain_sound ts) (λ v r t. ap (λ z. keyword w s.0 ∷ marked mark.Assign s.1 ∷ z) t.0)
+end_sound C w s ts = says_then C (Takes Any plain_words ts) (OptionOf w s ts) (plain ts) _ (plain_sound C ts) (λ v r t. ap (λ z. keyword w s.0 ∷ marked mark.Assign s.1 ∷ z) t.0)
 
 abbrev OtherOf : OptionWord → Words → PlaceholderOption → Words → Type 0
 OtherOf w ts o r = (v : List ℕ) × (ts ≡ option_words v o ++ r) × spelled w v
@@ -126,33 +131,32 @@ same_spelled word.True word.True w h s = s
 same_spelled word.False word.False w h s = s
 same_spelled _ _ w h s = cc
 
-other_sound : (w : OptionWord) (ts : Words) → Says (OtherOf w ts) ts (other_option w ts)
+other_sound : (C : Fault → Type 0) (w : OptionWord) (ts : Words) → Says C (OtherOf w ts) (other_option w ts)
 unfolding other_option
-other_sound w ts = says_found (OtherOf w ts) ts (option_start ts) _ _
-    (λ o h. let b = begun ts o h in says_cond (OtherOf w ts) ts (same_option o.0.0 w) _ _
-    (λ q. carry (OptionOf b.0 o.0.1 o.1) (OtherOf w ts) ts (keyword b.0 o.0.1.0 ∷ marked mark.Assign o.0.1.1 ∷ []) o.1 (option_end o.0.1 o.1) b.1
-    (λ x r e. (b.0, b.1 ∙ e, same_spelled o.0.0 w b.0 q b.2)) (end_sound b.0 o.0.1 o.1)) (λ _. tt))
+other_sound C w ts = says_found C (OtherOf w ts) (option_start ts) _ _
+    (λ o h. let b = begun ts o h in says_cond C (OtherOf w ts) (same_option o.0.0 w) _ _
+    (λ q. carry C (OptionOf b.0 o.0.1 o.1) (OtherOf w ts) (option_end o.0.1 o.1) (λ x r e. (b.0, b.1 ∙ e, same_spelled o.0.0 w b.0 q b.2)) (end_sound C b.0 o.0.1 o.1)) (λ _. tt))
     (λ _. tt)
 
 abbrev OptionsOf : Words → PlaceholderOptions → Words → Type 0
 OptionsOf = Takes Any options_words
 
-by_sound : (w : OptionWord) (s : Span × Span) (v : List ℕ) (ts rest : Words) → ts ≡ keyword v s.0 ∷ marked mark.Assign s.1 ∷ rest → spelled w v → Says (OptionsOf ts) ts (options_by w s rest)
-by_sound word.Sep s v ts rest e q = says_then (OptionOf v s rest) (OptionsOf ts) ts (keyword v s.0 ∷ marked mark.Assign s.1 ∷ []) rest _ _ e (end_sound v s rest) (λ o r f. (e ∙ f ∙ ap (λ z. option_words z o ++ r) q, tt))
-by_sound word.Default s v ts rest e q = says_then (OptionOf v s rest) (OptionsOf ts) ts (keyword v s.0 ∷ marked mark.Assign s.1 ∷ []) rest _ _ e (end_sound v s rest) (λ o r f. (e ∙ f ∙ ap (λ z. option_words z o ++ r) q, tt))
-by_sound word.True s v ts rest e q = says_then (OptionOf v s rest) (OptionsOf ts) ts (keyword v s.0 ∷ marked mark.Assign s.1 ∷ []) rest _ _ e (end_sound v s rest) (λ o r f.
+by_sound : (C : Fault → Type 0) (w : OptionWord) (s : Span × Span) (v : List ℕ) (ts rest : Words) → ts ≡ keyword v s.0 ∷ marked mark.Assign s.1 ∷ rest → spelled w v → Says C (OptionsOf ts) (options_by w s rest)
+by_sound C word.Sep s v ts rest e q = says_then C (OptionOf v s rest) (OptionsOf ts) _ _ (end_sound C v s rest) (λ o r f. (e ∙ f ∙ ap (λ z. option_words z o ++ r) q, tt))
+by_sound C word.Default s v ts rest e q = says_then C (OptionOf v s rest) (OptionsOf ts) _ _ (end_sound C v s rest) (λ o r f. (e ∙ f ∙ ap (λ z. option_words z o ++ r) q, tt))
+by_sound C word.True s v ts rest e q = says_then C (OptionOf v s rest) (OptionsOf ts) _ _ (end_sound C v s rest) (λ o r f.
     let text : ts ≡ option_words (codes "true") o ++ r = e ∙ f ∙ ap (λ z. option_words z o ++ r) q in
-    says_then (OtherOf word.False r) (OptionsOf ts) ts (option_words (codes "true") o) r _ _ text (other_sound word.False r) (λ p more g.
+    says_then C (OtherOf word.False r) (OptionsOf ts) _ _ (other_sound C word.False r) (λ p more g.
     (text ∙ ap (λ z. option_words (codes "true") o ++ z) (g.1 ∙ ap (λ z. option_words z p ++ more) g.2) ∙ sym (append_assoc (option_words (codes "true") o) (option_words (codes "false") p) more), tt)))
-by_sound word.False s v ts rest e q = says_then (OptionOf v s rest) (OptionsOf ts) ts (keyword v s.0 ∷ marked mark.Assign s.1 ∷ []) rest _ _ e (end_sound v s rest) (λ o r f.
+by_sound C word.False s v ts rest e q = says_then C (OptionOf v s rest) (OptionsOf ts) _ _ (end_sound C v s rest) (λ o r f.
     let text : ts ≡ option_words (codes "false") o ++ r = e ∙ f ∙ ap (λ z. option_words z o ++ r) q in
-    says_then (OtherOf word.True r) (OptionsOf ts) ts (option_words (codes "false") o) r _ _ text (other_sound word.True r) (λ p more g.
+    says_then C (OtherOf word.True r) (OptionsOf ts) _ _ (other_sound C word.True r) (λ p more g.
     (text ∙ ap (λ z. option_words (codes "false") o ++ z) (g.1 ∙ ap (λ z. option_words z p ++ more) g.2) ∙ sym (append_assoc (option_words (codes "false") o) (option_words (codes "true") p) more), tt)))
-by_sound word.Other s v ts rest e q = tt
+by_sound C word.Other s v ts rest e q = tt
 
-pub options_sound : Sound {A = PlaceholderOptions} Any options_words options_at
+pub options_sound : Quiet {A = PlaceholderOptions} Any options_words options_at
 unfolding options_at
-options_sound ts = says_found (OptionsOf ts) ts (option_start ts) _ _ (λ o h. let b = begun ts o h in by_sound o.0.0 o.0.1 b.0 ts o.1 b.1 b.2) (λ _. (refl, tt))
+options_sound C ts = says_found C (OptionsOf ts) (option_start ts) _ _ (λ o h. let b = begun ts o h in by_sound C o.0.0 o.0.1 b.0 ts o.1 b.1 b.2) (λ _. (refl, tt))
 
 -- ---- options are read
 

@@ -1,5 +1,5 @@
 -- Types, read and written.
-use Rattle.std.proofs.Common.{◌≡◌, ℕ, zero, suc, ◌<◌, ◌≤◌, Bool, true, false, ◌||◌, ◌&&◌, ◌⊎◌, inl, inr, List, [], ◌∷◌, ◌++◌, length, Option, Some, None, Ok, refl, ap, sym, ◌∙◌, subst, append_assoc, length-append, arith, codes}
+use Rattle.std.proofs.Common.{◌≡◌, ℕ, zero, suc, ◌+◌, ◌<◌, ◌≤◌, Bool, true, false, ◌||◌, ◌⊎◌, inl, inr, List, [], ◌∷◌, ◌++◌, length, Option, Some, None, Ok, refl, ap, sym, ◌∙◌, subst, append_assoc, length-append, arith, codes}
 use Rattle.std.proofs.lemmas.List.{append-nil}
 use Rattle.std.proofs.lemmas.Slice.Eq.{bytes_eq-Decides}
 use Rattle.std.specs.Str.{bytes_eq}
@@ -14,16 +14,19 @@ use Rattle.wdl_ast.specs.declared.type_tree.BaseType.TheVariants as base
 use Rattle.wdl_ast.specs.declared.type_tree.TypeTree.{TypeTree}
 use Rattle.wdl_ast.specs.Words.{Words, at, marked, mark_words, keyword, base_words, questions_words, type_words}
 use Rattle.wdl_ast.proofs.WordLaws.{words_type}
+use Rattle.wdl_parse_expr.specs.declared.fault.Fault.{Fault}
 use Rattle.wdl_parse_expr.specs.declared.type_reader.Two.{Two}
-use Rattle.wdl_parse_expr.specs.Outcome.{Outcome, Parser, found, is_mark, eat}
-use Rattle.wdl_parse_expr.specs.Forms.{left_out, is_code, is_open_paren, begins_form}
+use Rattle.wdl_parse_expr.specs.Outcome.{Outcome, Parser, found, too_deep, is_mark, eat}
+use Rattle.wdl_parse_expr.specs.Forms.{type_form}
+use Rattle.wdl_parse_expr.specs.Context as ctx
+use Rattle.wdl_parse_expr.specs.Context.{OpenType, Points, TypeCause}
 use Rattle.wdl_parse_expr.specs.TypeGrammar as g
-use Rattle.wdl_parse_expr.specs.TypeGrammar.{type_tree, IsBase, IsTypeOver, TypeWithin}
+use Rattle.wdl_parse_expr.specs.TypeGrammar.{type_tree, IsBase, IsTypeOver, TypeWithin, max_type_depth}
 use Rattle.wdl_parse_expr.specs.TypeReading as r
 use Rattle.wdl_parse_expr.specs.TypeReading.{optional, questions_from, questions, type_at}
 use Rattle.wdl_parse_expr.specs.Contract.{is_type_mark, type_continues}
 use Rattle.wdl_parse_expr.proofs.Steps.{ate, cond_true, cond_false, then_is, found_some, found_none}
-use Rattle.wdl_parse_expr.proofs.Says.{Says, Takes, Sound, deep_sound, says_then, says_found, says_cond}
+use Rattle.wdl_parse_expr.proofs.Says.{fault, AnyFault, Says, Takes, Sound, says_then, says_found, says_cond}
 
 -- ---- marks that may be absent
 
@@ -62,99 +65,130 @@ questions_sound ts = let a = questions_says (length ts) [] ts in a.2 ∙ ap (λ 
 
 -- ---- what is read is a type
 
-module _ (In : TypeTree → Type 0) (inner : Parser TypeTree) (sound : Sound In type_words inner) where
-  abbrev BaseOf : Words → BaseType TypeTree → Words → Type 0
-  BaseOf = Takes (IsBase In) (base_words type_words)
+float_form : (w : List ℕ) → bytes_eq w (codes "Float") ≡ true → type_form 120 (kind.Word w) ≡ true
+float_form w h = ap (λ z. z || false) h
 
-  abbrev Inside : Words → TypeTree → Words → Type 0
-  Inside = Takes In type_words
+object_form : (w : List ℕ) → bytes_eq w (codes "Object") ≡ true → type_form 121 (kind.Word w) ≡ true
+object_form w h = h
 
-  array_sound : (w : Span) (ts : Words) → Says (BaseOf (keyword (codes "Array") w ∷ ts)) (keyword (codes "Array") w ∷ ts) (r.array inner w ts)
-  unfolding r.array
-  array_sound w ts =
-      let all : Words = keyword (codes "Array") w ∷ ts in
-      says_found (BaseOf all) all (eat mark.OpenBracket ts) _ _ (λ o h.
-      let open_ : all ≡ (keyword (codes "Array") w ∷ marked mark.OpenBracket o.0 ∷ []) ++ o.1 = ap (λ z. keyword (codes "Array") w ∷ z) (ate mark.OpenBracket ts o h) in
-      says_then (Inside o.1) (BaseOf all) all (keyword (codes "Array") w ∷ marked mark.OpenBracket o.0 ∷ []) o.1 (inner o.1) _ open_ (sound o.1) (λ t more a.
-      says_found (BaseOf all) all (eat mark.CloseBracket more) _ _ (λ c q. (
-        open_ ∙ ap (λ z. keyword (codes "Array") w ∷ marked mark.OpenBracket o.0 ∷ z) (a.0 ∙ ap (λ z. type_words t ++ z) (ate mark.CloseBracket more c q ∙ ap (λ z. marked mark.CloseBracket c.0 ∷ z) (optional_sound mark.Plus c.1))) ∙ sym (simp append_assoc),
-        g.array w o.0 t c.0 (optional mark.Plus c.1).0 a.1,
-      ))
-      (λ _. tt))) (λ _. tt)
+-- Of all the tokens those that are read stand at the end, in a type whose root is where Root says. C is what is said of a fault.
+module _ (Root : Words → Type 0) (tokens : Words) (C : Fault → Type 0) (blame : (f : Fault) → Points (TypeCause Root f.code) tokens f.span → C f) where
+  -- a type of at most that depth stands before these tokens
+  abbrev pub Spot : ℕ → Words → Type 0
+  Spot d ts = (front : Words) × (n : ℕ) × (tokens ≡ front ++ ts) × OpenType Root n front × (n + d ≡ max_type_depth)
 
-  -- two types in brackets
-  abbrev TwoOf : Words → Two TypeTree → Words → Type 0
-  TwoOf ts t rest = (ts ≡ marked mark.OpenBracket t.opening ∷ (type_words t.left ++ marked mark.Comma t.comma ∷ (type_words t.right ++ marked mark.CloseBracket t.closing ∷ rest))) × In t.left × In t.right
+  moved : (d : ℕ) (ts before rest : Words) → Spot (suc d) ts → ts ≡ before ++ rest → ((n : ℕ) (ws : Words) → OpenType Root n ws → OpenType Root (suc n) (ws ++ before)) → Spot d rest
+  moved d ts before rest s e f = (s.0 ++ before, suc s.1, s.2 ∙ ap (λ z. s.0 ++ z) e ∙ sym (append_assoc s.0 before rest), f s.1 s.0 s.3, omega (arith, s.4))
 
-  two_sound : (ts : Words) → Says (TwoOf ts) ts (r.two inner ts)
-  unfolding r.two
-  two_sound ts =
-      says_found (TwoOf ts) ts (eat mark.OpenBracket ts) _ _ (λ o h.
-      let first : ts ≡ (marked mark.OpenBracket o.0 ∷ []) ++ o.1 = ate mark.OpenBracket ts o h in
-      says_then (Inside o.1) (TwoOf ts) ts (marked mark.OpenBracket o.0 ∷ []) o.1 (inner o.1) _ first (sound o.1) (λ l more a.
-      says_found (TwoOf ts) ts (eat mark.Comma more) _ _ (λ m q.
-      let front : Words = marked mark.OpenBracket o.0 ∷ (type_words l ++ marked mark.Comma m.0 ∷ []) in
-      let second : ts ≡ front ++ m.1 = first ∙ ap (λ z. marked mark.OpenBracket o.0 ∷ z) (a.0 ∙ ap (λ z. type_words l ++ z) (ate mark.Comma more m q) ∙ sym (append_assoc (type_words l) (marked mark.Comma m.0 ∷ []) m.1)) in
-      says_then (Inside m.1) (TwoOf ts) ts front m.1 (inner m.1) _ second (sound m.1) (λ x last b.
-      says_found (TwoOf ts) ts (eat mark.CloseBracket last) _ _ (λ c p.
-      (second ∙ ap (λ z. front ++ z) (b.0 ∙ ap (λ z. type_words x ++ z) (ate mark.CloseBracket last c p)) ∙ simp append_assoc, a.1, b.1))
-      (λ _. tt))) (λ _. tt))) (λ _. tt)
+  left_out_at : (c : ℕ) (k : Kind) (s : Span) (rest : Words) (d : ℕ) → Spot d (at k s ∷ rest) → type_form c k ≡ true → C (fault c s)
+  left_out_at c k s rest d here h = blame (fault c s) (here.0, at k s, rest, here.2, refl, inr (here.1, here.3, h))
 
-  map_sound : (w : Span) (ts : Words) → Says (BaseOf (keyword (codes "Map") w ∷ ts)) (keyword (codes "Map") w ∷ ts) (r.map_type inner w ts)
-  map_sound w ts =
-      let all : Words = keyword (codes "Map") w ∷ ts in
-      says_then (TwoOf ts) (BaseOf all) all (keyword (codes "Map") w ∷ []) ts (r.two inner ts) _ refl (two_sound ts)
-      (λ t rest a. (ap (λ z. keyword (codes "Map") w ∷ z) a.0 ∙ sym (simp append_assoc), g.map w t.opening t.left t.comma t.right t.closing a.1 a.2))
+  deep_sound : (ts : Words) → Spot 0 ts → Says C (Takes (TypeWithin 0) type_words ts) (too_deep ts)
+  deep_sound [] here = tt
+  deep_sound (t ∷ ts) here = let full : here.1 ≡ max_type_depth = omega (arith, here.4) in
+      blame (fault 111 t.span) (here.0, t, ts, here.2, refl, inl (refl, subst (λ n. OpenType Root n here.0) full here.3))
 
-  pair_sound : (w : Span) (ts : Words) → Says (BaseOf (keyword (codes "Pair") w ∷ ts)) (keyword (codes "Pair") w ∷ ts) (r.pair_type inner w ts)
-  pair_sound w ts =
-      let all : Words = keyword (codes "Pair") w ∷ ts in
-      says_then (TwoOf ts) (BaseOf all) all (keyword (codes "Pair") w ∷ []) ts (r.two inner ts) _ refl (two_sound ts)
-      (λ t rest a. (ap (λ z. keyword (codes "Pair") w ∷ z) a.0 ∙ sym (simp append_assoc), g.pair w t.opening t.left t.comma t.right t.closing a.1 a.2))
+  module _ (depth : ℕ) (inner : Parser TypeTree) (sound : (ts : Words) → Spot depth ts → Says C (Takes (TypeWithin depth) type_words ts) (inner ts)) where
+    abbrev In : TypeTree → Type 0
+    In = TypeWithin depth
 
-  float_form : (w : List ℕ) (ts : Words) → bytes_eq w (codes "Float") ≡ true → begins_form 120 (kind.Word w) ts ≡ true
-  float_form w ts h = ap (λ z. (z || false) || (is_open_paren ts && is_code 120 (left_out w))) h
+    abbrev BaseOf : Words → BaseType TypeTree → Words → Type 0
+    BaseOf = Takes (IsBase In) (base_words type_words)
 
-  object_form : (w : List ℕ) (ts : Words) → bytes_eq w (codes "Object") ≡ true → begins_form 121 (kind.Word w) ts ≡ true
-  object_form w ts h = ap (λ z. (z || bytes_eq w (codes "object")) || (is_open_paren ts && is_code 121 (left_out w))) h
+    abbrev Inside : Words → TypeTree → Words → Type 0
+    Inside = Takes In type_words
 
-  reserved_sound : (w : List ℕ) (s : Span) (ts : Words) → Says (BaseOf (keyword w s ∷ ts)) (keyword w s ∷ ts) (r.reserved inner w s ts)
-  unfolding r.reserved
-  reserved_sound w s ts =
-      let all : Words = keyword w s ∷ ts in
-      let R : BaseType TypeTree → Words → Type 0 = BaseOf all in
-      let is : (v : List ℕ) → bytes_eq w v ≡ true → w ≡ v = λ v h. (bytes_eq-Decides w v).0 h in
-      says_cond R all (bytes_eq w (codes "Boolean")) _ _ (λ h. (ap (λ z. keyword z s ∷ ts) (is (codes "Boolean") h), g.boolean s)) (λ _.
-      says_cond R all (bytes_eq w (codes "Int")) _ _ (λ h. (ap (λ z. keyword z s ∷ ts) (is (codes "Int") h), g.int s)) (λ _.
-      says_cond R all (bytes_eq w (codes "String")) _ _ (λ h. (ap (λ z. keyword z s ∷ ts) (is (codes "String") h), g.str s)) (λ _.
-      says_cond R all (bytes_eq w (codes "File")) _ _ (λ h. (ap (λ z. keyword z s ∷ ts) (is (codes "File") h), g.file s)) (λ _.
-      says_cond R all (bytes_eq w (codes "Array")) _ _ (λ h. subst (λ z. Says (BaseOf (keyword z s ∷ ts)) (keyword z s ∷ ts) (r.array inner s ts)) (sym (is (codes "Array") h)) (array_sound s ts)) (λ _.
-      says_cond R all (bytes_eq w (codes "Map")) _ _ (λ h. subst (λ z. Says (BaseOf (keyword z s ∷ ts)) (keyword z s ∷ ts) (r.map_type inner s ts)) (sym (is (codes "Map") h)) (map_sound s ts)) (λ _.
-      says_cond R all (bytes_eq w (codes "Pair")) _ _ (λ h. subst (λ z. Says (BaseOf (keyword z s ∷ ts)) (keyword z s ∷ ts) (r.pair_type inner s ts)) (sym (is (codes "Pair") h)) (pair_sound s ts)) (λ _.
-      says_cond R all (bytes_eq w (codes "Float")) _ _ (λ h. ([], keyword w s, ts, refl, refl, inr (float_form w ts h))) (λ _.
-      says_cond R all (bytes_eq w (codes "Object")) _ _ (λ h. ([], keyword w s, ts, refl, refl, inr (object_form w ts h))) (λ _. tt)))))))))
+    array_sound : (w : Span) (ts : Words) → Spot (suc depth) (keyword (codes "Array") w ∷ ts) → Says C (BaseOf (keyword (codes "Array") w ∷ ts)) (r.array inner w ts)
+    unfolding r.array
+    array_sound w ts here =
+        let all : Words = keyword (codes "Array") w ∷ ts in
+        says_found C (BaseOf all) (eat mark.OpenBracket ts) _ _ (λ o h.
+        let open_ : all ≡ (keyword (codes "Array") w ∷ marked mark.OpenBracket o.0 ∷ []) ++ o.1 = ap (λ z. keyword (codes "Array") w ∷ z) (ate mark.OpenBracket ts o h) in
+        says_then C (Inside o.1) (BaseOf all) (inner o.1) _ (sound o.1 (moved depth all (keyword (codes "Array") w ∷ marked mark.OpenBracket o.0 ∷ []) o.1 here open_ (λ n ws p. ctx.array n ws w o.0 p))) (λ t more a.
+        says_found C (BaseOf all) (eat mark.CloseBracket more) _ _ (λ c q. (
+          open_ ∙ ap (λ z. keyword (codes "Array") w ∷ marked mark.OpenBracket o.0 ∷ z) (a.0 ∙ ap (λ z. type_words t ++ z) (ate mark.CloseBracket more c q ∙ ap (λ z. marked mark.CloseBracket c.0 ∷ z) (optional_sound mark.Plus c.1))) ∙ sym (simp append_assoc),
+          g.array w o.0 t c.0 (optional mark.Plus c.1).0 a.1,
+        ))
+        (λ _. tt))) (λ _. tt)
 
-  base_from : (k : Kind) (s : Span) (ts : Words) → Says (BaseOf (at k s ∷ ts)) (at k s ∷ ts) (r.base_of inner k s ts)
-  unfolding r.named_base
-  base_from (kind.Word w) s ts = says_cond (BaseOf (keyword w s ∷ ts)) (keyword w s ∷ ts) (is_name w) _ _ (λ h. (refl, g.named (record { name = w; span = s }) h)) (λ _. reserved_sound w s ts)
-  base_from _ s ts = tt
+    -- two types in brackets
+    abbrev TwoOf : Words → Two TypeTree → Words → Type 0
+    TwoOf ts t rest = (ts ≡ marked mark.OpenBracket t.opening ∷ (type_words t.left ++ marked mark.Comma t.comma ∷ (type_words t.right ++ marked mark.CloseBracket t.closing ∷ rest))) × In t.left × In t.right
 
-  base_sound : Sound (IsBase In) (base_words type_words) (r.base_at inner)
-  unfolding r.base_at
-  base_sound [] = tt
-  base_sound (t ∷ ts) = base_from t.kind t.span ts
+    two_sound : (ts : Words) → ((o : Span) (rest : Words) → ts ≡ (marked mark.OpenBracket o ∷ []) ++ rest → Spot depth rest)
+        → ((o : Span) (l : TypeTree) (m : Span) (rest : Words) → In l → ts ≡ (marked mark.OpenBracket o ∷ (type_words l ++ marked mark.Comma m ∷ [])) ++ rest → Spot depth rest) → Says C (TwoOf ts) (r.two inner ts)
+    unfolding r.two
+    two_sound ts at_left at_right =
+        says_found C (TwoOf ts) (eat mark.OpenBracket ts) _ _ (λ o h.
+        let first : ts ≡ (marked mark.OpenBracket o.0 ∷ []) ++ o.1 = ate mark.OpenBracket ts o h in
+        says_then C (Inside o.1) (TwoOf ts) (inner o.1) _ (sound o.1 (at_left o.0 o.1 first)) (λ l more a.
+        says_found C (TwoOf ts) (eat mark.Comma more) _ _ (λ m q.
+        let front : Words = marked mark.OpenBracket o.0 ∷ (type_words l ++ marked mark.Comma m.0 ∷ []) in
+        let second : ts ≡ front ++ m.1 = first ∙ ap (λ z. marked mark.OpenBracket o.0 ∷ z) (a.0 ∙ ap (λ z. type_words l ++ z) (ate mark.Comma more m q) ∙ sym (append_assoc (type_words l) (marked mark.Comma m.0 ∷ []) m.1)) in
+        says_then C (Inside m.1) (TwoOf ts) (inner m.1) _ (sound m.1 (at_right o.0 l m.0 m.1 a.1 second)) (λ x last b.
+        says_found C (TwoOf ts) (eat mark.CloseBracket last) _ _ (λ c p.
+        (second ∙ ap (λ z. front ++ z) (b.0 ∙ ap (λ z. type_words x ++ z) (ate mark.CloseBracket last c p)) ∙ simp append_assoc, a.1, b.1))
+        (λ _. tt))) (λ _. tt))) (λ _. tt)
 
-  pub type_over_sound : Sound (IsTypeOver In) type_words (r.type_over inner)
-  unfolding r.type_over
-  type_over_sound ts = says_then (BaseOf ts) (Takes (IsTypeOver In) type_words ts) ts [] ts (r.base_at inner ts) _ refl (base_sound ts) (λ b rest a. (
-    a.0 ∙ ap (λ z. base_words type_words b ++ z) (questions_sound rest) ∙ sym (append_assoc (base_words type_words b) (questions_words (questions rest).0) (questions rest).1) ∙ ap (λ z. z ++ (questions rest).1) (sym (words_type b (questions rest).0)),
-    g.type_ b (questions rest).0 a.1,
-  ))
+    map_sound : (w : Span) (ts : Words) → Spot (suc depth) (keyword (codes "Map") w ∷ ts) → Says C (BaseOf (keyword (codes "Map") w ∷ ts)) (r.map_type inner w ts)
+    map_sound w ts here =
+        let all : Words = keyword (codes "Map") w ∷ ts in
+        let two = two_sound ts
+        (λ o rest e. moved depth all (keyword (codes "Map") w ∷ marked mark.OpenBracket o ∷ []) rest here (ap (λ z. keyword (codes "Map") w ∷ z) e) (λ n ws p. ctx.map_key n ws w o p))
+        (λ o l m rest q e. moved depth all (keyword (codes "Map") w ∷ marked mark.OpenBracket o ∷ (type_words l ++ marked mark.Comma m ∷ [])) rest here (ap (λ z. keyword (codes "Map") w ∷ z) e) (λ n ws p. ctx.map_value n ws w o depth l m q p)) in
+        says_then C (TwoOf ts) (BaseOf all) (r.two inner ts) _ two
+        (λ t rest a. (ap (λ z. keyword (codes "Map") w ∷ z) a.0 ∙ sym (simp append_assoc), g.map w t.opening t.left t.comma t.right t.closing a.1 a.2))
 
-pub type_sound : (d : ℕ) → Sound (TypeWithin d) type_words (type_at d)
-unfolding type_at
-type_sound zero = deep_sound (TypeWithin zero) type_words
-type_sound (suc d) = type_over_sound (TypeWithin d) (type_at d) (type_sound d)
+    pair_sound : (w : Span) (ts : Words) → Spot (suc depth) (keyword (codes "Pair") w ∷ ts) → Says C (BaseOf (keyword (codes "Pair") w ∷ ts)) (r.pair_type inner w ts)
+    pair_sound w ts here =
+        let all : Words = keyword (codes "Pair") w ∷ ts in
+        let two = two_sound ts
+        (λ o rest e. moved depth all (keyword (codes "Pair") w ∷ marked mark.OpenBracket o ∷ []) rest here (ap (λ z. keyword (codes "Pair") w ∷ z) e) (λ n ws p. ctx.pair_left n ws w o p))
+        (λ o l m rest q e. moved depth all (keyword (codes "Pair") w ∷ marked mark.OpenBracket o ∷ (type_words l ++ marked mark.Comma m ∷ [])) rest here (ap (λ z. keyword (codes "Pair") w ∷ z) e) (λ n ws p. ctx.pair_right n ws w o depth l m q p)) in
+        says_then C (TwoOf ts) (BaseOf all) (r.two inner ts) _ two
+        (λ t rest a. (ap (λ z. keyword (codes "Pair") w ∷ z) a.0 ∙ sym (simp append_assoc), g.pair w t.opening t.left t.comma t.right t.closing a.1 a.2))
+
+    reserved_sound : (w : List ℕ) (s : Span) (ts : Words) → Spot (suc depth) (keyword w s ∷ ts) → Says C (BaseOf (keyword w s ∷ ts)) (r.reserved inner w s ts)
+    unfolding r.reserved
+    reserved_sound w s ts here =
+        let all : Words = keyword w s ∷ ts in
+        let R : BaseType TypeTree → Words → Type 0 = BaseOf all in
+        let is : (v : List ℕ) → bytes_eq w v ≡ true → w ≡ v = λ v h. (bytes_eq-Decides w v).0 h in
+        says_cond C R (bytes_eq w (codes "Boolean")) _ _ (λ h. (ap (λ z. keyword z s ∷ ts) (is (codes "Boolean") h), g.boolean s)) (λ _.
+        says_cond C R (bytes_eq w (codes "Int")) _ _ (λ h. (ap (λ z. keyword z s ∷ ts) (is (codes "Int") h), g.int s)) (λ _.
+        says_cond C R (bytes_eq w (codes "String")) _ _ (λ h. (ap (λ z. keyword z s ∷ ts) (is (codes "String") h), g.str s)) (λ _.
+        says_cond C R (bytes_eq w (codes "File")) _ _ (λ h. (ap (λ z. keyword z s ∷ ts) (is (codes "File") h), g.file s)) (λ _.
+        says_cond C R (bytes_eq w (codes "Array")) _ _ (λ h. subst (λ z. Says C (BaseOf (keyword z s ∷ ts)) (r.array inner s ts)) (sym (is (codes "Array") h)) (array_sound s ts (subst (λ z. Spot (suc depth) (keyword z s ∷ ts)) (is (codes "Array") h) here))) (λ _.
+        says_cond C R (bytes_eq w (codes "Map")) _ _ (λ h. subst (λ z. Says C (BaseOf (keyword z s ∷ ts)) (r.map_type inner s ts)) (sym (is (codes "Map") h)) (map_sound s ts (subst (λ z. Spot (suc depth) (keyword z s ∷ ts)) (is (codes "Map") h) here))) (λ _.
+        says_cond C R (bytes_eq w (codes "Pair")) _ _ (λ h. subst (λ z. Says C (BaseOf (keyword z s ∷ ts)) (r.pair_type inner s ts)) (sym (is (codes "Pair") h)) (pair_sound s ts (subst (λ z. Spot (suc depth) (keyword z s ∷ ts)) (is (codes "Pair") h) here))) (λ _.
+        says_cond C R (bytes_eq w (codes "Float")) _ _ (λ h. left_out_at 120 (kind.Word w) s ts (suc depth) here (float_form w h)) (λ _.
+        says_cond C R (bytes_eq w (codes "Object")) _ _ (λ h. left_out_at 121 (kind.Word w) s ts (suc depth) here (object_form w h)) (λ _. tt)))))))))
+
+    base_from : (k : Kind) (s : Span) (ts : Words) → Spot (suc depth) (at k s ∷ ts) → Says C (BaseOf (at k s ∷ ts)) (r.base_of inner k s ts)
+    unfolding r.named_base
+    base_from (kind.Word w) s ts here = says_cond C (BaseOf (keyword w s ∷ ts)) (is_name w) _ _ (λ h. (refl, g.named (record { name = w; span = s }) h)) (λ _. reserved_sound w s ts here)
+    base_from _ s ts here = tt
+
+    base_sound : (ts : Words) → Spot (suc depth) ts → Says C (BaseOf ts) (r.base_at inner ts)
+    unfolding r.base_at
+    base_sound [] here = tt
+    base_sound (t ∷ ts) here = base_from t.kind t.span ts here
+
+    type_over_sound : (ts : Words) → Spot (suc depth) ts → Says C (Takes (IsTypeOver In) type_words ts) (r.type_over inner ts)
+    unfolding r.type_over
+    type_over_sound ts here = says_then C (BaseOf ts) (Takes (IsTypeOver In) type_words ts) (r.base_at inner ts) _ (base_sound ts here) (λ b rest a. (
+      a.0 ∙ ap (λ z. base_words type_words b ++ z) (questions_sound rest) ∙ sym (append_assoc (base_words type_words b) (questions_words (questions rest).0) (questions rest).1) ∙ ap (λ z. z ++ (questions rest).1) (sym (words_type b (questions rest).0)),
+      g.type_ b (questions rest).0 a.1,
+    ))
+
+  pub type_sound : (d : ℕ) (ts : Words) → Spot d ts → Says C (Takes (TypeWithin d) type_words ts) (type_at d ts)
+  unfolding type_at
+  type_sound zero = deep_sound
+  type_sound (suc d) = type_over_sound d (type_at d) (type_sound d)
+
+-- whatever faults there are
+pub type_takes : Sound (TypeWithin max_type_depth) type_words (type_at max_type_depth)
+type_takes ts = type_sound (λ _. Unit {0}) ts AnyFault (λ f b. tt) max_type_depth ts ([], 0, refl, ctx.type_root [] tt, refl)
 
 -- ---- a type is read
 

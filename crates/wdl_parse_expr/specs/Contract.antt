@@ -19,9 +19,9 @@ use Rattle.wdl_parse_expr.specs.declared.fault.Stop.{Stop}
 use Rattle.wdl_parse_expr.specs.declared.fault.Stop.TheVariants as stop
 use Rattle.wdl_parse_expr.specs.declared.tall.Rule.TheVariants as rule
 use Rattle.wdl_parse_expr.specs.Outcome.{Parser, then_}
-use Rattle.wdl_parse_expr.specs.Forms.{begins_form}
 use Rattle.wdl_parse_expr.specs.Grammar.{looseness, max_depth, IsExpr}
 use Rattle.wdl_parse_expr.specs.TypeGrammar.{max_type_depth, IsType}
+use Rattle.wdl_parse_expr.specs.Context.{Part, an_expr, Points, ExprCause, TypeCause}
 use Rattle.wdl_parse_expr.specs.Reading.{binary_of, parts, expr}
 use Rattle.wdl_parse_expr.specs.TypeReading.{type_at}
 
@@ -86,9 +86,12 @@ MayGoOn ts = (y : Expr) (rest : Words) → FrontsExpr ts y rest → expr_continu
 
 -- ---- refusals
 
--- One of the tokens has that span. With 111 reading met the limit of depth there; with 120 to 123 a form of that code begins with it.
-abbrev pub Blames : ℕ → Span → Words → Type 0
-Blames c s ts = (before : Words) × (t : Token) × (after : Words) × (ts ≡ before ++ t ∷ after) × (t.span ≡ s) × ((c ≡ 111) ⊎ (begins_form c t.kind after ≡ true))
+-- the whole is the expression, or the type
+abbrev pub AtStart : Part → Words → Type 0
+AtStart p ws = (p ≡ an_expr) × (ws ≡ [])
+
+abbrev pub AtFront : Words → Type 0
+AtFront ws = ws ≡ []
 
 -- one of the tokens has that span
 abbrev pub IsSpanOf : Words → Span → Type 0
@@ -101,11 +104,11 @@ IsPlaced ts s = (ts ≡ []) ⊎ IsSpanOf ts s
 -- Of all the tokens, those of the second list stand behind the place. 110, at one of the tokens, where no expression starts there; else the code is
 -- true of its token, and each expression that starts there may go on.
 abbrev pub RefusesExpr : Words → Words → ℕ → Span → Type 0
-RefusesExpr all ts c s = ((c ≡ 110) × IsPlaced all s × StartsNone IsExpr words ts) ⊎ (Blames c s ts × MayGoOn ts)
+RefusesExpr all ts c s = ((c ≡ 110) × IsPlaced all s × StartsNone IsExpr words ts) ⊎ (Points (ExprCause max_depth AtStart c) ts s × MayGoOn ts)
 
 -- no type starts there; 110 is said of one of the tokens, and any other code is true of its token
 abbrev pub RefusesType : Words → Words → ℕ → Span → Type 0
-RefusesType all ts c s = (((c ≡ 110) × IsPlaced all s) ⊎ Blames c s ts) × StartsNone IsType type_words ts
+RefusesType all ts c s = (((c ≡ 110) × IsPlaced all s) ⊎ Points (TypeCause AtFront c) ts s) × StartsNone IsType type_words ts
 
 abbrev pub IfBad : {A : Type 0} → (ℕ → Span → Type 0) → Result A ParseFault → Type 0
 IfBad P (Ok a) = Unit {0}

@@ -35,12 +35,14 @@ abbrev pub is_open_paren : Words → Bool
 is_open_paren [] = false
 is_open_paren (t ∷ ts) = is_mark mark.OpenParen t.kind
 
--- whether a form of that code begins with this token, before these others: a fraction, the type Float or Object, the word object, or the
--- call of a function that is left out
-abbrev pub begins_form : ℕ → Kind → Words → Bool
-begins_form c (kind.Frac w) ts = c == 120
-begins_form c (kind.Word w) ts =
-    (c == 120 && bytes_eq w (codes "Float"))
-    || (c == 121 && (bytes_eq w (codes "Object") || bytes_eq w (codes "object")))
-    || (is_open_paren ts && is_code c (left_out w))
-begins_form c _ ts = false
+-- whether a form of that code stands here as an expression, before these tokens: a fraction, the word object, or the call of a function that is
+-- left out
+abbrev pub expr_form : ℕ → Kind → Words → Bool
+expr_form c (kind.Frac w) ts = c == 120
+expr_form c (kind.Word w) ts = (c == 121 && bytes_eq w (codes "object")) || (is_open_paren ts && is_code c (left_out w))
+expr_form c _ ts = false
+
+-- the same as a type: Float or Object
+abbrev pub type_form : ℕ → Kind → Bool
+type_form c (kind.Word w) = (c == 120 && bytes_eq w (codes "Float")) || (c == 121 && bytes_eq w (codes "Object"))
+type_form c _ = false

@@ -2,6 +2,7 @@ pub mod Outcome
 pub mod Forms
 pub mod Grammar
 pub mod TypeGrammar
+pub mod Context
 pub mod Reading
 pub mod TypeReading
 pub mod Nests

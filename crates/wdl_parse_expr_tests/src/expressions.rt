@@ -185,7 +185,8 @@ const EXPRESSIONS: &str = "\
 a 1;a() 3;a(1,2) 6;a(1,) 1;a(1 1;(1) 3;(1,2) 5;[] 2;[1,2] 5;[1,] 4;{} 2;{1:2} 5;{1:2,3:4,} 10;\
 S{} 3;S{a:1,b:2,} 11;S{1:2} 1;S{a:1 1;\"' 2;\"#$1~#' 7;\"$p=\"#'1~' 10;\"$d=\"'1~' 9;\
 \"$T=\"#'X=\"'1~' 14;\"$X=\"'T=\"#'1~' 14;\"$p~' 5;^ 120 at 0;1+^ 120 at 2;z(a) 120 at 0;z 1;\
-o 121 at 0;w(a) 121 at 0;s(a) 122 at 0;(J(a)) 123 at 1";
+o 121 at 0;w(a) 121 at 0;s(a) 122 at 0;(J(a)) 123 at 1;w 1;s 1;\
+J 1;a.z 3;S{s:1} 6;S{s:^} 120 at 4";
 
 /// The same of choices, which take all that goes on behind `else`.
 const CHOICES: &str = "\
@@ -201,6 +202,7 @@ M[N,A[S?]]? 11;F 120 at 0;A[O] 121 at 2";
 
 /// Texts that are refused where a token fits no expression, or where they end, which the last token stands for.
 const MISFITS: &str = "\
+F 110 at 0;O 110 at 0;\
 iTt1 110 at 3;iT 110 at 1;! 110 at 0;N 110 at 0;i 110 at 0;) 110 at 0; 110 at 0;(1 110 at 1;\
 () 110 at 1;(1,2,3) 110 at 4;(1,) 110 at 3;[, 110 at 1;[1 110 at 1;[11] 110 at 2;{1} 110 at 2;\
 {1:2 110 at 3;{1, 110 at 2;(1: 110 at 2;[1e 110 at 2;[--) 110 at 3;[!t] 110 at 2;[1+] 110 at 3;\
@@ -221,6 +223,7 @@ const STRING_MISFITS: &str = "\
 
 /// The same of types.
 const TYPE_MISFITS: &str = "\
+^ 110 at 0;o 110 at 0;\
 1 110 at 0;i 110 at 0; 110 at 0;t 110 at 0;A 110 at 0;A1 110 at 1;A[N 110 at 2;A[] 110 at 2;\
 A[i] 110 at 2;A[N, 110 at 3;A[N) 110 at 3;M[N] 110 at 3;M[N,i] 110 at 4;MN 110 at 1;\
 M[N,N,N] 110 at 5;P[N,] 110 at 4;P[i,N] 110 at 2;A[A[N] 110 at 5;A[N1] 110 at 3";

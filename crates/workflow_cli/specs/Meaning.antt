@@ -9,9 +9,11 @@ use Rattle.wdl_typed.specs.declared.flow.FlowDef.{FlowDef}
 use Rattle.wdl_typed.specs.Flow.{whole}
 use Rattle.wdl_typed.specs.Journal.{inputs_fit}
 use Rattle.cwl_model.specs.declared.process.Process.{Process}
-use Rattle.cwl_model.specs.Means.{means}
+use Rattle.json_values.specs.Ordered.{is_ordered}
+use Rattle.cwl_model.specs.Means.{Named, means}
 use Rattle.cwl_image.specs.Image.{image}
 use Rattle.cwl_emit.specs.Reading.{cwl_of}
+use Rattle.cwl_formed.specs.Objects.{inputs_of, object_in}
 use Rattle.cwl_laws.specs.Simulation.{IsMeant, object_of}
 use Rattle.cwl_laws.specs.Tools.{AreStatuses}
 use Rattle.workflow_cli.specs.Documents.{Tells}
@@ -47,3 +49,17 @@ abbrev pub ObjectsMean : Type 0
 ObjectsMean =
     (tells : Tells) (file : List ℕ) (inputs : Option (List ℕ)) (text : List ℕ) (o : IsObjectOf tells file inputs text) (site : List ℕ) (table : List Row)
     → AreStatuses table → MeansFlow o.checked o.number o.flow o.given site table
+
+-- the text of a JSON value that reads as the object by the types of the inputs of the process, with members in byte order, and a
+-- newline
+pub record IsObjectText (p : Process) (object : List Named) (text : List ℕ) : Type 0 where
+  pub json : Data
+  pub ordered : is_ordered json ≡ true
+  pub reads : object_in (inputs_of p) json ≡ Some object
+  pub says : text ≡ compact_text json ++ codes "\n"
+
+-- The input object that is written reads as the object with which the process means what the flow gives for the inputs that were read.
+abbrev pub ObjectsRead : Type 0
+ObjectsRead =
+    (tells : Tells) (file : List ℕ) (inputs : Option (List ℕ)) (text : List ℕ) (o : IsObjectOf tells file inputs text)
+    → IsObjectText (image (library_of o.checked) o.number) (object_of o.given) text

@@ -1,15 +1,18 @@
 //! What the documents mean that are written: a law of the definitions, which says nothing of code.
 
-ghost use Rattle.workflow_cli.specs.Meaning.{DocumentsMean, DocumentsRead, ObjectsMean};
+ghost use Rattle.workflow_cli.specs.Meaning.{DocumentsMean, DocumentsRead, ObjectsMean, ObjectsRead};
 
 /// The CWL document that `cwl` writes is the text of a JSON value that reads as the process of the
 /// main workflow, and a newline. The process means what the workflow does (CWL v1.2, Workflow;
 /// OpenWDL 1.1, "Workflow Definition"): for inputs that fit and keep the limits, any site, and any
 /// table of answers with statuses below 256, the flow of the main workflow is clean exactly where
 /// the meaning of the process is complete, and then both have the same jobs and the same outputs.
-/// The same holds of the inputs whose CWL input object `cwl --inputs` writes.
+/// The same holds of the inputs whose CWL input object `cwl --inputs` writes: that is the text of a
+/// JSON value that reads, by the types of the inputs of the process, as the object with which the
+/// process means this (CWL v1.2, "Executing CWL documents as scripts"), and a newline.
 pub fn documents_mean()
     ensures read { DocumentsRead }
     ensures documents { DocumentsMean }
     ensures objects { ObjectsMean }
+    ensures objects_read { ObjectsRead }
 {}

@@ -1,7 +1,0 @@
-//! Tests of processes as JSON, in a crate of their own: the gate proves a crate once more for the tests in it.
-#![tactic(auto)]
-
-#[cfg(test)]
-mod documents;
-#[cfg(test)]
-mod notation;

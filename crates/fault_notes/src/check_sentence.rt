@@ -1,0 +1,95 @@
+//! Sentences on scope and types.
+
+use crate::call_sentence::{input_missing, input_unknown, unknown_task};
+use crate::name_sentence::{duplicate, not_a_value, unknown_name, unknown_type};
+use crate::scene::Scene;
+use crate::value_sentence::{
+    bad_arguments, bad_operands, expected, members_differ, no_coercion, no_member,
+};
+use std::alloc::Global;
+use wdl_library::Library;
+use wdl_value::{NoMemory, Span};
+
+/// What a placeholder takes.
+const PLACEHOLDER: &str =
+    "Boolean, Int, String or File in a placeholder, an array of these behind `sep`, a Boolean \
+     behind `true` and `false`, or one of these or an optional behind `default`";
+
+/// What is said behind the text at a fault.
+fn behind_words(code: u16) -> &'static str {
+    match code {
+        302 => "is no function that this language has",
+        309 => "can be called in the outputs of a task alone; let a task read the file",
+        311 => {
+            "is no such value: `returnCodes` is an Int, an array of Int or `\"*\"`, and \
+             `maxRetries` an Int"
+        }
+        312 => {
+            "can be called as the whole value of a private declaration of a task, or of a \
+             placeholder of its command, alone"
+        }
+        320 => {
+            "depends on itself, or on others that depend on it; a block depends on all that its \
+             body does"
+        }
+        330 => "holds itself, or structs hold one another on more than 32 levels",
+        _ => "breaks a rule of the language",
+    }
+}
+
+/// The sentences that name nothing.
+fn fixed(code: u16) -> &'static str {
+    match code {
+        327 => "the document has no workflow to run",
+        328 => {
+            "this is nested too deeply: expected at most 24 blocks and calls inside one another, \
+             those of called workflows too"
+        }
+        _ => "this breaks a rule of the language",
+    }
+}
+
+/// The text at a fault with what is said of it.
+fn of_words(alloc: Global, scene: &Scene, code: u16) -> Result<String, NoMemory> {
+    let quote = scene.quote(alloc)?;
+    let said = behind_words(code);
+    Ok(format!(in alloc; "{} {said}", quote.as_str())?)
+}
+
+fn sentence_on(alloc: Global, scene: &Scene, code: u16) -> Result<String, NoMemory> {
+    match code {
+        301 => unknown_name(alloc, scene),
+        303 => no_coercion(alloc, scene),
+        304 => bad_operands(alloc, scene),
+        305 => bad_arguments(alloc, scene),
+        306 => no_member(alloc, scene),
+        307 => not_a_value(alloc, scene),
+        308 => expected(alloc, scene, PLACEHOLDER),
+        310 => members_differ(alloc, scene),
+        321 => duplicate(alloc, scene),
+        322 => unknown_task(alloc, scene),
+        323 => input_missing(alloc, scene),
+        324 => input_unknown(alloc, scene),
+        325 => expected(alloc, scene, "a Boolean as the condition of `if`"),
+        326 => expected(alloc, scene, "an array to scatter over"),
+        329 => unknown_type(alloc, scene),
+        302 | 309 | 311 | 312 | 320 | 330 => of_words(alloc, scene, code),
+        _ => Ok(String::from_str(alloc, fixed(code))?),
+    }
+}
+
+/// The sentence on a code of 301 to 330. Where there is no library it names nothing of it.
+pub fn check_sentence(
+    alloc: Global,
+    code: u16,
+    bytes: &[u8],
+    span: Span,
+    library: Option<&Library>,
+) -> Result<String, NoMemory> {
+    if let Some(library) = library {
+        if let Some(scene) = Scene::new(alloc, library, bytes, span)? {
+            return sentence_on(alloc, &scene, code);
+        }
+    }
+    Ok(String::from_str(alloc, fixed(code))?)
+}

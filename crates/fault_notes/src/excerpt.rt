@@ -1,0 +1,127 @@
+//! The line of the source in which a fault begins, and a line of carets below it.
+
+use crate::position::bytes_before;
+use std::alloc::Global;
+use wdl_value::{NoMemory, Span};
+
+/// The most bytes of a line that are shown on either side of where a fault begins.
+const MOST_SHOWN: usize = 200;
+
+/// A line in three pieces: before a span, in it, and behind it.
+struct Pieces<'a> {
+    before: &'a [u8],
+    marked: &'a [u8],
+    behind: &'a [u8],
+}
+
+/// What stands behind the last newline.
+fn last_line(bytes: &[u8]) -> &[u8] {
+    match bytes.iter().rposition(|byte| *byte == b'\n') {
+        Some(newline) => &bytes[newline + 1..],
+        None => bytes,
+    }
+}
+
+/// What stands before the first newline.
+fn first_line(bytes: &[u8]) -> &[u8] {
+    match bytes.iter().position(|byte| *byte == b'\n') {
+        Some(newline) => &bytes[..newline],
+        None => bytes,
+    }
+}
+
+/// The line in which a span begins.
+fn pieces_of(bytes: &[u8], span: Span) -> Pieces<'_> {
+    let head = bytes_before(bytes, span.start);
+    let rest = first_line(&bytes[head.len()..]);
+    let marked = bytes_before(rest, span.end.saturating_sub(span.start));
+    Pieces {
+        before: last_line(head),
+        marked,
+        behind: &rest[marked.len()..],
+    }
+}
+
+/// The end of a text, and whether more stands before it.
+fn cut_front(text: &str) -> (&'static str, &str) {
+    if text.len() <= MOST_SHOWN {
+        return ("", text);
+    }
+    (
+        "..",
+        &text[text.floor_char_boundary(text.len() - MOST_SHOWN)..],
+    )
+}
+
+/// The beginning of a text, and whether more stands behind it.
+fn cut_back(text: &str, most: usize) -> (&str, &'static str) {
+    if text.len() <= most {
+        return (text, "");
+    }
+    (&text[..text.floor_char_boundary(most)], "..")
+}
+
+/// Appends the characters of a line as they are shown: tabs stay, carriage returns go, and each
+/// other control character becomes U+FFFD, so that no document can steer a terminal.
+fn push_shown(line: &mut String, text: &str) -> Result<(), NoMemory> {
+    for c in text.chars() {
+        if c != '\r' {
+            line.push(if c.is_control() && c != '\t' {
+                '\u{FFFD}'
+            } else {
+                c
+            })?;
+        }
+    }
+    Ok(())
+}
+
+/// Appends a mark for each character that is shown, and a tab for a tab.
+fn push_marks(line: &mut String, text: &str, mark: char) -> Result<(), NoMemory> {
+    for c in text.chars() {
+        if c != '\r' {
+            line.push(if c == '\t' { '\t' } else { mark })?;
+        }
+    }
+    Ok(())
+}
+
+/// Appends a caret for each character of a span; one where it has none.
+fn push_carets(line: &mut String, marked: &str) -> Result<(), NoMemory> {
+    if marked.trim_ascii().is_empty() {
+        line.push('^')?;
+        return Ok(());
+    }
+    push_marks(line, marked, '^')
+}
+
+/// The line in which a span begins, and below it a caret under each character of the span in that
+/// line. A long line is cut. Bytes that are not UTF-8 are shown as U+FFFD.
+pub fn excerpt(alloc: Global, bytes: &[u8], span: Span) -> Result<String, NoMemory> {
+    let Pieces {
+        before,
+        marked,
+        behind,
+    } = pieces_of(bytes, span);
+    let before = String::from_utf8_lossy(alloc, before)?;
+    let marked = String::from_utf8_lossy(alloc, marked)?;
+    let behind = String::from_utf8_lossy(alloc, behind)?;
+    let (more_before, before) = cut_front(before.as_str());
+    let (marked, more_marked) = cut_back(marked.as_str(), MOST_SHOWN);
+    let (behind, more_behind) = cut_back(behind.as_str(), MOST_SHOWN.saturating_sub(marked.len()));
+    let mut lines = String::from_str(alloc, more_before)?;
+    push_shown(&mut lines, before)?;
+    push_shown(&mut lines, marked)?;
+    if more_marked.is_empty() {
+        push_shown(&mut lines, behind)?;
+        lines.push_str(more_behind)?;
+    } else {
+        lines.push_str(more_marked)?;
+    }
+    lines.push('\n')?;
+    push_marks(&mut lines, more_before, ' ')?;
+    push_marks(&mut lines, before, ' ')?;
+    push_carets(&mut lines, marked)?;
+    lines.push('\n')?;
+    Ok(lines)
+}

@@ -1,0 +1,26 @@
+//! What a person is told of a fault in a document: its place, a sentence and the line of the
+//! source.
+#![tactic(auto)]
+
+mod call_sentence;
+mod check_sentence;
+mod entry;
+mod excerpt;
+mod function;
+mod import_sentence;
+mod laws;
+mod listed;
+mod name_sentence;
+mod note;
+mod part;
+mod position;
+mod quoted;
+mod scene;
+mod subset_sentence;
+mod text_sentence;
+mod type_text;
+mod value_sentence;
+
+pub use laws::columns_count_characters;
+pub use note::document_note;
+pub use position::{Position, position_of};
