@@ -316,6 +316,7 @@ script() {
 script program
 script moving
 script workers
+script security
 script notes
 script page examples/FIRST.md
 script cwl
