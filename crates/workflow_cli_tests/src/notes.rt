@@ -20,7 +20,9 @@ $ check a.wdl
 notes 10000
 > 3 0
 > ! b.wdl:29..30: 110 Unexpected
-TEXT_NOTE
+> # b.wdl:2:18: error 110 Unexpected: `=` is not expected here
+> # workflow w { Int = 1 }
+> #                  ^
 
 version workflow w { input { Int cap } }
 file w.wdl
@@ -29,7 +31,7 @@ $ run --inputs i.json w.wdl
 notes 10000
 > 4 0
 > ! inputs: 405 DoesNotFit w.cap
-INPUT_NOTE"#;
+> # input `w.cap`: expected Int, found "12""#;
 
 #[test]
 fn a_person_is_told_where_a_fault_is(rt: HostRuntime) -> Result<(), Fail> {
