@@ -103,7 +103,7 @@ pub fn no_coercion(alloc: Global, scene: &Scene) -> Result<String, NoMemory> {
             return Ok(format!(in alloc; "`{name}`: expected `{}`, {found}", ty.as_str())?);
         }
     }
-    Ok(format!(in alloc; "this value has another type than the one that is wanted here: {found}")?)
+    Ok(format!(in alloc; "this value has not the type that is wanted here: {found}")?)
 }
 
 /// 304.
