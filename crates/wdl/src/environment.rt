@@ -1,5 +1,6 @@
 //! What the program reads of its environment.
 use either::Either;
+use run_notes::Style;
 use std::env::{Env, VarError};
 use std::io::{ErrorKind, IsTerminal};
 use std::{env, io};
@@ -53,5 +54,14 @@ pub(crate) fn note_stream<R: Env + AllocGlobal, W: IsTerminal + Drop>(
         Either::Left(stream)
     } else {
         Either::Right(io::sink())
+    }
+}
+
+/// Returns how the lines of a run look: on a terminal the counts stay on one line below the others.
+pub(crate) fn style_of<W: IsTerminal>(stream: &W) -> Style {
+    if stream.is_terminal() {
+        Style::Terminal
+    } else {
+        Style::Lines
     }
 }

@@ -5,10 +5,11 @@ ghost use Rattle.std.specs.Prelude.{◌≡◌, ◌<◌, None};
 
 mod environment;
 
-use environment::{note_stream, shell};
+use environment::{note_stream, shell, style_of};
 use job_launcher::ShellLauncher;
 use keeper_sql::SqlKeeper;
 use report_text::{Status, no_memory_line, number_of};
+use run_notes::Style;
 use std::alloc::Global;
 use std::env;
 use std::env::Env;
@@ -56,6 +57,7 @@ fn number<
     out: &mut O,
     err: &mut E,
     notes: &mut N,
+    style: Style,
     launcher: &L,
     keeper: &mut K,
     blank: Blank,
@@ -67,7 +69,7 @@ fn number<
 {
     let mut steps: Steps<S> = Steps::start(blank);
     let ended = workflow(
-        rt, alloc, words, shelf, out, err, notes, launcher, keeper, &mut steps,
+        rt, alloc, words, shelf, out, err, notes, style, launcher, keeper, &mut steps,
     );
     number_of(&ended.status)
 }
@@ -81,7 +83,9 @@ fn main(rt: HostRuntime) -> ExitCode {
     };
     let mut shelf = RecallingShelf::new(alloc, FileShelf::new(&rt));
     let mut out = StreamSink::new(rt.stdout());
-    let mut notes = StreamSink::new(note_stream(&rt, rt.stderr()));
+    let stream = rt.stderr();
+    let style = style_of(&stream);
+    let mut notes = StreamSink::new(note_stream(&rt, stream));
     let launcher = ShellLauncher::new(&rt, shell);
     let mut keeper = SqlKeeper::new(&rt);
     let number = number::<_, _, _, _, _, _, _, Brand>(
@@ -92,6 +96,7 @@ fn main(rt: HostRuntime) -> ExitCode {
         &mut out,
         &mut err,
         &mut notes,
+        style,
         &launcher,
         &mut keeper,
         Blank::new(1),

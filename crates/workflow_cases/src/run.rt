@@ -1,6 +1,7 @@
 ghost use Rattle.std.specs.Prelude.{◌≡◌, ◌<◌, None};
 
 use crate::reading::Case;
+use run_notes::Style;
 use std::alloc::Global;
 use std::marker::Brand;
 use std::sync::Wait;
@@ -41,7 +42,17 @@ fn run<L: Launcher + Sync, K: Keeper, R: Threads + Wait + Clock + Sync, S: Ledge
 {
     let mut steps: Steps<S> = Steps::start(blank);
     workflow(
-        rt, alloc, words, shelf, out, err, notes, launcher, keeper, &mut steps,
+        rt,
+        alloc,
+        words,
+        shelf,
+        out,
+        err,
+        notes,
+        Style::Lines,
+        launcher,
+        keeper,
+        &mut steps,
     )
 }
 

@@ -187,6 +187,7 @@ fn run_plain<L: Launcher + Sync, N: Sink, R: Threads + Wait + Clock + Sync, S: L
     options: &RunOptions,
     launcher: &L,
     notes: &mut N,
+    style: Style,
     steps: &mut Steps<S>,
 ) -> Worked
     requires fitting { (f : Flow) × IsFitting prepared.checked prepared.given f }
@@ -200,7 +201,7 @@ fn run_plain<L: Launcher + Sync, N: Sink, R: Threads + Wait + Clock + Sync, S: L
     let Ok(Begun { core, name }) = begin(alloc, prepared, &options.root, steps) else {
         return idle(alloc, Work::Stop(stop(alloc, Status::NoMemory)));
     };
-    let mut progress = RunNotes::new(alloc, notes, rt, Style::Lines);
+    let mut progress = RunNotes::new(alloc, notes, rt, style);
     let ran = run_all(
         rt,
         alloc,
@@ -226,6 +227,7 @@ fn run_over<L: Launcher + Sync, K: Keeper, N: Sink, R: Threads + Wait + Clock + 
     launcher: &L,
     keeper: &mut K,
     notes: &mut N,
+    style: Style,
     steps: &mut Steps<S>,
 ) -> Worked
     requires fitting { (f : Flow) × IsFitting prepared.checked prepared.given f }
@@ -243,7 +245,7 @@ fn run_over<L: Launcher + Sync, K: Keeper, N: Sink, R: Threads + Wait + Clock + 
     let Ok(Begun { core, name }) = begin(alloc, prepared, &options.root, steps) else {
         return idle(alloc, Work::Stop(stop(alloc, Status::NoMemory)));
     };
-    let mut progress = RunNotes::new(alloc, notes, rt, Style::Lines);
+    let mut progress = RunNotes::new(alloc, notes, rt, style);
     let ran = run_all(
         rt,
         alloc,
@@ -268,6 +270,7 @@ fn run_main<L: Launcher + Sync, K: Keeper, N: Sink, R: Threads + Wait + Clock + 
     launcher: &L,
     keeper: &mut K,
     notes: &mut N,
+    style: Style,
     steps: &mut Steps<S>,
 ) -> Worked
     requires fitting { (f : Flow) × IsFitting prepared.checked prepared.given f }
@@ -280,11 +283,11 @@ fn run_main<L: Launcher + Sync, K: Keeper, N: Sink, R: Threads + Wait + Clock + 
     ensures keeper { (keeper.new ≡ keeper.old) ⊎ NamesJournal options.now.journal (K.path keeper.new) }
 {
     let Some(path) = &options.journal else {
-        return run_plain(rt, alloc, prepared, options, launcher, notes, steps);
+        return run_plain(rt, alloc, prepared, options, launcher, notes, style, steps);
     };
     match rows_of(alloc, path, keeper) {
         Ok(rows) => run_over(
-            rt, alloc, prepared, options, rows, launcher, keeper, notes, steps,
+            rt, alloc, prepared, options, rows, launcher, keeper, notes, style, steps,
         ),
         Err(status) => idle(alloc, Work::Stop(stop(alloc, status))),
     }
@@ -308,6 +311,7 @@ pub fn run<
     launcher: &L,
     keeper: &mut K,
     notes: &mut N,
+    style: Style,
     steps: &mut Steps<S>,
 ) -> Worked
     requires workers { (1 ≤ options.now.workers) × (options.now.workers ≤ 64) }
@@ -320,7 +324,9 @@ pub fn run<
     ensures keeper { (keeper.new ≡ keeper.old) ⊎ NamesJournal options.now.journal (K.path keeper.new) }
 {
     match start_of(alloc, file, inputs, shelf) {
-        Ok(prepared) => run_main(rt, alloc, prepared, options, launcher, keeper, notes, steps),
+        Ok(prepared) => run_main(
+            rt, alloc, prepared, options, launcher, keeper, notes, style, steps,
+        ),
         Err(stop) => idle(alloc, Work::Stop(stop)),
     }
 }

@@ -16,6 +16,7 @@ use crate::finish::finish;
 use crate::note::write_note;
 use crate::recall::Recall;
 use crate::work::work;
+use run_notes::Style;
 use std::alloc::Global;
 use std::sync::Wait;
 use std::sync::ledger::Ledger;
@@ -34,7 +35,7 @@ use wdl_value::Steps;
 /// which have other spellings, a text of the program and a newline. With another status its line is written to `err`.
 ///
 /// `notes` gets what a person is told of a run as it goes on, and of why a command does no more. Nothing is promised of it here, and
-/// nothing depends on whether a write to it fails.
+/// nothing depends on whether a write to it fails. `style` says how the lines of a run look.
 ///
 /// Not built yet are `load` and `bundle`.
 pub fn workflow<
@@ -54,6 +55,7 @@ pub fn workflow<
     out: &mut O,
     err: &mut E,
     notes: &mut N,
+    style: Style,
     launcher: &L,
     keeper: &mut K,
     steps: &mut Steps<S>,
@@ -128,7 +130,9 @@ pub fn workflow<
         journal,
         steps: taken,
         counts,
-    } = work(rt, alloc, words, shelf, launcher, keeper, notes, steps);
+    } = work(
+        rt, alloc, words, shelf, launcher, keeper, notes, style, steps,
+    );
     write_note(&work, notes);
     let status = finish(alloc, work, out, err);
     Ended {

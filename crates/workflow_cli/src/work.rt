@@ -15,6 +15,7 @@ use crate::printing::{form, printed};
 use crate::recall::Recall;
 use crate::run::{idle, run};
 use report_text::Status;
+use run_notes::Style;
 use std::alloc::Global;
 use std::sync::Wait;
 use std::sync::ledger::Ledger;
@@ -54,6 +55,7 @@ pub fn work<
     launcher: &L,
     keeper: &mut K,
     notes: &mut N,
+    style: Style,
     steps: &mut Steps<S>,
 ) -> Worked
     requires fresh { K.path keeper.old ≡ None }
@@ -73,7 +75,7 @@ pub fn work<
                 options,
             },
         ) => run(
-            rt, alloc, &file, &inputs, &options, shelf, launcher, keeper, notes, steps,
+            rt, alloc, &file, &inputs, &options, shelf, launcher, keeper, notes, style, steps,
         ),
         Ok(Command::Check { file }) => idle(alloc, accepted(alloc, &file, shelf)),
         Ok(Command::Cwl { file, inputs }) => idle(alloc, cwl(alloc, &file, &inputs, shelf)),
