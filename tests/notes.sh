@@ -122,6 +122,10 @@ noted run --root "$work/run" --journal journal one.wdl
 grep -qF 'say: kept from the journal' err && pass || fail "a run that goes on: $(cat err)"
 "$program" run --root "$work/run" one.wdl >out 2>err </dev/null
 same "a run without notes" '{"one.r":"hello"}' "$(cat out err)"
+# On a terminal each event clears the line of the counts, which is drawn again below it.
+on_terminal run --root "$work/run" one.wdl
+clear=$(printf '\033[K')
+grep -qF "${clear}say: started" seen && grep -qF '[0 done, 1 running]' seen && pass || fail "a run on a terminal: $(cat seen)"
 printf '{"two.status":"7"}' >i.json
 noted run --root "$work/run" --inputs i.json two.wdl
 same "inputs: the line" "4 inputs: 405 DoesNotFit two.status" "$status $(tail -n 1 err)"
