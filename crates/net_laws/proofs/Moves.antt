@@ -22,7 +22,7 @@ use Rattle.net_laws.specs.Net.{Given, Mark, Scope, Slot, Work, both_works, ended
 use Rattle.net_laws.specs.Planned.{call_names, counted}
 use Rattle.net_laws.specs.Rules.{Follows, head, own_sight}
 use Rattle.net_laws.specs.Growing.{AllEnding, AllGathered, CallNeeded, Copied, Declared, Ending, EndsAt, Form, Gathered, Growing, HasCells, IsDone, IsLeft, IsNamed, IsOutside, IsPlain, IsWaiting, Item, Keeps, KeepsCells, MarksCopied, NamesNeeded, OutputsCopied, Owns, Rule, SlotsCopied, State, absent_input, are_set, copies, declares, default_input, does, each_scatter, ends, failed_if, failed_scatter, false_if, flow_whole, gathers, given_input, is_set, item_next, left_call, left_decl, left_if, left_scatter, mark_cell, next, no_input, no_item, no_output, none_left, one, only, output_next, run_call, slot_cell, told_call, told_decl, true_if}
-use Rattle.net_laws.specs.Moving.{AskedAt, Grows, IsWeight, Turn, TurnWeighs, Untouched, at_step, declared_at, hit}
+use Rattle.net_laws.specs.Moving.{AskedAt, Grows, IsWeight, Turn, TurnLeaves, TurnWeighs, Untouched, at_step, declared_at, hit}
 use Rattle.net_laws.specs.Works.{told_work, work_of}
 use Rattle.net_laws.proofs.Calls.{call_layer, listed, no_call, plain_same}
 use Rattle.net_laws.proofs.Grown.{call_rows_same}
@@ -307,6 +307,20 @@ module _ (lib : Library) (site : List ℕ) (rows later : List Row) (desc more : 
     moved (output_next depth x xs s h c d p) = output_next depth x xs s h c (declared_moved x.name x.value s c d) (moved p)
     moved (flow_whole depth f given place i b_ o ds p q r) = flow_whole depth f given place i b_ o ds (moved p) (moved q) (moved r)
 
+    -- ---- a leaf of the step, and one of another
+
+    struck : (old new u n w : ℕ) → u ≡ t → n + old ≡ w + new → n + hit t old u ≡ w + hit t new u
+    struck old new u n w e h =
+        let i : hit t old u ≡ old = ap (λ (b_ : Bool). cond b_ old 0) (eq-eqb u t e) in
+        let j : hit t new u ≡ new = ap (λ (b_ : Bool). cond b_ new 0) (eq-eqb u t e) in
+        omega (arith, h, i, j)
+
+    spared : (old new u n w : ℕ) → (u ≡ t → ⊥) → n ≡ w → n + hit t old u ≡ w + hit t new u
+    spared old new u n w e h =
+        let i : hit t old u ≡ 0 = ap (λ (b_ : Bool). cond b_ old 0) (ne_eqb u t e) in
+        let j : hit t new u ≡ 0 = ap (λ (b_ : Bool). cond b_ new 0) (ne_eqb u t e) in
+        omega (arith, h, i, j)
+
     -- ---- what a move adds to the work
 
     module _ (weight : Work → ℕ) (is_weight : IsWeight weight) (old new : ℕ) (adds : TurnWeighs lib site rows later desc more a b t turn weight old new) where
@@ -322,19 +336,6 @@ module _ (lib : Library) (site : List ℕ) (rows later : List Row) (desc more : 
       abbrev beyond_ : {depth : ℕ} {f : Form} → Old depth f → ℕ
       beyond_ p = at_step lib site rows desc a t new p
 
-      -- a leaf of the step, and one of another
-      struck : (u n w : ℕ) → u ≡ t → n + old ≡ w + new → n + hit t old u ≡ w + hit t new u
-      struck u n w e h =
-          let i : hit t old u ≡ old = ap (λ (b_ : Bool). cond b_ old 0) (eq-eqb u t e) in
-          let j : hit t new u ≡ new = ap (λ (b_ : Bool). cond b_ new 0) (eq-eqb u t e) in
-          omega (arith, h, i, j)
-
-      spared : (u n w : ℕ) → (u ≡ t → ⊥) → n ≡ w → n + hit t old u ≡ w + hit t new u
-      spared u n w e h =
-          let i : hit t old u ≡ 0 = ap (λ (b_ : Bool). cond b_ old 0) (ne_eqb u t e) in
-          let j : hit t new u ≡ 0 = ap (λ (b_ : Bool). cond b_ new 0) (ne_eqb u t e) in
-          omega (arith, h, i, j)
-
       from_none : (n w m : ℕ) → w ≡ 0 → n + old ≡ m → n + old ≡ w + m
       from_none n w m e h = omega (arith, e, h)
 
@@ -342,38 +343,38 @@ module _ (lib : Library) (site : List ℕ) (rows later : List Row) (desc more : 
           → now (decl_turned depth x s c u left n k at) + hit t old u ≡ weight no_work + hit t new u
       unfolding decl_turned
       decl_weighs depth x s c u left n k (inl e) =
-          struck u _ _ e (from_none _ _ _ is_weight.nothing (adds.decl depth x s c (subst (λ (m : ℕ). OldLeft m (does (stmt.Decl x) s (only x.name c) c)) e left) (subst (λ (m : ℕ). NamesNeeded a m s x.value) e n) (subst (λ (m : ℕ). Keeps a m c) e k)))
-      decl_weighs depth x s c u left n k (inr e) = spared u _ _ e refl
+          struck old new u _ _ e (from_none _ _ _ is_weight.nothing (adds.decl depth x s c (subst (λ (m : ℕ). OldLeft m (does (stmt.Decl x) s (only x.name c) c)) e left) (subst (λ (m : ℕ). NamesNeeded a m s x.value) e n) (subst (λ (m : ℕ). Keeps a m c) e k)))
+      decl_weighs depth x s c u left n k (inr e) = spared old new u _ _ e refl
 
       call_weighs : (depth : ℕ) (x : TCall) (s : Scope) (g : Given) (d u : ℕ) (left : OldLeft u (does (stmt.Call x) s g d)) (n : CallNeeded a u s x) (is : IsNamed (call_names lib x) g) (ends_ : EndsAt x g d)
           (k : KeepsCells lib site rows desc a u g d) (at : (u ≡ t) ⊎ (u ≡ t → ⊥)) → now (call_turned depth x s g d u left n is ends_ k at) + hit t old u ≡ weight no_work + hit t new u
       unfolding call_turned
       call_weighs depth x s g d u left n is ends_ k (inl e) =
-          struck u _ _ e (from_none _ _ _ is_weight.nothing (adds.call depth x s g d (subst (λ (m : ℕ). OldLeft m (does (stmt.Call x) s g d)) e left) (subst (λ (m : ℕ). CallNeeded a m s x) e n) is ends_
+          struck old new u _ _ e (from_none _ _ _ is_weight.nothing (adds.call depth x s g d (subst (λ (m : ℕ). OldLeft m (does (stmt.Call x) s g d)) e left) (subst (λ (m : ℕ). CallNeeded a m s x) e n) is ends_
           (subst (λ (m : ℕ). KeepsCells lib site rows desc a m g d) e k)))
-      call_weighs depth x s g d u left n is ends_ k (inr e) = spared u _ _ e refl
+      call_weighs depth x s g d u left n is ends_ k (inr e) = spared old new u _ _ e refl
 
       scatter_weighs : (depth : ℕ) (x : TScatter Statement) (s : Scope) (g : Given) (d u : ℕ) (left : OldLeft u (does (stmt.Scatter x) s g d)) (n : NamesNeeded a u s x.over) (out : IsOutside lib site rows desc a x.body g)
           (k : KeepsCells lib site rows desc a u g d) (at : (u ≡ t) ⊎ (u ≡ t → ⊥)) → now (scatter_turned depth x s g d u left n out k at) + hit t old u ≡ weight no_work + hit t new u
       unfolding scatter_turned
       scatter_weighs depth x s g d u left n out k (inl e) =
-          struck u _ _ e (from_none _ _ _ is_weight.nothing (adds.scatter depth x s g d (subst (λ (m : ℕ). OldLeft m (does (stmt.Scatter x) s g d)) e left) (subst (λ (m : ℕ). NamesNeeded a m s x.over) e n) out
+          struck old new u _ _ e (from_none _ _ _ is_weight.nothing (adds.scatter depth x s g d (subst (λ (m : ℕ). OldLeft m (does (stmt.Scatter x) s g d)) e left) (subst (λ (m : ℕ). NamesNeeded a m s x.over) e n) out
           (subst (λ (m : ℕ). KeepsCells lib site rows desc a m g d) e k)))
-      scatter_weighs depth x s g d u left n out k (inr e) = spared u _ _ e refl
+      scatter_weighs depth x s g d u left n out k (inr e) = spared old new u _ _ e refl
 
       if_weighs : (depth : ℕ) (x : TIf Statement) (s : Scope) (g : Given) (d u : ℕ) (left : OldLeft u (does (stmt.If x) s g d)) (n : NamesNeeded a u s x.cond) (out : IsOutside lib site rows desc a x.body g)
           (k : KeepsCells lib site rows desc a u g d) (at : (u ≡ t) ⊎ (u ≡ t → ⊥)) → now (if_turned depth x s g d u left n out k at) + hit t old u ≡ weight no_work + hit t new u
       unfolding if_turned
       if_weighs depth x s g d u left n out k (inl e) =
-          struck u _ _ e (from_none _ _ _ is_weight.nothing (adds.condition depth x s g d (subst (λ (m : ℕ). OldLeft m (does (stmt.If x) s g d)) e left) (subst (λ (m : ℕ). NamesNeeded a m s x.cond) e n) out
+          struck old new u _ _ e (from_none _ _ _ is_weight.nothing (adds.condition depth x s g d (subst (λ (m : ℕ). OldLeft m (does (stmt.If x) s g d)) e left) (subst (λ (m : ℕ). NamesNeeded a m s x.cond) e n) out
           (subst (λ (m : ℕ). KeepsCells lib site rows desc a m g d) e k)))
-      if_weighs depth x s g d u left n out k (inr e) = spared u _ _ e refl
+      if_weighs depth x s g d u left n out k (inr e) = spared old new u _ _ e refl
 
       told_weighs : (depth : ℕ) (x : TCall) (s : Scope) (g : Given) (d : ℕ) (w : Work) (u : ℕ) (q : AskedAt lib site rows later desc more a b depth x s g d w u) (at : (u ≡ t) ⊎ (u ≡ t → ⊥))
           → now (told_turned depth x s g d w u q at) + hit t old u ≡ weight w + hit t new u
       unfolding told_turned call_kept
-      told_weighs depth x s g d w u q (inl e) = struck u _ _ e (adds.told depth x s g d w (subst (AskedAt lib site rows later desc more a b depth x s g d w) e q))
-      told_weighs depth x s g d w u q (inr e) = spared u _ _ e refl
+      told_weighs depth x s g d w u q (inl e) = struck old new u _ _ e (adds.told depth x s g d w (subst (AskedAt lib site rows later desc more a b depth x s g d w) e q))
+      told_weighs depth x s g d w u q (inr e) = spared old new u _ _ e refl
 
       declared_weighs : (name : List ℕ) (e : TExpr) (s : Scope) (c : ℕ) (d : Declared lib site rows desc a name e s c)
           → weight (told_work lib site later more b name e s c (declared_moved name e s c d)) + declared_at lib site rows desc a t old name e s c d
@@ -383,8 +384,8 @@ module _ (lib : Library) (site : List ℕ) (rows later : List Row) (desc more : 
         where
           go : (at : (u ≡ t) ⊎ (u ≡ t → ⊥)) → weight (told_work lib site later more b name e s c (declared_turned name e s c u n p.0 p.1 at)) + hit t old u ≡ weight no_work + hit t new u
           go (inl i) =
-              struck u _ _ i (from_none _ _ _ is_weight.nothing (adds.declared name e s c (subst (λ (m : ℕ). OldLeft m (declares name e s c)) i p.0) (subst (λ (m : ℕ). NamesNeeded a m s e) i n) (subst (λ (m : ℕ). Keeps a m c) i p.1)))
-          go (inr i) = spared u _ _ i refl
+              struck old new u _ _ i (from_none _ _ _ is_weight.nothing (adds.declared name e s c (subst (λ (m : ℕ). OldLeft m (declares name e s c)) i p.0) (subst (λ (m : ℕ). NamesNeeded a m s e) i n) (subst (λ (m : ℕ). Keeps a m c) i p.1)))
+          go (inr i) = spared old new u _ _ i refl
       declared_weighs name e s c (u, n, inr p) = refl
 
       pub weighed : {depth : ℕ} {f : Form} (p : Old depth f) → now (moved p) + before p ≡ was p + beyond_ p
@@ -465,3 +466,97 @@ module _ (lib : Library) (site : List ℕ) (rows later : List Row) (desc more : 
           let w3 = is_weight.both was_r no_work in
           let w4 = is_weight.more (length f.body) was_q in
           omega (arith, i, j, k, v1, v2, v3, v4, w1, w2, w3, w4)
+
+    -- ---- what a move adds to the leaves of a step
+
+    module _ (v k old new : ℕ) (adds : TurnLeaves lib site rows later desc more a b t turn v k old new) where
+      abbrev has : {depth : ℕ} {f : Form} → New depth f → ℕ
+      has p = at_step lib site later more b v k p
+
+      abbrev had : {depth : ℕ} {f : Form} → Old depth f → ℕ
+      had p = at_step lib site rows desc a v k p
+
+      abbrev less : {depth : ℕ} {f : Form} → Old depth f → ℕ
+      less p = at_step lib site rows desc a t old p
+
+      abbrev added : {depth : ℕ} {f : Form} → Old depth f → ℕ
+      added p = at_step lib site rows desc a t new p
+
+      at_leaf : (u n : ℕ) → u ≡ t → n + old ≡ hit v k t + new → n + hit t old u ≡ hit v k u + hit t new u
+      at_leaf u n e h = struck old new u n (hit v k u) e (h ∙ ap (λ (m : ℕ). hit v k m + new) (sym e))
+
+      decl_leaves : (depth : ℕ) (x : TDecl) (s : Scope) (c u : ℕ) (left : OldLeft u (does (stmt.Decl x) s (only x.name c) c)) (n : NamesNeeded a u s x.value) (q : Keeps a u c) (at : (u ≡ t) ⊎ (u ≡ t → ⊥))
+          → has (decl_turned depth x s c u left n q at) + hit t old u ≡ hit v k u + hit t new u
+      unfolding decl_turned
+      decl_leaves depth x s c u left n q (inl e) =
+          at_leaf u _ e (adds.decl depth x s c (subst (λ (m : ℕ). OldLeft m (does (stmt.Decl x) s (only x.name c) c)) e left) (subst (λ (m : ℕ). NamesNeeded a m s x.value) e n) (subst (λ (m : ℕ). Keeps a m c) e q))
+      decl_leaves depth x s c u left n q (inr e) = spared old new u _ _ e refl
+
+      call_leaves : (depth : ℕ) (x : TCall) (s : Scope) (g : Given) (d u : ℕ) (left : OldLeft u (does (stmt.Call x) s g d)) (n : CallNeeded a u s x) (is : IsNamed (call_names lib x) g) (ends_ : EndsAt x g d)
+          (q : KeepsCells lib site rows desc a u g d) (at : (u ≡ t) ⊎ (u ≡ t → ⊥)) → has (call_turned depth x s g d u left n is ends_ q at) + hit t old u ≡ hit v k u + hit t new u
+      unfolding call_turned
+      call_leaves depth x s g d u left n is ends_ q (inl e) =
+          at_leaf u _ e (adds.call depth x s g d (subst (λ (m : ℕ). OldLeft m (does (stmt.Call x) s g d)) e left) (subst (λ (m : ℕ). CallNeeded a m s x) e n) is ends_
+          (subst (λ (m : ℕ). KeepsCells lib site rows desc a m g d) e q))
+      call_leaves depth x s g d u left n is ends_ q (inr e) = spared old new u _ _ e refl
+
+      scatter_leaves : (depth : ℕ) (x : TScatter Statement) (s : Scope) (g : Given) (d u : ℕ) (left : OldLeft u (does (stmt.Scatter x) s g d)) (n : NamesNeeded a u s x.over) (out : IsOutside lib site rows desc a x.body g)
+          (q : KeepsCells lib site rows desc a u g d) (at : (u ≡ t) ⊎ (u ≡ t → ⊥)) → has (scatter_turned depth x s g d u left n out q at) + hit t old u ≡ hit v k u + hit t new u
+      unfolding scatter_turned
+      scatter_leaves depth x s g d u left n out q (inl e) =
+          at_leaf u _ e (adds.scatter depth x s g d (subst (λ (m : ℕ). OldLeft m (does (stmt.Scatter x) s g d)) e left) (subst (λ (m : ℕ). NamesNeeded a m s x.over) e n) out
+          (subst (λ (m : ℕ). KeepsCells lib site rows desc a m g d) e q))
+      scatter_leaves depth x s g d u left n out q (inr e) = spared old new u _ _ e refl
+
+      if_leaves : (depth : ℕ) (x : TIf Statement) (s : Scope) (g : Given) (d u : ℕ) (left : OldLeft u (does (stmt.If x) s g d)) (n : NamesNeeded a u s x.cond) (out : IsOutside lib site rows desc a x.body g)
+          (q : KeepsCells lib site rows desc a u g d) (at : (u ≡ t) ⊎ (u ≡ t → ⊥)) → has (if_turned depth x s g d u left n out q at) + hit t old u ≡ hit v k u + hit t new u
+      unfolding if_turned
+      if_leaves depth x s g d u left n out q (inl e) =
+          at_leaf u _ e (adds.condition depth x s g d (subst (λ (m : ℕ). OldLeft m (does (stmt.If x) s g d)) e left) (subst (λ (m : ℕ). NamesNeeded a m s x.cond) e n) out
+          (subst (λ (m : ℕ). KeepsCells lib site rows desc a m g d) e q))
+      if_leaves depth x s g d u left n out q (inr e) = spared old new u _ _ e refl
+
+      told_leaves : (depth : ℕ) (x : TCall) (s : Scope) (g : Given) (d : ℕ) (w : Work) (u : ℕ) (q : AskedAt lib site rows later desc more a b depth x s g d w u) (at : (u ≡ t) ⊎ (u ≡ t → ⊥))
+          → has (told_turned depth x s g d w u q at) + hit t old u ≡ hit v k u + hit t new u
+      unfolding told_turned call_kept
+      told_leaves depth x s g d w u q (inl e) = at_leaf u _ e (adds.told depth x s g d w (subst (AskedAt lib site rows later desc more a b depth x s g d w) e q))
+      told_leaves depth x s g d w u q (inr e) = spared old new u _ _ e refl
+
+      declared_leaves : (name : List ℕ) (e : TExpr) (s : Scope) (c : ℕ) (d : Declared lib site rows desc a name e s c)
+          → declared_at lib site later more b v k name e s c (declared_moved name e s c d) + declared_at lib site rows desc a t old name e s c d
+          ≡ declared_at lib site rows desc a v k name e s c d + declared_at lib site rows desc a t new name e s c d
+      unfolding declared_moved declared_turned
+      declared_leaves name e s c (u, n, inl p) = go (cases_eq u t)
+        where
+          go : (at : (u ≡ t) ⊎ (u ≡ t → ⊥)) → declared_at lib site later more b v k name e s c (declared_turned name e s c u n p.0 p.1 at) + hit t old u ≡ hit v k u + hit t new u
+          go (inl i) =
+              at_leaf u _ i (adds.declared name e s c (subst (λ (m : ℕ). OldLeft m (declares name e s c)) i p.0) (subst (λ (m : ℕ). NamesNeeded a m s e) i n) (subst (λ (m : ℕ). Keeps a m c) i p.1))
+          go (inr i) = spared old new u _ _ i refl
+      declared_leaves name e s c (u, n, inr p) = refl
+
+      pub leaves : {depth : ℕ} {f : Form} (p : Old depth f) → has (moved p) + less p ≡ had p + added p
+      unfolding moved
+      leaves (none_left depth s) = refl
+      leaves (next depth x xs s g h d ds p q) = let i = leaves p in let j = leaves q in omega (arith, i, j)
+      leaves (left_decl depth x s c u left n q) = decl_leaves depth x s c u left n q (cases_eq u t)
+      leaves (left_call depth x s g d u left n is ends_ q) = call_leaves depth x s g d u left n is ends_ q (cases_eq u t)
+      leaves (left_scatter depth x s g d u left n out q) = scatter_leaves depth x s g d u left n out q (cases_eq u t)
+      leaves (left_if depth x s g d u left n out q) = if_leaves depth x s g d u left n out q (cases_eq u t)
+      leaves (told_decl depth x s c u w q n set own follows) = refl
+      leaves (told_call depth x s g d u w q n set is ends_ own plain follows) =
+          told_leaves depth x s g d w u (record { done = q; needed = n; set = set; named = is; ends_at = ends_; own = own; plain = plain; follows = follows }) (cases_eq u t)
+      leaves (run_call depth x s g h d u ds q n set j is f found args met names ends_ distinct p copied ended) = leaves p
+      leaves (failed_scatter depth x s g d u c q n set e out j) = refl
+      leaves (each_scatter depth x s g d u y qs q n set e out p names calls ended) = leaves p
+      leaves (failed_if depth x s g d u c q n set e out j) = refl
+      leaves (false_if depth x s g d u y q n set e off out own same done) = refl
+      leaves (true_if depth x s g h d u ds y q n set e on out p names calls ended) = leaves p
+      leaves (no_item depth xs s j item i) = refl
+      leaves (item_next depth xs s j item m cell y ys g ds qs is p q) = let i = leaves p in let l = leaves q in omega (arith, i, l)
+      leaves (no_input depth given s) = refl
+      leaves (given_input depth given m is s h c y e found p) = leaves p
+      leaves (absent_input depth given m is s h c e lacking found p) = leaves p
+      leaves (default_input depth given m is s h c e lacking some d p) = let i = leaves p in let j = declared_leaves m.name e s c d in omega (arith, i, j)
+      leaves (no_output depth s) = refl
+      leaves (output_next depth x xs s h c d p) = let i = leaves p in let j = declared_leaves x.name x.value s c d in omega (arith, i, j)
+      leaves (flow_whole depth f given place m b_ o ds p q r) = let i = leaves p in let j = leaves q in let l = leaves r in omega (arith, i, j, l)

@@ -38,10 +38,10 @@ use Rattle.net_laws.specs.Rules.{Follows, Needs, arg_keys, head}
 
 -- ---- a state of the net
 
--- the cells, who may set each, which steps were taken, and the cells that each needs
+-- the cells, the step that may set each, which steps were taken, and the cells that each needs
 pub record State : Type 0 where
   pub cells : Cells
-  pub owner : ℕ → ℕ
+  pub owner : ℕ → Option ℕ
   pub taken : ℕ → Bool
   pub needs : ℕ → List ℕ
 
@@ -115,7 +115,7 @@ module _ (st : State) where
 
   -- The step alone may set the cell.
   abbrev pub Owns : ℕ → ℕ → Type 0
-  Owns t c = st.owner c ≡ t
+  Owns t c = st.owner c ≡ Some t
 
   -- It has not set it.
   abbrev pub Keeps : ℕ → ℕ → Type 0

@@ -128,3 +128,18 @@ pub record TurnWeighs (lib : Library) (site : List ℕ) (rows later : List Row) 
       → weight (told_work lib site later more b name e s c (turn.declared name e s c left n k)) + old ≡ new
   pub told : (depth : ℕ) (x : TCall) (s : Scope) (g : Given) (d : ℕ) (w : Work) (q : AskedAt lib site rows later desc more a b depth x s g d w t)
       → weight (work_of lib site later more b (turn.told depth x s g d w q)) + old ≡ weight w + new
+
+-- What a move makes of its step has so many leaves more of the step `v` than it did, each counted `k` times.
+pub record TurnLeaves (lib : Library) (site : List ℕ) (rows later : List Row) (desc more : ℕ → Rule → Type 0) (a b : State) (t : ℕ) (turn : Turn lib site rows later desc more a b t) (v k old new : ℕ) : Type 0 where
+  pub decl : (depth : ℕ) (x : TDecl) (s : Scope) (c : ℕ) (left : IsLeft lib site rows desc a t (does (stmt.Decl x) s (only x.name c) c)) (n : NamesNeeded a t s x.value) (keeps : Keeps a t c)
+      → at_step lib site later more b v k (turn.decl depth x s c left n keeps) + old ≡ hit v k t + new
+  pub call : (depth : ℕ) (x : TCall) (s : Scope) (g : Given) (d : ℕ) (left : IsLeft lib site rows desc a t (does (stmt.Call x) s g d)) (n : CallNeeded a t s x) (is : IsNamed (call_names lib x) g) (at : EndsAt x g d)
+      (keeps : KeepsCells lib site rows desc a t g d) → at_step lib site later more b v k (turn.call depth x s g d left n is at keeps) + old ≡ hit v k t + new
+  pub scatter : (depth : ℕ) (x : TScatter Statement) (s : Scope) (g : Given) (d : ℕ) (left : IsLeft lib site rows desc a t (does (stmt.Scatter x) s g d)) (n : NamesNeeded a t s x.over)
+      (out : IsOutside lib site rows desc a x.body g) (keeps : KeepsCells lib site rows desc a t g d) → at_step lib site later more b v k (turn.scatter depth x s g d left n out keeps) + old ≡ hit v k t + new
+  pub condition : (depth : ℕ) (x : TIf Statement) (s : Scope) (g : Given) (d : ℕ) (left : IsLeft lib site rows desc a t (does (stmt.If x) s g d)) (n : NamesNeeded a t s x.cond)
+      (out : IsOutside lib site rows desc a x.body g) (keeps : KeepsCells lib site rows desc a t g d) → at_step lib site later more b v k (turn.condition depth x s g d left n out keeps) + old ≡ hit v k t + new
+  pub declared : (name : List ℕ) (e : TExpr) (s : Scope) (c : ℕ) (left : IsLeft lib site rows desc a t (declares name e s c)) (n : NamesNeeded a t s e) (keeps : Keeps a t c)
+      → declared_at lib site later more b v k name e s c (turn.declared name e s c left n keeps) + old ≡ hit v k t + new
+  pub told : (depth : ℕ) (x : TCall) (s : Scope) (g : Given) (d : ℕ) (w : Work) (q : AskedAt lib site rows later desc more a b depth x s g d w t)
+      → at_step lib site later more b v k (turn.told depth x s g d w q) + old ≡ hit v k t + new

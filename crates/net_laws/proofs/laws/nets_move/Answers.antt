@@ -1,5 +1,5 @@
 use Rattle.net_laws.specs.Laws.{ruled}
-use Rattle.net_laws.proofs.Moves.{moved, weighed}
+use Rattle.net_laws.proofs.Moves.{leaves, moved, weighed}
 use Rattle.net_laws.proofs.laws.nets_move.Goals as goal
 
 pub returns : goal.returns
@@ -7,4 +7,5 @@ returns c lib site rows later rules more a b t grows others turn depth f p =
     record {
       grown = moved lib site rows later (ruled rules) (ruled more) a b t grows others turn p;
       weighs = λ weight is_weight old new adds. weighed lib site rows later (ruled rules) (ruled more) a b t grows others turn weight is_weight old new adds p;
+      leaves = λ v k old new adds. leaves lib site rows later (ruled rules) (ruled more) a b t grows others turn v k old new adds p;
     }

@@ -1,0 +1,9 @@
+pub mod Apart
+pub mod Kept
+pub mod Turns
+pub mod Joints
+pub mod Declarations
+pub mod Calls
+pub mod Passed
+pub mod Arrivals
+pub mod Entered

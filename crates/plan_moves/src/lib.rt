@@ -1,0 +1,9 @@
+//! Laws of the moves of a plan: what each kind of step does to a net, and that the net goes on growing.
+#![tactic(auto)]
+
+mod laws;
+
+pub use laws::{
+    answers_arrive, blocks_enter, blocks_pass, calls_move, declarations_move, defaults_move,
+    joints_move,
+};
