@@ -4,7 +4,7 @@
 #
 #   tests/page.sh PROGRAM PAGE
 #
-# A line 'Save this as `NAME`:' stands before the block with that file. In a block of `console` each line behind `$ ` is a command, and the lines below it
+# A line that ends with 'Save this as `NAME`:' stands before the block with that file. In a block of `console` each line behind `$ ` is a command, and the lines below it
 # are what is seen; `wdl` is the program, with notes, and times stand for any times.
 program=${1:?the program, with its whole path}
 page=${2:?the page, with its whole path}
@@ -21,7 +21,7 @@ export PATH WDL_NOTES
 
 # Steps are numbered: `N.sh` with `N.want`, or `N.name` with `N.file`.
 awk -v to="$work/steps/" '
-  !inside && /^Save this as `[^`]*`:$/ { split($0, part, "`"); name = part[2]; next }
+  !inside && /Save this as `[^`]*`:$/ { split($0, part, "`"); name = part[2]; next }
   !inside && /^```console$/ { inside = console = 1; next }
   !inside && /^```/ { inside = 1; if (name) { count++; print name >(to count ".name"); file = to count ".file"; printf "" >file } next }
   inside && /^```$/ { if (file) close(file); file = name = ""; inside = console = 0; next }
