@@ -5,7 +5,8 @@
 #   tests/page.sh PROGRAM PAGE
 #
 # A line that ends with 'Save this as `NAME`:' stands before the block with that file. In a block of `console` each line behind `$ ` is a command, and the lines below it
-# are what is seen; `wdl` is the program, with notes, and times stand for any times.
+# are what is seen; `wdl` is the program, with notes; times stand for any times,
+# and `/home/you` for the folder in which the commands are run.
 program=${1:?the program, with its whole path}
 page=${2:?the page, with its whole path}
 work=$(mktemp -d) || exit 1
@@ -31,7 +32,7 @@ awk -v to="$work/steps/" '
   END { print count > (to "count") }' "$page"
 
 cd "$work/here" || exit 1
-timeless() { sed 's/[0-9][0-9.]* \(ms\|s\|min\)\b/N s/g' "$1"; }
+timeless() { sed "s|$work/here|/home/you|g"';s/[0-9][0-9.]* \(ms\|s\|min\)\b/N s/g' "$1"; }
 status=0
 for step in $(seq 1 "$(cat "$work/steps/count")"); do
   at=$work/steps/$step
