@@ -12,7 +12,7 @@ pub struct Marked {
 }
 
 /// The document and the span that a marked text tells; the fault is in document 0.
-pub fn marked(alloc: Global, told: &str) -> Result<Marked, Fail> {
+pub fn read_marked(alloc: Global, told: &str) -> Result<Marked, Fail> {
     let (before, rest) = told.split_once('«').unwrap_or((told, ""));
     let (words, behind) = rest.split_once('»').unwrap_or((rest, ""));
     let start = u32::try_from(before.len())?;

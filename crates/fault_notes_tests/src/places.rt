@@ -1,6 +1,6 @@
 //! The place of a fault, the line of the source and the carets below it.
 
-use crate::marked::{Marked, marked};
+use crate::marked::{Marked, read_marked};
 use fault_notes::document_note;
 use std::alloc::Global;
 use std::test::Fail;
@@ -8,7 +8,7 @@ use wdl_value::Span;
 
 /// The place and the two lines of the note of a marked document, without its sentence.
 fn shown(alloc: Global, told: &str) -> Result<String, Fail> {
-    let Marked { text, span } = marked(alloc, told)?;
+    let Marked { text, span } = read_marked(alloc, told)?;
     let note = document_note(alloc, "w.wdl", text.as_bytes(), 330, span, None)?;
     let (head, lines) = note.as_str().split_once('\n').unwrap_or(("", ""));
     let (place, _) = head.split_once(": ").unwrap_or((head, ""));

@@ -1,6 +1,6 @@
 //! The sentences of notes. A row is a document with its fault marked, the code, and the sentence.
 
-use crate::marked::{Marked, marked};
+use crate::marked::{Marked, read_marked};
 use fault_notes::document_note;
 use std::alloc::Global;
 use std::test::Fail;
@@ -91,7 +91,7 @@ fn told(alloc: Global, row: &str, before: &str, behind: &str) -> Result<String, 
     let (rule, _) = rest.split_once(" | ").unwrap_or((rest, ""));
     let (code, _) = rule.split_once(' ').unwrap_or((rule, ""));
     let text = format!(in alloc; "{before}{document}{behind}")?;
-    let Marked { text, span } = marked(alloc, quoted(alloc, text.as_str())?.as_str())?;
+    let Marked { text, span } = read_marked(alloc, quoted(alloc, text.as_str())?.as_str())?;
     let library = library_of(alloc, text.as_str())?;
     let code = code.parse::<u16>()?;
     let note = document_note(
