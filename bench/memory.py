@@ -1,5 +1,6 @@
 #!/usr/bin/env python3
 """memory.py STRIDE PROGRAM FOLDER: see bench/memory.sh. FOLDER holds refuse.so."""
+import contextlib
 import multiprocessing
 import os
 import shutil
@@ -21,12 +22,39 @@ task step {
   runtime { maxRetries: 1 }
 }
 """
-FILES = {
-    "one.wdl": 'version 1.1\ntask say { command <<<\n echo hi\n>>>\noutput { String r = read_string(stdout()) } }\nworkflow w { call say output { String r = say.r } }\n',
-    "each.wdl": "version 1.1\nimport \"step.wdl\" as part\nworkflow w {\n  input { Array[Int] xs }\n  scatter (x in xs) { call part.step { input: i = x } }\n  output { Array[Int] r = step.r }\n}\n",
-    "step.wdl": STEP,
-    "chain.wdl": STEP + "workflow w {\n  call step as a { input: i = 1 }\n  call step as b { input: i = a.r + 1 }\n  call step as c { input: i = b.r + 1 }\n  call step as d { input: i = c.r + 1 }\n  output { Int r = d.r }\n}\n",
-    "lanes.wdl": STEP + """workflow w {
+COPY = """version 1.1
+task copy {
+  input { File f }
+  command <<<cat ~{f} > out.txt>>>
+  output { File o = "out.txt" }
+}
+"""
+EACH = """version 1.1
+import "copy.wdl" as part
+workflow w {
+  input { Array[File] fs }
+  scatter (f in fs) { call part.copy { input: f } }
+  output { Array[File] os = copy.o }
+}
+"""
+ONE = """version 1.1
+task say {
+  command <<<
+    echo hi
+  >>>
+  output { String r = read_string(stdout()) }
+}
+workflow w { call say output { String r = say.r } }
+"""
+CHAIN = """workflow w {
+  call step as a { input: i = 1 }
+  call step as b { input: i = a.r + 1 }
+  call step as c { input: i = b.r + 1 }
+  call step as d { input: i = c.r + 1 }
+  output { Int r = d.r }
+}
+"""
+LANES = """workflow w {
   input { Array[Int] samples Boolean wide = true }
   scatter (sample in samples) {
     scatter (lane in [0, 1, 2]) { call step as count { input: i = 10 * sample + lane } }
@@ -34,15 +62,23 @@ FILES = {
   }
   output { Array[Array[Int]] counts = count.r Array[Int?] joined = join.r }
 }
-""",
+"""
+FILES = {
+    "one.wdl": ONE,
+    "each.wdl": EACH,
+    "copy.wdl": COPY,
+    "chain.wdl": STEP + CHAIN,
+    "lanes.wdl": STEP + LANES,
     "i.json": '{"w.samples": [1, 2, 4, 5, 6, 7, 8, 9, 10, 11]}',
 }
+SUCCEEDED = "SELECT count(*) FROM entry WHERE json_extract(body, '$.status') = 0"
 # Each run: its words, whether it keeps a journal, and whether one is there at the beginning.
+RUN = ["run", "--workers", "1", "--root", "run"]
 RUNS = {
-    "a task and its call": (["run", "--workers", "1", "--root", "run", "one.wdl"], False, False),
+    "a task and its call": ([*RUN, "one.wdl"], False, False),
     "CWL of an import with a scatter": (["cwl", "each.wdl"], False, False),
-    "a run that resumes": (["run", "--workers", "1", "--root", "run", "--journal", "j", "chain.wdl"], True, True),
-    "a run of 40 jobs": (["run", "--workers", "1", "--root", "run", "--inputs", "i.json", "--journal", "j", "lanes.wdl"], True, False),
+    "a run that resumes": ([*RUN, "--journal", "j", "chain.wdl"], True, True),
+    "a run of 40 jobs": ([*RUN, "--inputs", "i.json", "--journal", "j", "lanes.wdl"], True, False),
 }
 
 
@@ -83,10 +119,10 @@ def rows(where):
     """The number of rows of the journal with status 0, where there is a journal with its table."""
     if not os.path.exists(f"{where}/j"):
         return 0
-    with sqlite3.connect(f"{where}/j") as journal:
+    with contextlib.closing(sqlite3.connect(f"{where}/j")) as journal:
         if not journal.execute("SELECT 1 FROM sqlite_master WHERE name = 'entry'").fetchone():
             return 0
-        return journal.execute("SELECT count(*) FROM entry WHERE json_extract(body, '$.answer.status') = 0").fetchone()[0]
+        return journal.execute(SUCCEEDED).fetchone()[0]
 
 
 def case(task):
