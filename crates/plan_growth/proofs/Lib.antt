@@ -1,2 +1,4 @@
 pub mod Begins
+pub mod Lists
 pub mod Seen
+pub mod Sitting
