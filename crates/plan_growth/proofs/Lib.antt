@@ -2,3 +2,5 @@ pub mod Begins
 pub mod Lists
 pub mod Seen
 pub mod Sitting
+pub mod Standing
+pub mod There
