@@ -1,4 +1,5 @@
 pub mod Begins
+pub mod Instances
 pub mod Lists
 pub mod Seen
 pub mod Sitting
