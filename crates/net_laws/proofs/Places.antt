@@ -219,9 +219,9 @@ spread_both place hs gs qs rs away a b =
     record {
       under = λ q c. by_case q (Contains-append_cases qs rs q c);
       apart = both_apart qs rs a.apart b.apart (λ q r c d e.
-              let x = a.under q c in
-              let y = b.under r d in
-              away x.0 x.2 (subst (Contains gs) (sym (first_same place x.0 y.0 x.1 y.1 (sym x.3 ∙ e ∙ y.3))) y.2));
+          let x = a.under q c in
+          let y = b.under r d in
+          away x.0 x.2 (subst (Contains gs) (sym (first_same place x.0 y.0 x.1 y.1 (sym x.3 ∙ e ∙ y.3))) y.2));
     }
   where
     by_case : (q : Asker) → Contains qs q ⊎ Contains rs q → Below place (hs ++ gs) q.place
@@ -249,11 +249,11 @@ items_both place k i hs qs rs a b =
     record {
       under = λ q c. by_case q (Contains-append_cases qs rs q c);
       apart = both_apart qs rs a.apart b.apart (λ q r c d e.
-              let x = at_item place k i hs q.place (a.under q c) in
-              let y = b.under r d in
-              let same : i ≡ y.0 = item_same place k i y.0 x.0 y.2 (sym x.1 ∙ e ∙ y.3) in
-              let later : i + 1 ≤ y.0 = y.1 in
-              omega (arith, same, later));
+          let x = at_item place k i hs q.place (a.under q c) in
+          let y = b.under r d in
+          let same : i ≡ y.0 = item_same place k i y.0 x.0 y.2 (sym x.1 ∙ e ∙ y.3) in
+          let later : i + 1 ≤ y.0 = y.1 in
+          omega (arith, same, later));
     }
   where
     by_case : (q : Asker) → Contains qs q ⊎ Contains rs q → BelowItem place k i q.place
@@ -280,7 +280,7 @@ module _ (lib : Library) (kept_ : IsKept lib) (site : List ℕ) (table : List Ro
         apart = (λ r c. absurd (none_within r c), tt);
       })
 
-  pub spread : {depth : ℕ} {f : Form} (p : Growing lib site table desc st depth f) → Differ f → Spreads f (asking p)
+  spread : {depth : ℕ} {f : Form} (p : Growing lib site table desc st depth f) → Differ f → Spreads f (asking p)
   spread (none_left depth s) d = nobody s.place []
   spread (next depth x xs s g h d ds p q) e =
       spread_both s.place (heads x) (heads_all xs) (asking p) (asking q) (heads_apart x xs e) (spread p (first_differs x xs e)) (spread q (rest_differs x xs e))
