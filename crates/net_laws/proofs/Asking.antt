@@ -1,5 +1,5 @@
 -- A call that was asked stands among the calls at its place, and no other one does.
-use Rattle.std.proofs.Common.{◌≡◌, ◌<◌, ℕ, zero, suc, ◌+◌, Bool, true, cond, ◌⊎◌, inl, inr, List, [], ◌∷◌, ◌++◌, Contains, arith, ap, refl, subst, sym, ◌∙◌}
+use Rattle.std.proofs.Common.{◌≡◌, ◌<◌, ℕ, zero, suc, ◌+◌, Bool, true, cond, ◌⊎◌, inl, inr, List, [], ◌∷◌, ◌++◌, Contains, arith, ap, subst, sym, ◌∙◌}
 use Rattle.std.proofs.lemmas.Bool.{cases_eq, ne_eqb, true≢false}
 use Rattle.std.proofs.lemmas.List.Elements.{Contains-append_left, Contains-append_right}
 use Rattle.wdl_base.specs.declared.place.Segment.{Segment}
@@ -14,7 +14,7 @@ use Rattle.net_laws.specs.Growing.{Declared, Form, Growing, IsLeft, Rule, State,
 use Rattle.net_laws.specs.Moving.{at_step, declared_at, hit}
 use Rattle.net_laws.specs.Net.{Given, Scope}
 use Rattle.net_laws.specs.Roots.{IsRoot}
-use Rattle.net_laws.proofs.Places.{AllApart, one_at_a_place, root_apart}
+use Rattle.net_laws.proofs.Places.{one_at_a_place, root_apart}
 
 is_hit : (t u : ℕ) → 0 < hit t 1 u → u ≡ t
 is_hit t u h = go (cases_eq u t)

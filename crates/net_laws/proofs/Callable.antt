@@ -1,5 +1,5 @@
 -- What a form can call, its parts can; and the flow of a checked form can call all that stands on its paths.
-use Rattle.std.proofs.Common.{◌≡◌, ◌≤◌, ◌&&◌, ℕ, zero, suc, Bool, true, false, List, [], ◌∷◌, Option, Some, slice_get, arith, ap, refl, subst, sym, ◌∙◌}
+use Rattle.std.proofs.Common.{◌≡◌, ◌≤◌, ◌&&◌, ℕ, zero, suc, true, List, [], ◌∷◌, Some, slice_get, arith, ap, refl, subst, sym, ◌∙◌}
 use Rattle.std.proofs.lemmas.Bool.{and_parts, false≢true}
 use Rattle.wdl_base.specs.declared.place.Segment.{Segment}
 use Rattle.wdl_value.specs.declared.env.Bind.{Bind}
@@ -9,7 +9,6 @@ use Rattle.wdl_typed.specs.declared.flow.Statement.{Statement, out-Statement}
 use Rattle.wdl_typed.specs.declared.flow.Statement.TheOpen as layer
 use Rattle.wdl_typed.specs.declared.flow.Statement.TheVariants as stmt
 use Rattle.wdl_typed.specs.declared.flow.TCall.{TCall}
-use Rattle.wdl_typed.specs.declared.flow.Target.{Target}
 use Rattle.wdl_typed.specs.declared.flow.Target.TheVariants as target
 use Rattle.wdl_typed.specs.declared.flow.TIf.{TIf}
 use Rattle.wdl_typed.specs.declared.flow.TScatter.{TScatter}

@@ -1,5 +1,5 @@
 -- The calls that were asked have places that differ: what two statements of a body ask begins with different segments.
-use Rattle.std.proofs.Common.{◌≡◌, ◌<◌, ◌≤◌, ℕ, zero, suc, ◌+◌, Bool, true, ◌&&◌, ◌⊎◌, inl, inr, List, [], ◌∷◌, ◌++◌, append_assoc, Contains, length, map, Option, Some, slice_get, arith, ap, refl, subst, sym, ◌∙◌}
+use Rattle.std.proofs.Common.{◌≡◌, ◌≤◌, ℕ, ◌+◌, true, ◌&&◌, ◌⊎◌, inl, inr, List, [], ◌∷◌, ◌++◌, append_assoc, Contains, length, map, arith, ap, refl, subst, sym, ◌∙◌}
 use Rattle.std.specs.List.{list_all}
 use Rattle.std.proofs.lemmas.Bool.{and_parts, or_left}
 use Rattle.std.proofs.lemmas.Bool.Decides.{Decides-eqb}
@@ -16,14 +16,14 @@ use Rattle.wdl_typed.specs.declared.flow.Statement.TheVariants as stmt
 use Rattle.wdl_typed.specs.declared.flow.TCall.{TCall}
 use Rattle.wdl_typed.specs.declared.flow.TIf.{TIf}
 use Rattle.wdl_typed.specs.declared.flow.TScatter.{TScatter}
-use Rattle.wdl_typed.specs.Bodies.{Library, Numbered, all_declared, append_all, append_numbers, body_numbered, declared, names_step, numbered_step}
+use Rattle.wdl_typed.specs.Bodies.{Library, Numbered, all_declared, append_numbers, body_numbered, declared, names_step, numbered_step}
 use Rattle.wdl_typed.specs.Declarations.{decl_names, input_names}
 use Rattle.wdl_typed.specs.Lists.{are_below, are_counted, are_distinct, numbers_differ}
 use Rattle.flow_laws.proofs.Checked.{IsFlow, IsKept, flow_at_kept, kept, names_left, names_right}
 use Rattle.flow_laws.proofs.Elements.{first_or_later, none_within, only_one}
 use Rattle.flow_laws.proofs.Signs.{Apart, Signed, heads, heads_all, heads_step, numbers_right, signed_apart, signed_left, signed_right}
 use Rattle.net_laws.specs.Askers.{Asker, askers}
-use Rattle.net_laws.specs.Growing.{Form, Growing, Rule, State, absent_input, all, default_input, does, each, each_scatter, failed_if, failed_scatter, false_if, flow_whole, given_input, item_next, left_call, left_decl, left_if, left_scatter, next, no_input, no_item, no_output, none_left, one, output_next, run_call, takes, tells, told_call, told_decl, true_if, whole}
+use Rattle.net_laws.specs.Growing.{Form, Growing, Rule, State, absent_input, all, default_input, each, each_scatter, failed_if, failed_scatter, false_if, flow_whole, given_input, item_next, left_call, left_decl, left_if, left_scatter, next, no_input, no_item, no_output, none_left, one, output_next, run_call, takes, tells, told_call, told_decl, true_if, whole}
 use Rattle.net_laws.specs.Net.{Scope}
 use Rattle.net_laws.specs.Roots.{IsRoot}
 

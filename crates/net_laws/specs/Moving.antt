@@ -1,6 +1,6 @@
 -- One step at a time: what a move of a net keeps, and what it makes of its own step. A move takes one step, or brings one answer.
 use Rattle.std.proofs.Common.{inl, inr}
-use Rattle.std.specs.Prelude.{◌≡◌, ℕ, ◌+◌, nat_eq, if◌then◌else◌, true, List, [], ◌∷◌, ◌++◌}
+use Rattle.std.specs.Prelude.{◌≡◌, ℕ, ◌+◌, nat_eq, if◌then◌else◌, true, List, [], ◌∷◌}
 use Rattle.std.specs.List.{Contains}
 use Rattle.wdl_value.specs.Tables.{Row, answer_at}
 use Rattle.wdl_typed.specs.declared.expr.TExpr.{TExpr}
