@@ -14,4 +14,7 @@ pub mod Leaves
 pub mod Finished
 pub mod Spent
 pub mod Calls
+pub mod Callable
+pub mod Places
+pub mod Asking
 pub mod Moves

@@ -1,6 +1,6 @@
 //! Laws of the definitions, which say nothing of code.
 
-ghost use Rattle.plan_moves.specs.Laws.{AnswersArrive, BlocksEnter, BlocksPass, CallsMove, DeclarationsMove, DefaultsMove, JointsMove};
+ghost use Rattle.plan_moves.specs.Laws.{AnswersArrive, BlocksEnter, BlocksPass, CallsMove, DeclarationsMove, DefaultsMove, FlowsEnter, JointsMove};
 
 /// A step of a joint that sets its cell to what the rule says of the cells that it needs: the net goes on growing, and its work is as
 /// it was.
@@ -41,4 +41,10 @@ pub fn answers_arrive()
 /// goes on growing, with their work more and their leaves more.
 pub fn blocks_enter()
     ensures { BlocksEnter }
+{}
+
+/// A step of a call of a workflow whose arguments are there, whose instance has grown as far as it may, with joints for its outputs:
+/// the net goes on growing, with its work more and its leaves more.
+pub fn flows_enter()
+    ensures { FlowsEnter }
 {}

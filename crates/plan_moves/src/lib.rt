@@ -5,5 +5,5 @@ mod laws;
 
 pub use laws::{
     answers_arrive, blocks_enter, blocks_pass, calls_move, declarations_move, defaults_move,
-    joints_move,
+    flows_enter, joints_move,
 };
