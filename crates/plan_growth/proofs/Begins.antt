@@ -20,10 +20,10 @@ use Rattle.wdl_typed.specs.Scope.{names_of}
 use Rattle.value_net.specs.Nets.{joined, value_at}
 use Rattle.net_laws.specs.Growing.{CallNeeded, Form, IsLeft, IsOutside, Keeps, KeepsCells, NamesNeeded, Rule, State, all, body_given, does, left_call, left_decl, left_if, left_scatter, mark_cell, next, none_left, nothing_given, one, only, slot_cell}
 use Rattle.net_laws.specs.Moving.{IsWeight, at_step, hit}
-use Rattle.net_laws.specs.Net.{Given, Mark, Scope, Slot, Work, beyond, both_given, both_works}
+use Rattle.net_laws.specs.Net.{Given, Mark, Scope, Slot, Work, beyond, both_given, both_works, no_work}
 use Rattle.net_laws.specs.Planned.{call_names}
 use Rattle.net_laws.specs.Rules.{arg_keys}
-use Rattle.net_laws.specs.Works.{work_of}
+use Rattle.net_laws.specs.Works.{evaluated, work_of}
 use Rattle.plan_moves.specs.Sheets.{Grown, Sheet, needs_in, rules_of, state_of, taken_in}
 use Rattle.plan_layout.specs.declared.layout.BodyLayout.{BodyLayout}
 use Rattle.plan_layout.specs.declared.layout.Need.{Need}
@@ -100,7 +100,7 @@ module _ (lib : Library) (site : List ℕ) (rows : List Row) (b : Sheet) (owners
   -- ---- one statement
 
   abbrev Begins : ℕ → Form → (ℕ → ℕ → ℕ) → Type 0
-  Begins depth f leaves = HasBegun lib site rows b owners depth f leaves
+  Begins depth f leaves = HasBegun lib site rows b owners depth f no_work leaves
 
   -- the statement, which gives that out and is done at that cell, has begun where its step is so
   abbrev BeginsAs : ℕ → ℕ → Statement → Scope → List ℕ → Given → ℕ → Type 0
@@ -144,8 +144,9 @@ module _ (lib : Library) (site : List ℕ) (rows : List Row) (b : Sheet) (owners
               (named_needs (stmt.Decl x) a l sees t x.value (keys_here (stmt.Decl x) (layer.Decl x) (stmt.outs-Decl x) sees) needs
               (needs_are t (stmt.Decl x) s (only x.name (base_at bases a + a.next_name)) (base_at bases a + a.next_name) cells h))
               (keeps_free t (base_at bases a + a.next_name) h.done);
-          no_work = λ weight is. is.nothing;
+          weighs = λ weight is. refl;
           leaves_are = λ v k. refl;
+          spends = λ task. refl;
         })
 
     call_starts : (x : TCall) → Sees lib (stmt.Call x) a → HasSlots (call_names lib x) a a.next_call l → HasNeeds a (arg_keys x.args) x.after l → Starts (stmt.Call x)
@@ -159,8 +160,9 @@ module _ (lib : Library) (site : List ℕ) (rows : List Row) (b : Sheet) (owners
               (call_needs (stmt.Call x) a l sees t x (keys_here (stmt.Call x) (layer.Call x) (stmt.outs-Call x) sees) (after_here (stmt.Call x) (layer.Call x) (stmt.outs-Call x) sees) needs
               (needs_are t (stmt.Call x) s g d cells h))
               (named_by bases a (call_names lib x)) refl (kept t (stmt.Call x) s g d cells h);
-          no_work = λ weight is. is.nothing;
+          weighs = λ weight is. refl;
           leaves_are = λ v k. refl;
+          spends = λ task. refl;
         })
 
     outside : (x : Statement) (y : Statement-F Statement) (ss : List Statement) → out-Statement x ≡ y → given_at lib y ≡ body_given lib ss → Sees lib x a
@@ -181,8 +183,9 @@ module _ (lib : Library) (site : List ℕ) (rows : List Row) (b : Sheet) (owners
               left_scatter depth x s g d t (left t (stmt.Scatter x) s g d cells h)
               (named_needs (stmt.Scatter x) a l sees t x.over (keys_here (stmt.Scatter x) (layer.Scatter x) (stmt.outs-Scatter x) sees) needs (needs_are t (stmt.Scatter x) s g d cells h))
               (outside (stmt.Scatter x) (layer.Scatter x) x.body (stmt.outs-Scatter x) refl sees) (kept t (stmt.Scatter x) s g d cells h);
-          no_work = λ weight is. is.nothing;
+          weighs = λ weight is. refl;
           leaves_are = λ v k. refl;
+          spends = λ task. refl;
         })
 
     if_starts : (x : TIf Statement) → Sees lib (stmt.If x) a → HasSlots (body_given lib x.body) a a.next_done l → HasNeeds a (names_of x.cond) [] l → Starts (stmt.If x)
@@ -195,8 +198,9 @@ module _ (lib : Library) (site : List ℕ) (rows : List Row) (b : Sheet) (owners
               left_if depth x s g d t (left t (stmt.If x) s g d cells h)
               (named_needs (stmt.If x) a l sees t x.cond (keys_here (stmt.If x) (layer.If x) (stmt.outs-If x) sees) needs (needs_are t (stmt.If x) s g d cells h))
               (outside (stmt.If x) (layer.If x) x.body (stmt.outs-If x) refl sees) (kept t (stmt.If x) s g d cells h);
-          no_work = λ weight is. is.nothing;
+          weighs = λ weight is. refl;
           leaves_are = λ v k. refl;
+          spends = λ task. refl;
         })
 
   -- ---- statements one after the other
@@ -211,8 +215,11 @@ module _ (lib : Library) (site : List ℕ) (rows : List Row) (b : Sheet) (owners
       ∙ ap (λ (ms : List Mark). record { names = slots_at bases a.names ++ (given_of lib bases a x).names; calls = ms; place = place })
       (map-append (mark_at bases) a.calls (spots_from (length a.path) a.next_call (plain_keys (given_at lib (out-Statement x)).calls)))
 
-  none_zero : (weight : Work → ℕ) → IsWeight weight → (v w : Work) → weight v ≡ 0 → weight w ≡ 0 → weight (both_works v w) ≡ 0
-  none_zero weight is v w e f = let sum = is.both v w in omega (arith, sum, e, f)
+  none_both : (weight : Work → ℕ) → IsWeight weight → (v w : Work) → weight v ≡ weight no_work → weight w ≡ weight no_work → weight (both_works v w) ≡ weight no_work
+  none_both weight is v w e f =
+      let sum = is.both v w in
+      let none = is.nothing in
+      omega (arith, sum, none, e, f)
 
   both_hits : (p q m n : ℕ) → p ≡ m → q ≡ n → p + q ≡ m + n
   both_hits p q m n e f = omega (arith, e, f)
@@ -233,7 +240,8 @@ module _ (lib : Library) (site : List ℕ) (rows : List Row) (b : Sheet) (owners
           subst (λ (z : Scope). Begins depth (all xs z (all_given lib bases (behind_one lib x a) xs) (dones_at (base_at bases a) ls)) (λ v k. hits v k (t + 1) xs)) (scope_behind x a) (q (t + 1) h.1 depth) in
       record {
         grown = next depth x xs (scoped a) (given_of lib bases a x) (all_given lib bases (behind_one lib x a) xs) (base_at bases a + l.done) (dones_at (base_at bases a) ls) first.grown rest.grown;
-        no_work = λ weight is. none_zero weight is (work_of lib site rows (rules_of b) st first.grown) (work_of lib site rows (rules_of b) st rest.grown) (first.no_work weight is) (rest.no_work weight is);
+        weighs = λ weight is. none_both weight is (work_of lib site rows (rules_of b) st first.grown) (work_of lib site rows (rules_of b) st rest.grown) (first.weighs weight is) (rest.weighs weight is);
+        spends = λ task. both_hits (evaluated lib site rows (rules_of b) st task first.grown) (evaluated lib site rows (rules_of b) st task rest.grown) 0 0 (first.spends task) (rest.spends task);
         leaves_are = λ v k.
             both_hits (at_step lib site rows (rules_of b) st v k first.grown) (at_step lib site rows (rules_of b) st v k rest.grown) (hit v k t) (hits v k (t + 1) xs) (first.leaves_are v k) (rest.leaves_are v k);
       }
@@ -244,7 +252,7 @@ module _ (lib : Library) (site : List ℕ) (rows : List Row) (b : Sheet) (owners
     starts (laid_call x a l slots needs) = λ sees t depth. call_starts t depth a l x sees slots needs
     starts (laid_scatter x a l body slots needs there p) = λ sees t depth. scatter_starts t depth a l x sees slots needs
     starts (laid_if x a l body slots needs there p) = λ sees t depth. if_starts t depth a l x sees slots needs
-    starts (laid_none a) = λ t h depth. record { grown = none_left depth (scoped a); no_work = λ weight is. is.nothing; leaves_are = λ v k. refl }
+    starts (laid_none a) = λ t h depth. record { grown = none_left depth (scoped a); weighs = λ weight is. refl; leaves_are = λ v k. refl; spends = λ task. refl }
     starts (laid_next x xs a l ls sees p q) = follows_on x xs a l ls sees (starts p sees) (starts q)
     starts (laid_whole ss names calls path before after body runs p) = tt
 

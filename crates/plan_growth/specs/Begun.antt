@@ -7,10 +7,11 @@ use Rattle.wdl_typed.specs.declared.expr.TExpr.{TExpr}
 use Rattle.wdl_typed.specs.declared.flow.Statement.{Statement, out-Statement}
 use Rattle.wdl_typed.specs.Bodies.{Library}
 use Rattle.wdl_typed.specs.Flow.{Names}
+use Rattle.net_laws.specs.Cost.{TaskCost}
 use Rattle.net_laws.specs.Growing.{Form, Rule, does, mark_cell, nothing_given, slot_cell}
 use Rattle.net_laws.specs.Moving.{IsWeight, at_step, hit}
 use Rattle.net_laws.specs.Net.{Given, Scope, Work, both_given}
-use Rattle.net_laws.specs.Works.{work_of}
+use Rattle.net_laws.specs.Works.{evaluated, work_of}
 use Rattle.plan_moves.specs.Sheets.{Grown, Sheet, rules_of, state_of}
 use Rattle.plan_layout.specs.declared.layout.StatementLayout.{StatementLayout}
 use Rattle.plan_layout.specs.Cells.{marks_at, slots_at}
@@ -71,8 +72,9 @@ abbrev pub hits : {A : Type 0} → ℕ → ℕ → ℕ → List A → ℕ
 hits v k t [] = 0
 hits v k t (x ∷ xs) = hit v k t + hits v k (t + 1) xs
 
--- What has grown without a step: it has no work, and so many leaves of each step.
-pub record HasBegun (lib : Library) (site : List ℕ) (rows : List Row) (b : Sheet) (owners : List ℕ) (depth : ℕ) (f : Form) (leaves : ℕ → ℕ → ℕ) : Type 0 where
+-- What has grown without a step: it comes to that work, has so many leaves of each step, and no expression was evaluated.
+pub record HasBegun (lib : Library) (site : List ℕ) (rows : List Row) (b : Sheet) (owners : List ℕ) (depth : ℕ) (f : Form) (work : Work) (leaves : ℕ → ℕ → ℕ) : Type 0 where
   pub grown : Grown lib site rows b owners depth f
-  pub no_work : (weight : Work → ℕ) → IsWeight weight → weight (work_of lib site rows (rules_of b) (state_of b owners) grown) ≡ 0
+  pub weighs : (weight : Work → ℕ) → IsWeight weight → weight (work_of lib site rows (rules_of b) (state_of b owners) grown) ≡ weight work
   pub leaves_are : (v k : ℕ) → at_step lib site rows (rules_of b) (state_of b owners) v k grown ≡ leaves v k
+  pub spends : (task : TaskCost) → evaluated lib site rows (rules_of b) (state_of b owners) task grown ≡ 0

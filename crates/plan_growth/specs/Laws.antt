@@ -5,6 +5,7 @@ use Rattle.wdl_value.specs.Tables.{Row}
 use Rattle.wdl_typed.specs.declared.flow.Statement.{Statement}
 use Rattle.wdl_typed.specs.Bodies.{Library}
 use Rattle.net_laws.specs.Growing.{all}
+use Rattle.net_laws.specs.Net.{no_work}
 use Rattle.plan_moves.specs.Sheets.{Sheet}
 use Rattle.plan_layout.specs.declared.layout.BodyLayout.{BodyLayout}
 use Rattle.plan_layout.specs.declared.layout.StatementLayout.{StatementLayout}
@@ -19,4 +20,4 @@ abbrev pub BodiesBegin : Type 0
 BodiesBegin =
     (lib : Library) (site : List ℕ) (rows : List Row) (b : Sheet) (owners bases : List ℕ) (place : List Segment) (flow : ℕ) (root : List Statement) (bodies : List BodyLayout) (ss : List Statement) (a : Stand)
     (ls : List StatementLayout) → Laid (Sees lib) lib flow root bodies (laid.all ss a ls) → (t : ℕ) → AllSit b owners lib bases place t ss a ls → (depth : ℕ)
-    → HasBegun lib site rows b owners depth (all ss (scope_at bases a place) (all_given lib bases a ss) (dones_at (base_at bases a) ls)) (λ v k. hits v k t ss)
+    → HasBegun lib site rows b owners depth (all ss (scope_at bases a place) (all_given lib bases a ss) (dones_at (base_at bases a) ls)) no_work (λ v k. hits v k t ss)
