@@ -1,5 +1,6 @@
 pub mod Adding
 pub mod Begins
+pub mod Entry
 pub mod Instances
 pub mod Lists
 pub mod Seen

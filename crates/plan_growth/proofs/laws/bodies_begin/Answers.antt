@@ -1,3 +1,4 @@
+use Rattle.plan_growth.proofs.Entry.{item_even}
 use Rattle.plan_growth.proofs.Adding.{hits_one}
 use Rattle.plan_growth.proofs.Instances.{put}
 use Rattle.plan_growth.proofs.Standing.{statements_stand}
