@@ -2,6 +2,7 @@ pub mod Adding
 pub mod Begins
 pub mod Entry
 pub mod Instances
+pub mod Items
 pub mod Lists
 pub mod Seen
 pub mod Sitting

@@ -81,6 +81,20 @@ module _ (lib : Library) (i : ℕ) (bases : List ℕ) (place : List Segment) whe
     news_steps (laid_next x xs a l ls sees p q) = λ k. ap (λ (ws : List Wants). wants_of bases l ∷ ws) (news_steps q (k + 1))
     news_steps (laid_whole ss names calls path before after body runs p) = tt
 
+    abbrev Counted : laid.Form → Type 0
+    Counted (laid.one x a l) = Unit {0}
+    Counted (laid.all ss a ls) = (k : ℕ) → length (statement_news lib i bases place k ss a ls) ≡ length ss
+    Counted (laid.whole ss names calls path before after body) = Unit {0}
+
+    pub news_length : {f : laid.Form} → Laid (Sees lib) lib flow root bodies f → Counted f
+    news_length (laid_decl x a l slots needs) = tt
+    news_length (laid_call x a l slots needs) = tt
+    news_length (laid_scatter x a l body slots needs there p) = tt
+    news_length (laid_if x a l body slots needs there p) = tt
+    news_length (laid_none a) = λ k. refl
+    news_length (laid_next x xs a l ls sees p q) = λ k. let rest = news_length q (k + 1) in omega (arith, rest)
+    news_length (laid_whole ss names calls path before after body runs p) = tt
+
 -- ---- what holds of each
 
 module _ (lib : Library) (layout : Layout) (is : List Instance) (b : Sheet) (owners : List ℕ) (i : ℕ) (instance : Instance) (body : BodyLayout) (flow : FlowDef) (ofi : IsInstance lib layout is i instance body flow) where
