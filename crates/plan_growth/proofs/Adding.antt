@@ -47,7 +47,7 @@ news_by_length f (suc n) =
     let e = news_by_length f n in
     omega (arith, a, e)
 
-last : (i m : ℕ) → i < suc m → (i < m) ⊎ (i ≡ m)
+pub last : (i m : ℕ) → i < suc m → (i < m) ⊎ (i ≡ m)
 last zero zero h = inr refl
 last zero (suc m) h = inl (omega arith)
 last (suc i) zero h = absurd (omega (arith, h))

@@ -283,7 +283,7 @@ module _ (lib : Library) (layout : Layout) (number : ℕ) (bl : BodyLayout) (flo
           (omega (arith, long, deep), omega (arith, at, inside), tt))
           (there_more outer (base ∷ []) size (length b.values) within a.calls calls_there)
           (omega (arith, long, deep))
-          (λ j y e. ap (λ (xs : List Statement). slice_get xs (0 + j)) at_path ∙ ap (slice_get ss) (omega arith) ∙ e, λ j y e. ap (slice_get bl.statements) (omega arith) ∙ e)
+          (λ j y e. ap (λ (xs : List Statement). slice_get xs (0 + j)) at_path ∙ ap (slice_get ss) (omega arith) ∙ e, λ j y e. ap (slice_get bl.statements) (omega arith) ∙ e) (omega arith, omega arith)
 
       pub items_stand : (i : ℕ) (xs : List Value) (q : Plot) → AllItems b owners is i xs q → ((j : ℕ) (ys : List Value) → length (entered j ys q).net.steps ≡ length q.net.steps + length (items_news j ys q))
           → AllHere (length q.net.steps) (items_news i xs q)

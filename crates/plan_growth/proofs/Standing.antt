@@ -1,16 +1,18 @@
 -- What holds of the steps of a body that is entered.
 use Rattle.std.proofs.Common.{◌≡◌, ℕ, zero, suc, ◌+◌, ◌<◌, ◌≤◌, false, List, [], ◌∷◌, ◌++◌, All, map, append_assoc, append-nil, length, get_or, Option, Some, None, slice_get, arith, sym, ap, ◌∙◌, subst, refl}
+use Rattle.std.proofs.lemmas.List.{length-append}
 use Rattle.std.proofs.lemmas.List.Elements.{All-append, All-cons, All-nil}
 use Rattle.wdl_base.specs.declared.name.Key.{Key}
 use Rattle.wdl_base.specs.declared.place.Segment.{Segment}
 use Rattle.wdl_typed.specs.declared.flow.FlowDef.{FlowDef}
 use Rattle.wdl_typed.specs.declared.flow.Statement.{Statement, out-Statement}
 use Rattle.wdl_typed.specs.Bodies.{Library}
+use Rattle.wdl_typed.specs.Flow.{Names}
 use Rattle.wdl_typed.specs.Scope.{names_of}
 use Rattle.step_net.specs.Views.{Wants}
 use Rattle.value_net.specs.Nets.{view_of, with_step}
 use Rattle.net_laws.specs.Growing as net
-use Rattle.net_laws.specs.Growing.{does, mark_cell, slot_cell}
+use Rattle.net_laws.specs.Growing.{body_given, does, mark_cell, slot_cell}
 use Rattle.net_laws.specs.Rules.{arg_keys}
 use Rattle.plan_moves.specs.Sheets.{Sheet}
 use Rattle.plan_layout.specs.declared.layout.BodyLayout.{BodyLayout}
@@ -22,15 +24,26 @@ use Rattle.plan_layout.specs.Laid.{HasNeeds, Laid, Stand, behind_one, given_at, 
 use Rattle.plan_layout.specs.Paths.{body_at}
 use Rattle.plan_layout.specs.Sees.{Sees}
 use Rattle.plan_layout.specs.Spots.{plain_keys, spots_from}
+use Rattle.plan_layout.proofs.Given.{name_is}
 use Rattle.plan_growth.specs.declared.instance.Instance.{Instance}
 use Rattle.plan_growth.specs.declared.rule.Rule.{Rule}
 use Rattle.plan_growth.specs.declared.rule.Rule.TheVariants as rule
 use Rattle.plan_growth.specs.Begun.{AllSit, IsFree, Sits, base_at, given_of, scope_at}
 use Rattle.plan_growth.specs.Entering.{Sown, cells_of, with_statements}
-use Rattle.plan_growth.specs.Meaning.{AreThere, IsInstance}
+use Rattle.plan_growth.specs.Meaning.{AreThere, Fits, IsInstance}
 use Rattle.plan_growth.specs.News.{AllStand, New, Stands, new_code, new_means, new_wants, statement_news, with_news}
 use Rattle.plan_growth.proofs.Sitting.{body_rules, wants_of}
 use Rattle.plan_growth.proofs.There.{calls_there, names_there, step_below, there_both}
+
+-- ---- names of statements
+
+pub given_keys : (lib : Library) (x : Statement) (xs : List Statement) → length (body_given lib (x ∷ xs)).keys ≡ length (given_at lib (out-Statement x)).keys + length (body_given lib xs).keys
+given_keys lib x xs =
+    ap (λ (n : Names). length (n.keys ++ (body_given lib xs).keys)) (name_is lib x) ∙ length-append (given_at lib (out-Statement x)).keys (body_given lib xs).keys
+
+pub given_calls : (lib : Library) (x : Statement) (xs : List Statement) → length (body_given lib (x ∷ xs)).calls ≡ length (given_at lib (out-Statement x)).calls + length (body_given lib xs).calls
+given_calls lib x xs =
+    ap (λ (n : Names). length (n.calls ++ (body_given lib xs).calls)) (name_is lib x) ∙ length-append (given_at lib (out-Statement x)).calls (body_given lib xs).calls
 
 -- ---- steps one after the other
 
@@ -121,7 +134,7 @@ module _ (lib : Library) (layout : Layout) (is : List Instance) (b : Sheet) (own
   abbrev Says : laid.Form → Type 0
   Says (laid.one x a l) = Within a l
   Says (laid.all ss a ls) =
-      (t k : ℕ) → AllSit b owners lib bases place t ss a ls → AreThere bases size a.names → AreThere bases size a.calls → length bases ≡ length a.path + 1 → AllAt k ss ls
+      (t k : ℕ) → AllSit b owners lib bases place t ss a ls → AreThere bases size a.names → AreThere bases size a.calls → length bases ≡ length a.path + 1 → AllAt k ss ls → Fits (body_given lib ss) a
       → AllStand lib layout is b owners t (statement_news lib i bases place k ss a ls)
   Says (laid.whole ss names calls path before after c) = Unit {0}
 
@@ -141,8 +154,12 @@ module _ (lib : Library) (layout : Layout) (is : List Instance) (b : Sheet) (own
 
   stands_next : (x : Statement) (xs : List Statement) (a : Stand) (l : StatementLayout) (ls : List StatementLayout) → Sees lib x a → Laid (Sees lib) lib body.flow flow.body layout.bodies (laid.one x a l) → Within a l
       → Says (laid.all xs (behind_one lib x a) ls) → Says (laid.all (x ∷ xs) a (l ∷ ls))
-  stands_next x xs a l ls sees p within rest t k sit names calls depth at =
+  stands_next x xs a l ls sees p within rest t k sit names calls depth at fits =
       let low : length a.path < length bases = omega (arith, depth) in
+      let keys = given_keys lib x xs in
+      let called = given_calls lib x xs in
+      let left = fits.0 in
+      let right = fits.1 in
       (record {
         means =
             record {
@@ -160,6 +177,7 @@ module _ (lib : Library) (layout : Layout) (is : List Instance) (b : Sheet) (own
               depth = depth;
               names = names;
               calls = calls;
+              fits = (omega (arith, keys, left), omega (arith, called, right));
               means = refl;
             };
         free = λ e. own_cells t x a l sit.0;
@@ -170,13 +188,13 @@ module _ (lib : Library) (layout : Layout) (is : List Instance) (b : Sheet) (own
       (names_there b owners bases t (length a.path) low a.next_name (given_at lib (out-Statement x)).keys sit.0.names))
       (there_both bases size a.calls (spots_from (length a.path) a.next_call (plain_keys (given_at lib (out-Statement x)).calls)) calls
       (calls_there b owners bases t (length a.path) low a.next_call (plain_keys (given_at lib (out-Statement x)).calls) sit.0.calls))
-      depth (at_rest xs x (body_at flow.body body.path) k at.0, at_rest ls l body.statements k at.1))
+      depth (at_rest xs x (body_at flow.body body.path) k at.0, at_rest ls l body.statements k at.1) (omega (arith, keys, left), omega (arith, called, right)))
 
   pub statements_stand : {f : laid.Form} → Laid (Sees lib) lib body.flow flow.body layout.bodies f → Says f
   statements_stand (laid_decl x a l slots needs) = within_by a l (names_of x.value) [] needs
   statements_stand (laid_call x a l slots needs) = within_by a l (arg_keys x.args) x.after needs
   statements_stand (laid_scatter x a l inner slots needs there p) = within_by a l (names_of x.over) [] needs
   statements_stand (laid_if x a l inner slots needs there p) = within_by a l (names_of x.cond) [] needs
-  statements_stand (laid_none a) = λ t k sit names calls depth at. tt
+  statements_stand (laid_none a) = λ t k sit names calls depth at fits. tt
   statements_stand (laid_next x xs a l ls sees p q) = stands_next x xs a l ls sees p (statements_stand p) (statements_stand q)
   statements_stand (laid_whole ss names calls path before after c runs p) = tt

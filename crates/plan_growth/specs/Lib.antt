@@ -1,4 +1,5 @@
 pub mod Begun
+pub mod Blocks
 pub mod Entering
 pub mod Laws
 pub mod Meaning

@@ -1,11 +1,12 @@
 -- What the rules of a plan's steps mean: what each step is to do, by the layout of the bodies that were entered.
-use Rattle.std.specs.Prelude.{◌≡◌, ℕ, ◌+◌, ◌<◌, true, List, [], ◌∷◌, ◌++◌, All, Some, length, map, slice_get}
+use Rattle.std.specs.Prelude.{◌≡◌, ℕ, ◌+◌, ◌<◌, ◌≤◌, true, List, [], ◌∷◌, ◌++◌, All, Some, length, map, slice_get}
 use Rattle.wdl_typed.specs.declared.expr.TExpr.{TExpr}
 use Rattle.wdl_typed.specs.declared.flow.FlowDef.{FlowDef}
-use Rattle.wdl_typed.specs.declared.flow.Statement.{Statement}
+use Rattle.wdl_typed.specs.declared.flow.Statement.{Statement, out-Statement}
 use Rattle.wdl_typed.specs.declared.task.TDecl.{TDecl}
 use Rattle.wdl_typed.specs.declared.task.TInput.{TInput}
 use Rattle.wdl_typed.specs.Bodies.{Library}
+use Rattle.wdl_typed.specs.Flow.{Names}
 use Rattle.wdl_typed.specs.Journal.{keys_distinct}
 use Rattle.wdl_typed.specs.Scope.{names_of}
 use Rattle.net_laws.specs.Growing as net
@@ -17,7 +18,7 @@ use Rattle.plan_layout.specs.declared.layout.Layout.{Layout}
 use Rattle.plan_layout.specs.declared.layout.Need.{Need}
 use Rattle.plan_layout.specs.declared.layout.StatementLayout.{StatementLayout}
 use Rattle.plan_layout.specs.Cells.{cell_at, slots_at}
-use Rattle.plan_layout.specs.Laid.{Laid, Stand, one}
+use Rattle.plan_layout.specs.Laid.{Laid, Stand, given_at, one}
 use Rattle.plan_layout.specs.Paths.{body_at}
 use Rattle.plan_layout.specs.Sees.{AllSeen, Sees, spot_keys}
 use Rattle.plan_layout.specs.Spots.{needs_of}
@@ -30,6 +31,10 @@ use Rattle.plan_growth.specs.Begun.{base_at, given_of, scope_at}
 abbrev pub AreThere : List ℕ → ℕ → List Need → Type 0
 AreThere bases n [] = Unit {0}
 AreThere bases n (s ∷ ss) = (s.level < length bases) × (cell_at bases s < n) × AreThere bases n ss
+
+-- The runs of names, of calls and of blocks do not meet, where these names are given out from a stand on.
+abbrev pub Fits : Names → Stand → Type 0
+Fits n a = (a.next_name + length n.keys ≤ a.next_call) × (a.next_call + length n.calls ≤ a.next_done)
 
 -- an instance of a body, with its layout and its workflow
 pub record IsInstance (lib : Library) (layout : Layout) (is : List Instance) (i : ℕ) (instance : Instance) (body : BodyLayout) (flow : FlowDef) : Type 0 where
@@ -53,6 +58,7 @@ pub record MeansStatement (lib : Library) (layout : Layout) (is : List Instance)
   pub depth : length instance.bases ≡ length stand.path + 1
   pub names : AreThere instance.bases n stand.names
   pub calls : AreThere instance.bases n stand.calls
+  pub fits : Fits (given_at lib (out-Statement statement)) stand
   pub means : m ≡ does statement (scope_at instance.bases stand instance.place) (given_of lib instance.bases stand statement) (base_at instance.bases stand + line.done)
 
 -- The step evaluates that expression of the instance, a workflow's own, at a slot.
