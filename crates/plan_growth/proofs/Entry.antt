@@ -21,20 +21,12 @@ use Rattle.plan_growth.specs.declared.instance.Instance.{Instance}
 use Rattle.plan_growth.specs.declared.rule.Rule.{Rule}
 use Rattle.plan_growth.specs.Begun.{base_at}
 use Rattle.plan_growth.specs.Entering.{Plot, Sown, with_instance, with_item, with_net}
+use Rattle.plan_growth.specs.Growth.{IsEven, sheet_of}
 use Rattle.plan_growth.specs.News.{New, new_code, new_means, new_wants, statement_news, with_news}
 use Rattle.plan_growth.proofs.Instances.{Extends, IsEntered, Kept, entered_owners, entered_sheet, enters, enters_behind, instance_owners, owners_count}
 use Rattle.plan_growth.proofs.Lists.{get_left, get_right, get_set, get_unset}
 use Rattle.plan_growth.proofs.Sitting.{body_rules, call_owners, done_owners, name_owners, wants_of}
 use Rattle.plan_growth.proofs.Standing.{news_rules, news_steps, statements_added}
-
-abbrev pub sheet_of : Sown → List net.Rule → Sheet
-sheet_of v rules = view_of v.values rules v.steps
-
--- Each step has a rule and a meaning, and each cell an owner.
-pub record IsEven (v : Sown) (rules : List net.Rule) (owners : List ℕ) : Type 0 where
-  pub codes : length v.rules ≡ length v.steps
-  pub rules_too : length rules ≡ length v.steps
-  pub owners_too : length owners ≡ length v.values
 
 pub even_news : (v : Sown) (rules : List net.Rule) (owners : List ℕ) (ns : List New) → IsEven v rules owners → IsEven (with_news v ns) (rules ++ map new_means ns) owners
 even_news v rules owners ns e =

@@ -32,11 +32,12 @@ use Rattle.plan_growth.specs.declared.instance.Instance.{Instance}
 use Rattle.plan_growth.specs.declared.rule.Rule.{Rule}
 use Rattle.plan_growth.specs.Begun.{AllSit, HasBegun, all_given, base_at, hits, scope_at}
 use Rattle.plan_growth.specs.Entering.{Plot, Sown, dones_at, firsts_of, with_items}
+use Rattle.plan_growth.specs.Growth.{IsEven, sheet_of}
 use Rattle.plan_growth.specs.Meaning.{AreThere}
 use Rattle.plan_growth.specs.News.{AllStand, New, new_code, new_means, new_wants, statement_news, with_news}
 use Rattle.plan_growth.proofs.Adding.{hits_both, hits_length, rules_both, stand_both}
 use Rattle.plan_growth.proofs.Begins.{bodies_begin}
-use Rattle.plan_growth.proofs.Entry.{IsEven, item_entered, item_even, item_extends, item_there, net_is, sheet_of}
+use Rattle.plan_growth.proofs.Entry.{item_entered, item_even, item_extends, item_there, net_is}
 use Rattle.plan_growth.proofs.Instances.{Extends, IsEntered, Kept, entered_later, extends_twice, instance_owners, put}
 use Rattle.plan_growth.proofs.Lists.{get_left, get_right}
 use Rattle.plan_growth.proofs.Sitting.{all_sit}

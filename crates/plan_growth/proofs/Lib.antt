@@ -5,6 +5,7 @@ pub mod Handing
 pub mod Instances
 pub mod Items
 pub mod Lists
+pub mod Moving
 pub mod Runs
 pub mod Seen
 pub mod Sitting
