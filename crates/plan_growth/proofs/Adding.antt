@@ -139,7 +139,7 @@ hits_behind v k t (x ∷ xs) le =
     let rest = hits_behind v k (t + 1) xs (omega (arith, le)) in
     omega (arith, own, rest)
 
-apart : (m n : ℕ) → (m ≡ n) ⊎ (m ≡ n → ⊥)
+pub apart : (m n : ℕ) → (m ≡ n) ⊎ (m ≡ n → ⊥)
 apart zero zero = inl refl
 apart zero (suc n) = inr (λ e. omega (arith, e))
 apart (suc m) zero = inr (λ e. omega (arith, e))
