@@ -1,6 +1,7 @@
 pub mod Adding
 pub mod Begins
 pub mod Entry
+pub mod Goes
 pub mod Handing
 pub mod Instances
 pub mod Items

@@ -96,7 +96,7 @@ module _ (t : ℕ) (v : Sown) (rules : List net.Rule) (owners : List ℕ) (is : 
 
   -- ---- what holds of the steps
 
-  free_kept : (u : ℕ) (cs : List ℕ) → (u ≡ t → ⊥) → All (IsFree (sheet_of v rules) owners u) cs → All (IsFree (sheet_of w rules_now) owners_now u) cs
+  pub free_kept : (u : ℕ) (cs : List ℕ) → (u ≡ t → ⊥) → All (IsFree (sheet_of v rules) owners u) cs → All (IsFree (sheet_of w rules_now) owners_now u) cs
   free_kept u cs n h i d lt = let f = h i d lt in (m.owned (get_or cs i d) u f.0 n, m.others (get_or cs i d) u f.0 n ∙ f.1)
 
   below_kept : (cs : List ℕ) → All (λ (c : ℕ). c < length v.values) cs → All (λ (c : ℕ). c < length w.values) cs
