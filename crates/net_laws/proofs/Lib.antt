@@ -18,3 +18,7 @@ pub mod Callable
 pub mod Places
 pub mod Asking
 pub mod Moves
+pub mod Giving
+pub mod Further
+pub mod Joined
+pub mod Beneath
