@@ -29,6 +29,7 @@ use Rattle.net_laws.specs.Cost.{TaskCost, called_cost, flow_cost, met_cost}
 use Rattle.net_laws.specs.Moving.{AskedAt, Grows, IsWeight, OthersAnswered, Turn, TurnLeaves, TurnSpends, TurnWeighs, Untouched, at_step, declared_at, hit}
 use Rattle.net_laws.specs.Roots.{IsCallable}
 use Rattle.net_laws.specs.Works.{asked_count, evaluated, told_count, told_work, work_of}
+use Rattle.net_laws.proofs.Even.{told_even, work_even}
 use Rattle.net_laws.proofs.Callable.{callable_body, callable_called, callable_first, callable_inputs, callable_item, callable_items, callable_later, callable_outputs, callable_rest, callable_whole}
 use Rattle.net_laws.proofs.Calls.{call_layer, listed, no_call, plain_same, price_same}
 use Rattle.net_laws.proofs.Grown.{call_rows_same}
@@ -424,8 +425,8 @@ module _ (lib : Library) (site : List ℕ) (rows later : List Row) (desc more : 
       weighed (next depth x xs s g h d ds p q) runs same_rows =
           let i = weighed p (callable_first lib runs) (answered_left (asking p) (asking q) same_rows) in
           let j = weighed q (callable_rest lib runs) (answered_right (asking p) (asking q) same_rows) in
-          let v = is_weight.both (work_of lib site later more b (moved p (callable_first lib runs) (answered_left (asking p) (asking q) same_rows))) (work_of lib site later more b (moved q (callable_rest lib runs) (answered_right (asking p) (asking q) same_rows))) in
-          let w = is_weight.both (work_of lib site rows desc a p) (work_of lib site rows desc a q) in
+          let v = is_weight.both (work_of lib site later more b (moved p (callable_first lib runs) (answered_left (asking p) (asking q) same_rows))) (work_of lib site later more b (moved q (callable_rest lib runs) (answered_right (asking p) (asking q) same_rows))) (work_even lib site later more b (moved p (callable_first lib runs) (answered_left (asking p) (asking q) same_rows))) in
+          let w = is_weight.both (work_of lib site rows desc a p) (work_of lib site rows desc a q) (work_even lib site rows desc a p) in
           omega (arith, i, j, v, w)
       weighed (left_decl depth x s c u left n k) runs same_rows = decl_weighs depth x s c u left n k (cases_eq u t)
       weighed (left_call depth x s g d u left n is ends_ k) runs same_rows = call_weighs depth x s g d u left n is ends_ k runs (cases_eq u t)
@@ -448,52 +449,58 @@ module _ (lib : Library) (site : List ℕ) (rows later : List Row) (desc more : 
       weighed (item_next depth xs s k item m cell y ys g ds qs is p q) runs same_rows =
           let i = weighed p (callable_item lib runs) (answered_left (asking p) (asking q) same_rows) in
           let j = weighed q (callable_later lib runs) (answered_right (asking p) (asking q) same_rows) in
-          let c = is_weight.both (counted (length xs) (work_of lib site later more b (moved p (callable_item lib runs) (answered_left (asking p) (asking q) same_rows)))) (work_of lib site later more b (moved q (callable_later lib runs) (answered_right (asking p) (asking q) same_rows))) in
-          let e = is_weight.both (counted (length xs) (work_of lib site rows desc a p)) (work_of lib site rows desc a q) in
+          let c = is_weight.both (counted (length xs) (work_of lib site later more b (moved p (callable_item lib runs) (answered_left (asking p) (asking q) same_rows)))) (work_of lib site later more b (moved q (callable_later lib runs) (answered_right (asking p) (asking q) same_rows))) (work_even lib site later more b (moved p (callable_item lib runs) (answered_left (asking p) (asking q) same_rows))) in
+          let e = is_weight.both (counted (length xs) (work_of lib site rows desc a p)) (work_of lib site rows desc a q) (work_even lib site rows desc a p) in
           let v = is_weight.more (length xs) (work_of lib site later more b (moved p (callable_item lib runs) (answered_left (asking p) (asking q) same_rows))) in
           let w = is_weight.more (length xs) (work_of lib site rows desc a p) in
           omega (arith, i, j, c, e, v, w)
       weighed (no_input depth given s) runs same_rows = refl
       weighed (given_input depth given m is s h c y e found p) runs same_rows =
           let i = weighed p (callable_inputs lib) same_rows in
-          let v = is_weight.both no_work (work_of lib site later more b (moved p (callable_inputs lib) same_rows)) in
-          let w = is_weight.both no_work (work_of lib site rows desc a p) in
+          let v = is_weight.both no_work (work_of lib site later more b (moved p (callable_inputs lib) same_rows)) refl in
+          let w = is_weight.both no_work (work_of lib site rows desc a p) refl in
           omega (arith, i, v, w)
       weighed (absent_input depth given m is s h c e lacking found p) runs same_rows =
           let i = weighed p (callable_inputs lib) same_rows in
-          let v = is_weight.both no_work (work_of lib site later more b (moved p (callable_inputs lib) same_rows)) in
-          let w = is_weight.both no_work (work_of lib site rows desc a p) in
+          let v = is_weight.both no_work (work_of lib site later more b (moved p (callable_inputs lib) same_rows)) refl in
+          let w = is_weight.both no_work (work_of lib site rows desc a p) refl in
           omega (arith, i, v, w)
       weighed (default_input depth given m is s h c e lacking some d p) runs same_rows =
           let i = weighed p (callable_inputs lib) same_rows in
           let j = declared_weighs m.name e s c d in
-          let v = is_weight.both (told_work lib site later more b m.name e s c (declared_moved m.name e s c d)) (work_of lib site later more b (moved p (callable_inputs lib) same_rows)) in
-          let w = is_weight.both (told_work lib site rows desc a m.name e s c d) (work_of lib site rows desc a p) in
+          let v = is_weight.both (told_work lib site later more b m.name e s c (declared_moved m.name e s c d)) (work_of lib site later more b (moved p (callable_inputs lib) same_rows)) (told_even lib site later more b m.name e s c (declared_moved m.name e s c d)) in
+          let w = is_weight.both (told_work lib site rows desc a m.name e s c d) (work_of lib site rows desc a p) (told_even lib site rows desc a m.name e s c d) in
           omega (arith, i, j, v, w)
       weighed (no_output depth s) runs same_rows = refl
       weighed (output_next depth x xs s h c d p) runs same_rows =
           let i = weighed p (callable_outputs lib) same_rows in
           let j = declared_weighs x.name x.value s c d in
-          let v = is_weight.both (told_work lib site later more b x.name x.value s c (declared_moved x.name x.value s c d)) (work_of lib site later more b (moved p (callable_outputs lib) same_rows)) in
-          let w = is_weight.both (told_work lib site rows desc a x.name x.value s c d) (work_of lib site rows desc a p) in
+          let v = is_weight.both (told_work lib site later more b x.name x.value s c (declared_moved x.name x.value s c d)) (work_of lib site later more b (moved p (callable_outputs lib) same_rows)) (told_even lib site later more b x.name x.value s c (declared_moved x.name x.value s c d)) in
+          let w = is_weight.both (told_work lib site rows desc a x.name x.value s c d) (work_of lib site rows desc a p) (told_even lib site rows desc a x.name x.value s c d) in
           omega (arith, i, j, v, w)
       weighed (flow_whole depth f given place m b_ o ds p q r) runs same_rows =
           let i = weighed p (callable_inputs lib) (answered_first (asking p) (asking q) (asking r) same_rows) in
           let j = weighed q (callable_whole lib runs) (answered_middle (asking p) (asking q) (asking r) same_rows) in
           let k = weighed r (callable_outputs lib) (answered_last (asking p) (asking q) (asking r) same_rows) in
           let now_p = work_of lib site later more b (moved p (callable_inputs lib) (answered_first (asking p) (asking q) (asking r) same_rows)) in
+          let even_now_p = work_even lib site later more b (moved p (callable_inputs lib) (answered_first (asking p) (asking q) (asking r) same_rows)) in
           let now_q = work_of lib site later more b (moved q (callable_whole lib runs) (answered_middle (asking p) (asking q) (asking r) same_rows)) in
+          let even_now_q = work_even lib site later more b (moved q (callable_whole lib runs) (answered_middle (asking p) (asking q) (asking r) same_rows)) in
           let now_r = work_of lib site later more b (moved r (callable_outputs lib) (answered_last (asking p) (asking q) (asking r) same_rows)) in
+          let even_now_r = work_even lib site later more b (moved r (callable_outputs lib) (answered_last (asking p) (asking q) (asking r) same_rows)) in
           let was_p = work_of lib site rows desc a p in
+          let even_was_p = work_even lib site rows desc a p in
           let was_q = work_of lib site rows desc a q in
+          let even_was_q = work_even lib site rows desc a q in
           let was_r = work_of lib site rows desc a r in
-          let v1 = is_weight.both now_p (both_works (counted (length f.body) now_q) (both_works now_r no_work)) in
-          let v2 = is_weight.both (counted (length f.body) now_q) (both_works now_r no_work) in
-          let v3 = is_weight.both now_r no_work in
+          let even_was_r = work_even lib site rows desc a r in
+          let v1 = is_weight.both now_p (both_works (counted (length f.body) now_q) (both_works now_r no_work)) even_now_p in
+          let v2 = is_weight.both (counted (length f.body) now_q) (both_works now_r no_work) even_now_q in
+          let v3 = is_weight.both now_r no_work even_now_r in
           let v4 = is_weight.more (length f.body) now_q in
-          let w1 = is_weight.both was_p (both_works (counted (length f.body) was_q) (both_works was_r no_work)) in
-          let w2 = is_weight.both (counted (length f.body) was_q) (both_works was_r no_work) in
-          let w3 = is_weight.both was_r no_work in
+          let w1 = is_weight.both was_p (both_works (counted (length f.body) was_q) (both_works was_r no_work)) even_was_p in
+          let w2 = is_weight.both (counted (length f.body) was_q) (both_works was_r no_work) even_was_q in
+          let w3 = is_weight.both was_r no_work even_was_r in
           let w4 = is_weight.more (length f.body) was_q in
           omega (arith, i, j, k, v1, v2, v3, v4, w1, w2, w3, w4)
 
