@@ -66,8 +66,11 @@ module _ (st : State) where
     pub needs_lack : are_set st (st.needs t) ≡ false → Lacks st.cells s.names n.slots (names_of e)
     needs_lack h = lacks st.cells s.names n.slots (names_of e) n.needs.resolved n.uses (slots_are n.slots false (ap (are_set st) (sym n.cells) ∙ h))
 
+    pub needs_slots : are_set st (st.needs t) ≡ true → slots_set st.cells n.slots ≡ true
+    needs_slots h = slots_are n.slots true (ap (are_set st) (sym n.cells) ∙ h)
+
     pub needs_known : are_set st (st.needs t) ≡ true → all_known (map (known_in st.cells) n.slots) e ≡ true
-    needs_known h = all_known_set st.cells n.slots (slots_are n.slots true (ap (are_set st) (sym n.cells) ∙ h)) (names_of e) n.needs.all
+    needs_known h = all_known_set st.cells n.slots (needs_slots h) (names_of e) n.needs.all
 
     -- Where all that is seen is known, no step misses a need.
     pub needs_absurd : are_set st (st.needs t) ≡ false → AllKnown st.cells s → ⊥
@@ -83,6 +86,9 @@ module _ (st : State) where
 
     split : (b : Bool) → are_set st (st.needs t) ≡ b → are_set st ks && are_set st ms ≡ b
     split b h = sym (list_all-append (is_set st) ks ms) ∙ ap (are_set st) (sym n.cells) ∙ h
+
+    pub call_slots : are_set st (st.needs t) ≡ true → (slots_set st.cells n.slots ≡ true) × (marks_set st.cells n.marks ≡ true)
+    call_slots h = let p = and_parts (are_set st ks) (are_set st ms) (split true h) in (slots_are n.slots true p.0, marks_are n.marks true p.1)
 
     args_set : (as_ : List (TField TExpr)) → slots_set st.cells n.slots ≡ true → list_all (λ (k : Key). is_among k (slot_keys n.slots)) (arg_keys as_) ≡ true → args_known (map (known_in st.cells) n.slots) as_ ≡ true
     args_set [] h i = refl

@@ -3,7 +3,6 @@ use Rattle.std.proofs.Common.{◌≡◌, ◌<◌, ℕ, zero, suc, ◌+◌, Bool,
 use Rattle.std.specs.List.{list_all}
 use Rattle.std.proofs.lemmas.Bool.{and_from, and_parts, cases_eq, eq-eqb, ne_eqb}
 use Rattle.std.proofs.lemmas.List.Elements.{Contains-append_left, Contains-append_right}
-use Rattle.std.proofs.lemmas.List.Folds.{list_all-append, list_all-map}
 use Rattle.wdl_base.specs.declared.name.Key.{Key}
 use Rattle.wdl_base.specs.declared.place.Segment.{Segment}
 use Rattle.wdl_base.specs.declared.place.Segment.TheVariants as segment
@@ -30,11 +29,13 @@ use Rattle.net_laws.specs.Cost.{TaskCost, called_cost, flow_cost, met_cost}
 use Rattle.net_laws.specs.Moving.{AskedAt, Grows, IsWeight, OthersAnswered, Turn, TurnLeaves, TurnSpends, TurnWeighs, Untouched, at_step, declared_at, hit}
 use Rattle.net_laws.specs.Roots.{IsCallable}
 use Rattle.net_laws.specs.Works.{asked_count, evaluated, told_count, told_work, work_of}
+use Rattle.net_laws.proofs.Even.{told_even, work_even}
 use Rattle.net_laws.proofs.Callable.{callable_body, callable_called, callable_first, callable_inputs, callable_item, callable_items, callable_later, callable_outputs, callable_rest, callable_whole}
 use Rattle.net_laws.proofs.Calls.{call_layer, listed, no_call, plain_same, price_same}
 use Rattle.net_laws.proofs.Grown.{call_rows_same}
 use Rattle.net_laws.proofs.Kept.{calls_kept, follows_kept, head_kept, names_kept}
-use Rattle.net_laws.proofs.Sets.{marks_set, slots_set}
+use Rattle.net_laws.proofs.Leaves.{call_slots, needs_slots}
+use Rattle.net_laws.proofs.Sets.{slots_set}
 
 module _ (lib : Library) (site : List ℕ) (rows later : List Row) (desc more : ℕ → Rule → Type 0) (a b : State) where
   abbrev Old : ℕ → Form → Type 0
@@ -100,14 +101,6 @@ module _ (lib : Library) (site : List ℕ) (rows later : List Row) (desc more : 
     abbrev call_needed : (u : ℕ) (s : Scope) (x : TCall) → b.needs u ≡ a.needs u → CallNeeded a u s x → CallNeeded b u s x
     call_needed u s x same n = record { slots = n.slots; marks = n.marks; distinct = n.distinct; needs = n.needs; uses = n.uses; comes_after = n.comes_after; cells = same ∙ n.cells }
 
-    slots_ready : (u : ℕ) (s : Scope) (e : TExpr) (n : NamesNeeded a u s e) → are_set a (a.needs u) ≡ true → slots_set a.cells n.slots ≡ true
-    slots_ready u s e n h = sym (list_all-map (is_set a) slot_cell n.slots) ∙ ap (are_set a) (sym n.cells) ∙ h
-
-    call_slots : (u : ℕ) (s : Scope) (x : TCall) (n : CallNeeded a u s x) → are_set a (a.needs u) ≡ true → (slots_set a.cells n.slots ≡ true) × (marks_set a.cells n.marks ≡ true)
-    call_slots u s x n h =
-        let p = and_parts (are_set a (map slot_cell n.slots)) (are_set a (map mark_cell n.marks)) (sym (list_all-append (is_set a) (map slot_cell n.slots) (map mark_cell n.marks)) ∙ ap (are_set a) (sym n.cells) ∙ h) in
-        (sym (list_all-map (is_set a) slot_cell n.slots) ∙ p.0, sym (list_all-map (is_set a) mark_cell n.marks) ∙ p.1)
-
     keeps : (u c : ℕ) → Rests u → Keeps a u c → Keeps b u c
     keeps u c o k = (o.owner c k.0, o.cells c k.0 ∙ k.1)
 
@@ -134,7 +127,7 @@ module _ (lib : Library) (site : List ℕ) (rows later : List Row) (desc more : 
         ∙ ap (λ (es : List Ended). ended_in a.cells m ∷ es) (marks_same u o ms (λ k e i. h (suc k) e (omega (arith, i))))
 
     head_same : (u : ℕ) (s : Scope) (e : TExpr) (n : NamesNeeded a u s e) → are_set a (a.needs u) ≡ true → (o : Option (Outcome Value)) → head a.cells n.slots e ≡ o → head b.cells n.slots e ≡ o
-    head_same u s e n h o is = head_kept a.cells b.cells grows.cells n.slots e (slots_ready u s e n h) ∙ is
+    head_same u s e n h o is = head_kept a.cells b.cells grows.cells n.slots e (needs_slots a u s e n h) ∙ is
 
     -- ---- joints
 
@@ -220,7 +213,7 @@ module _ (lib : Library) (site : List ℕ) (rows later : List Row) (desc more : 
             set = needs_set u same p.set;
             own = o.owner c p.own;
             work = p.work;
-            follows = follows_kept a.cells b.cells grows.cells s.place n.slots [] (λ (y : Sight). declaration y name e) (only name c) p.work (slots_ready u s e n p.set) refl
+            follows = follows_kept a.cells b.cells grows.cells s.place n.slots [] (λ (y : Sight). declaration y name e) (only name c) p.work (needs_slots a u s e n p.set) refl
                 (slots_same u o (only name c).names (λ k m i. own_only k m i p.own)) refl p.follows;
           }),
         )
@@ -235,7 +228,7 @@ module _ (lib : Library) (site : List ℕ) (rows later : List Row) (desc more : 
         → New depth (one (stmt.Call x) s g d)
     call_kept depth x s g d u w o same_rows q n set is ends_ own plain follows =
         let same = grows.needs u (does (stmt.Call x) s g d) q in
-        let ready = call_slots u s x n set in
+        let ready = call_slots a u s x n set in
         told_call depth x s g d u w (grows.done u (does (stmt.Call x) s g d) q) (call_needed u s x same n) (needs_set u same set) is ends_ (has_cells u g d o own) (plain_now ready.0)
         (follows_kept a.cells b.cells grows.cells s.place n.slots n.marks (call_of (run_with lib site later) (flow (run_with lib site later) depth) (call_names lib x) x) g w ready.0 ready.1 (slots_same u o g.names own.names)
         (marks_same u o g.calls own.calls)
@@ -290,7 +283,7 @@ module _ (lib : Library) (site : List ℕ) (rows later : List Row) (desc more : 
         let same = grows.needs u _ q in
         let o = others u (other_step u (does (stmt.Decl x) s (only x.name c) c) q (no_call (does (stmt.Decl x) s (only x.name c) c) (ap call_layer (stmt.outs-Decl x)))) in
         told_decl depth x s c u w (grows.done u _ q) (names_needed u s x.value same n) (needs_set u same set) (o.owner c own)
-        (follows_kept a.cells b.cells grows.cells s.place n.slots [] (λ (y : Sight). declaration y x.name x.value) (only x.name c) w (slots_ready u s x.value n set) refl
+        (follows_kept a.cells b.cells grows.cells s.place n.slots [] (λ (y : Sight). declaration y x.name x.value) (only x.name c) w (needs_slots a u s x.value n set) refl
         (slots_same u o (only x.name c).names (λ k m i. own_only k m i)) refl follows)
       where
         own_only : (k m : ℕ) → k < 1 → Owns a u (get_or (c ∷ []) k m)
@@ -300,7 +293,7 @@ module _ (lib : Library) (site : List ℕ) (rows later : List Row) (desc more : 
         told_turned depth x s g d w u (record { done = q; needed = n; set = set; named = is; ends_at = ends_; own = own; plain = plain; follows = follows }) (answered_itself u s x same_rows) (cases_eq u t)
     moved (run_call depth x s g h d u ds q n set k is f found args met names ends_ distinct p copied ended) runs same_rows =
         let same = grows.needs u _ q in
-        let ready = call_slots u s x n set in
+        let ready = call_slots a u s x n set in
         run_call depth x s g h d u ds (grows.done u _ q) (call_needed u s x same n) (needs_set u same set) k is f found args
         (record {
           known = ap (λ (ks : List Known). args_known ks x.args) (names_kept a.cells b.cells grows.cells n.slots ready.0) ∙ met.known;
@@ -432,8 +425,8 @@ module _ (lib : Library) (site : List ℕ) (rows later : List Row) (desc more : 
       weighed (next depth x xs s g h d ds p q) runs same_rows =
           let i = weighed p (callable_first lib runs) (answered_left (asking p) (asking q) same_rows) in
           let j = weighed q (callable_rest lib runs) (answered_right (asking p) (asking q) same_rows) in
-          let v = is_weight.both (work_of lib site later more b (moved p (callable_first lib runs) (answered_left (asking p) (asking q) same_rows))) (work_of lib site later more b (moved q (callable_rest lib runs) (answered_right (asking p) (asking q) same_rows))) in
-          let w = is_weight.both (work_of lib site rows desc a p) (work_of lib site rows desc a q) in
+          let v = is_weight.both (work_of lib site later more b (moved p (callable_first lib runs) (answered_left (asking p) (asking q) same_rows))) (work_of lib site later more b (moved q (callable_rest lib runs) (answered_right (asking p) (asking q) same_rows))) (work_even lib site later more b (moved p (callable_first lib runs) (answered_left (asking p) (asking q) same_rows))) in
+          let w = is_weight.both (work_of lib site rows desc a p) (work_of lib site rows desc a q) (work_even lib site rows desc a p) in
           omega (arith, i, j, v, w)
       weighed (left_decl depth x s c u left n k) runs same_rows = decl_weighs depth x s c u left n k (cases_eq u t)
       weighed (left_call depth x s g d u left n is ends_ k) runs same_rows = call_weighs depth x s g d u left n is ends_ k runs (cases_eq u t)
@@ -456,52 +449,58 @@ module _ (lib : Library) (site : List ℕ) (rows later : List Row) (desc more : 
       weighed (item_next depth xs s k item m cell y ys g ds qs is p q) runs same_rows =
           let i = weighed p (callable_item lib runs) (answered_left (asking p) (asking q) same_rows) in
           let j = weighed q (callable_later lib runs) (answered_right (asking p) (asking q) same_rows) in
-          let c = is_weight.both (counted (length xs) (work_of lib site later more b (moved p (callable_item lib runs) (answered_left (asking p) (asking q) same_rows)))) (work_of lib site later more b (moved q (callable_later lib runs) (answered_right (asking p) (asking q) same_rows))) in
-          let e = is_weight.both (counted (length xs) (work_of lib site rows desc a p)) (work_of lib site rows desc a q) in
+          let c = is_weight.both (counted (length xs) (work_of lib site later more b (moved p (callable_item lib runs) (answered_left (asking p) (asking q) same_rows)))) (work_of lib site later more b (moved q (callable_later lib runs) (answered_right (asking p) (asking q) same_rows))) (work_even lib site later more b (moved p (callable_item lib runs) (answered_left (asking p) (asking q) same_rows))) in
+          let e = is_weight.both (counted (length xs) (work_of lib site rows desc a p)) (work_of lib site rows desc a q) (work_even lib site rows desc a p) in
           let v = is_weight.more (length xs) (work_of lib site later more b (moved p (callable_item lib runs) (answered_left (asking p) (asking q) same_rows))) in
           let w = is_weight.more (length xs) (work_of lib site rows desc a p) in
           omega (arith, i, j, c, e, v, w)
       weighed (no_input depth given s) runs same_rows = refl
       weighed (given_input depth given m is s h c y e found p) runs same_rows =
           let i = weighed p (callable_inputs lib) same_rows in
-          let v = is_weight.both no_work (work_of lib site later more b (moved p (callable_inputs lib) same_rows)) in
-          let w = is_weight.both no_work (work_of lib site rows desc a p) in
+          let v = is_weight.both no_work (work_of lib site later more b (moved p (callable_inputs lib) same_rows)) refl in
+          let w = is_weight.both no_work (work_of lib site rows desc a p) refl in
           omega (arith, i, v, w)
       weighed (absent_input depth given m is s h c e lacking found p) runs same_rows =
           let i = weighed p (callable_inputs lib) same_rows in
-          let v = is_weight.both no_work (work_of lib site later more b (moved p (callable_inputs lib) same_rows)) in
-          let w = is_weight.both no_work (work_of lib site rows desc a p) in
+          let v = is_weight.both no_work (work_of lib site later more b (moved p (callable_inputs lib) same_rows)) refl in
+          let w = is_weight.both no_work (work_of lib site rows desc a p) refl in
           omega (arith, i, v, w)
       weighed (default_input depth given m is s h c e lacking some d p) runs same_rows =
           let i = weighed p (callable_inputs lib) same_rows in
           let j = declared_weighs m.name e s c d in
-          let v = is_weight.both (told_work lib site later more b m.name e s c (declared_moved m.name e s c d)) (work_of lib site later more b (moved p (callable_inputs lib) same_rows)) in
-          let w = is_weight.both (told_work lib site rows desc a m.name e s c d) (work_of lib site rows desc a p) in
+          let v = is_weight.both (told_work lib site later more b m.name e s c (declared_moved m.name e s c d)) (work_of lib site later more b (moved p (callable_inputs lib) same_rows)) (told_even lib site later more b m.name e s c (declared_moved m.name e s c d)) in
+          let w = is_weight.both (told_work lib site rows desc a m.name e s c d) (work_of lib site rows desc a p) (told_even lib site rows desc a m.name e s c d) in
           omega (arith, i, j, v, w)
       weighed (no_output depth s) runs same_rows = refl
       weighed (output_next depth x xs s h c d p) runs same_rows =
           let i = weighed p (callable_outputs lib) same_rows in
           let j = declared_weighs x.name x.value s c d in
-          let v = is_weight.both (told_work lib site later more b x.name x.value s c (declared_moved x.name x.value s c d)) (work_of lib site later more b (moved p (callable_outputs lib) same_rows)) in
-          let w = is_weight.both (told_work lib site rows desc a x.name x.value s c d) (work_of lib site rows desc a p) in
+          let v = is_weight.both (told_work lib site later more b x.name x.value s c (declared_moved x.name x.value s c d)) (work_of lib site later more b (moved p (callable_outputs lib) same_rows)) (told_even lib site later more b x.name x.value s c (declared_moved x.name x.value s c d)) in
+          let w = is_weight.both (told_work lib site rows desc a x.name x.value s c d) (work_of lib site rows desc a p) (told_even lib site rows desc a x.name x.value s c d) in
           omega (arith, i, j, v, w)
       weighed (flow_whole depth f given place m b_ o ds p q r) runs same_rows =
           let i = weighed p (callable_inputs lib) (answered_first (asking p) (asking q) (asking r) same_rows) in
           let j = weighed q (callable_whole lib runs) (answered_middle (asking p) (asking q) (asking r) same_rows) in
           let k = weighed r (callable_outputs lib) (answered_last (asking p) (asking q) (asking r) same_rows) in
           let now_p = work_of lib site later more b (moved p (callable_inputs lib) (answered_first (asking p) (asking q) (asking r) same_rows)) in
+          let even_now_p = work_even lib site later more b (moved p (callable_inputs lib) (answered_first (asking p) (asking q) (asking r) same_rows)) in
           let now_q = work_of lib site later more b (moved q (callable_whole lib runs) (answered_middle (asking p) (asking q) (asking r) same_rows)) in
+          let even_now_q = work_even lib site later more b (moved q (callable_whole lib runs) (answered_middle (asking p) (asking q) (asking r) same_rows)) in
           let now_r = work_of lib site later more b (moved r (callable_outputs lib) (answered_last (asking p) (asking q) (asking r) same_rows)) in
+          let even_now_r = work_even lib site later more b (moved r (callable_outputs lib) (answered_last (asking p) (asking q) (asking r) same_rows)) in
           let was_p = work_of lib site rows desc a p in
+          let even_was_p = work_even lib site rows desc a p in
           let was_q = work_of lib site rows desc a q in
+          let even_was_q = work_even lib site rows desc a q in
           let was_r = work_of lib site rows desc a r in
-          let v1 = is_weight.both now_p (both_works (counted (length f.body) now_q) (both_works now_r no_work)) in
-          let v2 = is_weight.both (counted (length f.body) now_q) (both_works now_r no_work) in
-          let v3 = is_weight.both now_r no_work in
+          let even_was_r = work_even lib site rows desc a r in
+          let v1 = is_weight.both now_p (both_works (counted (length f.body) now_q) (both_works now_r no_work)) even_now_p in
+          let v2 = is_weight.both (counted (length f.body) now_q) (both_works now_r no_work) even_now_q in
+          let v3 = is_weight.both now_r no_work even_now_r in
           let v4 = is_weight.more (length f.body) now_q in
-          let w1 = is_weight.both was_p (both_works (counted (length f.body) was_q) (both_works was_r no_work)) in
-          let w2 = is_weight.both (counted (length f.body) was_q) (both_works was_r no_work) in
-          let w3 = is_weight.both was_r no_work in
+          let w1 = is_weight.both was_p (both_works (counted (length f.body) was_q) (both_works was_r no_work)) even_was_p in
+          let w2 = is_weight.both (counted (length f.body) was_q) (both_works was_r no_work) even_was_q in
+          let w3 = is_weight.both was_r no_work even_was_r in
           let w4 = is_weight.more (length f.body) was_q in
           omega (arith, i, j, k, v1, v2, v3, v4, w1, w2, w3, w4)
 
@@ -605,7 +604,7 @@ module _ (lib : Library) (site : List ℕ) (rows later : List Row) (desc more : 
       pub asked_kept : (depth u : ℕ) (s : Scope) (x : TCall) (n : CallNeeded a u s x) → are_set a (a.needs u) ≡ true → IsPlain lib site rows desc a x n.slots
           → asked_count lib site later more b task depth s x n.slots n.marks ≡ asked_count lib site rows desc a task depth s x n.slots n.marks
       asked_kept depth u s x n set plain =
-          let ready = call_slots u s x n set in
+          let ready = call_slots a u s x n set in
           ap (λ (ks : List Known). cond (args_known ks x.args && list_all (has_ended (map (ended_in b.cells) n.marks)) x.after) (length x.args + met_cost (called_cost lib task (flow_cost (run_with lib site later) task depth) place x.target) (args_met (env_of ks) x.args)) 0)
           (names_kept a.cells b.cells grows.cells n.slots ready.0)
           ∙ ap (λ (es : List Ended). cond (args_known seen x.args && list_all (has_ended es) x.after) (length x.args + met_cost (called_cost lib task (flow_cost (run_with lib site later) task depth) place x.target) (args_met (env_of seen) x.args)) 0)

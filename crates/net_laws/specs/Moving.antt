@@ -1,6 +1,6 @@
 -- One step at a time: what a move of a net keeps, and what it makes of its own step. A move takes one step, or brings one answer.
 use Rattle.std.proofs.Common.{inl, inr}
-use Rattle.std.specs.Prelude.{◌≡◌, ℕ, ◌+◌, nat_eq, if◌then◌else◌, true, List, [], ◌∷◌}
+use Rattle.std.specs.Prelude.{◌≡◌, ℕ, ◌+◌, nat_eq, if◌then◌else◌, true, List, [], ◌∷◌, length}
 use Rattle.std.specs.List.{Contains}
 use Rattle.wdl_value.specs.Tables.{Row, answer_at}
 use Rattle.wdl_typed.specs.declared.expr.TExpr.{TExpr}
@@ -79,10 +79,15 @@ module _ (lib : Library) (site : List ℕ) (rows later : List Row) (desc more : 
     pub told : (u : ℕ) → u ≡ t → (depth : ℕ) (x : TCall) (s : Scope) (g : Given) (d : ℕ) (w : Work) → AskedAt depth x s g d w u → New depth (one (stmt.Call x) s g d)
     pub only_call : (r : Rule) → OldDone t r → (x : TCall) × (s : Scope) × (g : Given) × (d : ℕ) × (r ≡ does (stmt.Call x) s g d)
 
--- a number for each work, which adds up: how often a fault is among the faults, or a request among the jobs, or the count
+-- It has statuses of success for each request, one for one.
+abbrev pub IsEven : Work → Type 0
+IsEven w = length w.codes ≡ length w.jobs
+
+-- a number for each work, which adds up: how often a fault is among the faults, or a request with its statuses among the jobs, or the
+-- count
 pub record IsWeight (weight : Work → ℕ) : Type 0 where
   pub nothing : weight no_work ≡ 0
-  pub both : (v w : Work) → weight (both_works v w) ≡ weight v + weight w
+  pub both : (v w : Work) → IsEven v → weight (both_works v w) ≡ weight v + weight w
   pub more : (n : ℕ) (w : Work) → weight (counted n w) ≡ weight (counted n no_work) + weight w
 
 abbrev pub hit : ℕ → ℕ → ℕ → ℕ
