@@ -19,11 +19,13 @@ use Rattle.wdl_typed.specs.Journal.{keys_distinct}
 use Rattle.wdl_typed.specs.Scope.{names_of}
 use Rattle.value_net.specs.Nets.{joined, value_at}
 use Rattle.net_laws.specs.Growing.{CallNeeded, Form, IsLeft, IsOutside, Keeps, KeepsCells, NamesNeeded, Rule, State, all, body_given, does, left_call, left_decl, left_if, left_scatter, mark_cell, next, none_left, nothing_given, one, only, slot_cell}
+use Rattle.net_laws.specs.Moving as even
 use Rattle.net_laws.specs.Moving.{IsWeight, at_step, hit}
 use Rattle.net_laws.specs.Net.{Given, Mark, Scope, Slot, Work, beyond, both_given, both_works, no_work}
 use Rattle.net_laws.specs.Planned.{call_names}
 use Rattle.net_laws.specs.Rules.{arg_keys}
 use Rattle.net_laws.specs.Works.{evaluated, work_of}
+use Rattle.net_laws.proofs.Even.{work_even}
 use Rattle.plan_moves.specs.Sheets.{Grown, Sheet, needs_in, rules_of, state_of, taken_in}
 use Rattle.plan_layout.specs.declared.layout.BodyLayout.{BodyLayout}
 use Rattle.plan_layout.specs.declared.layout.Need.{Need}
@@ -215,9 +217,9 @@ module _ (lib : Library) (site : List ℕ) (rows : List Row) (b : Sheet) (owners
       ∙ ap (λ (ms : List Mark). record { names = slots_at bases a.names ++ (given_of lib bases a x).names; calls = ms; place = place })
       (map-append (mark_at bases) a.calls (spots_from (length a.path) a.next_call (plain_keys (given_at lib (out-Statement x)).calls)))
 
-  none_both : (weight : Work → ℕ) → IsWeight weight → (v w : Work) → weight v ≡ weight no_work → weight w ≡ weight no_work → weight (both_works v w) ≡ weight no_work
-  none_both weight is v w e f =
-      let sum = is.both v w in
+  none_both : (weight : Work → ℕ) → IsWeight weight → (v w : Work) → even.IsEven v → weight v ≡ weight no_work → weight w ≡ weight no_work → weight (both_works v w) ≡ weight no_work
+  none_both weight is v w even e f =
+      let sum = is.both v w even in
       let none = is.nothing in
       omega (arith, sum, none, e, f)
 
@@ -240,7 +242,7 @@ module _ (lib : Library) (site : List ℕ) (rows : List Row) (b : Sheet) (owners
           subst (λ (z : Scope). Begins depth (all xs z (all_given lib bases (behind_one lib x a) xs) (dones_at (base_at bases a) ls)) (λ v k. hits v k (t + 1) xs)) (scope_behind x a) (q (t + 1) h.1 depth) in
       record {
         grown = next depth x xs (scoped a) (given_of lib bases a x) (all_given lib bases (behind_one lib x a) xs) (base_at bases a + l.done) (dones_at (base_at bases a) ls) first.grown rest.grown;
-        weighs = λ weight is. none_both weight is (work_of lib site rows (rules_of b) st first.grown) (work_of lib site rows (rules_of b) st rest.grown) (first.weighs weight is) (rest.weighs weight is);
+        weighs = λ weight is. none_both weight is (work_of lib site rows (rules_of b) st first.grown) (work_of lib site rows (rules_of b) st rest.grown) (work_even lib site rows (rules_of b) st first.grown) (first.weighs weight is) (rest.weighs weight is);
         spends = λ task. both_hits (evaluated lib site rows (rules_of b) st task first.grown) (evaluated lib site rows (rules_of b) st task rest.grown) 0 0 (first.spends task) (rest.spends task);
         leaves_are = λ v k.
             both_hits (at_step lib site rows (rules_of b) st v k first.grown) (at_step lib site rows (rules_of b) st v k rest.grown) (hit v k t) (hits v k (t + 1) xs) (first.leaves_are v k) (rest.leaves_are v k);

@@ -15,10 +15,12 @@ use Rattle.value_net.specs.Nets.{joined, with_cells, with_value}
 use Rattle.net_laws.specs.Cost.{TaskCost}
 use Rattle.net_laws.specs.Growing as net
 use Rattle.net_laws.specs.Growing.{Item, all, body_given, each, item_next, no_item}
+use Rattle.net_laws.specs.Moving as even
 use Rattle.net_laws.specs.Moving.{IsWeight, at_step}
 use Rattle.net_laws.specs.Net.{Given, Mark, Scope, Slot, Work, both_works, item_scope, no_work}
 use Rattle.net_laws.specs.Planned.{counted}
 use Rattle.net_laws.specs.Works.{evaluated, work_of}
+use Rattle.net_laws.proofs.Even.{work_even}
 use Rattle.plan_moves.specs.Sheets.{Sheet, rules_of, state_of}
 use Rattle.plan_layout.specs.declared.layout.BodyLayout.{BodyLayout}
 use Rattle.plan_layout.specs.declared.layout.Layout.{Layout}
@@ -237,10 +239,10 @@ module _ (lib : Library) (layout : Layout) (number : ℕ) (bl : BodyLayout) (flo
         (scope_is i (length q.net.values))
         (bodies_begin lib site rows b owners (bases_at q) (place_at i) bl.flow flow.body layout.bodies ss inner bl.statements p (length q.net.steps) (sits_at i x q h) depth))
 
-    both_weigh : (weight : Work → ℕ) → IsWeight weight → (v w x : Work) → weight v ≡ weight no_work → weight w ≡ weight x → weight (both_works (counted (length ss) v) w) ≡ weight (both_works (counted (length ss) no_work) x)
-    both_weigh weight is_weight v w x e f =
-        let a_ = is_weight.both (counted (length ss) v) w in
-        let b_ = is_weight.both (counted (length ss) no_work) x in
+    both_weigh : (weight : Work → ℕ) → IsWeight weight → (v w x : Work) → even.IsEven v → weight v ≡ weight no_work → weight w ≡ weight x → weight (both_works (counted (length ss) v) w) ≡ weight (both_works (counted (length ss) no_work) x)
+    both_weigh weight is_weight v w x even_v e f =
+        let a_ = is_weight.both (counted (length ss) v) w even_v in
+        let b_ = is_weight.both (counted (length ss) no_work) x refl in
         let c = is_weight.more (length ss) v in
         let z = is_weight.nothing in
         omega (arith, a_, b_, c, e, f, z)
@@ -261,6 +263,7 @@ module _ (lib : Library) (layout : Layout) (number : ℕ) (bl : BodyLayout) (flo
               body.grown rest.grown;
           weighs = λ weight is_weight.
               both_weigh weight is_weight (work_of lib site rows (rules_of b) (state_of b owners) body.grown) (work_of lib site rows (rules_of b) (state_of b owners) rest.grown) (items_work xs)
+              (work_even lib site rows (rules_of b) (state_of b owners) body.grown)
               (body.weighs weight is_weight) (rest.weighs weight is_weight);
           leaves_are = λ v n. both_sums _ _ (hits v n (length m.net.steps) ss) (items_leaves v n (i + 1) xs q) (body.leaves_are v n) (rest.leaves_are v n);
           spends = λ task. both_sums _ _ 0 0 (body.spends task) (rest.spends task);

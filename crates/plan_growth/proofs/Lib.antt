@@ -3,6 +3,7 @@ pub mod Begins
 pub mod Entry
 pub mod Goes
 pub mod Handing
+pub mod Inside
 pub mod Instances
 pub mod Items
 pub mod Lists

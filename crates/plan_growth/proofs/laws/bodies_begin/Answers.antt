@@ -1,3 +1,4 @@
+use Rattle.plan_growth.proofs.Inside.{whole_laid}
 use Rattle.plan_growth.proofs.Goes.{goes_on}
 use Rattle.plan_growth.proofs.Moving.{is_move}
 use Rattle.plan_growth.proofs.Runs.{marks_copied}
