@@ -8,6 +8,7 @@ pub mod Instances
 pub mod Items
 pub mod Lists
 pub mod Moving
+pub mod Outer
 pub mod Runs
 pub mod Seen
 pub mod Sitting

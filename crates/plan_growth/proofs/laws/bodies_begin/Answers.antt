@@ -1,3 +1,4 @@
+use Rattle.plan_growth.proofs.Outer.{copy_stands}
 use Rattle.plan_growth.proofs.Inside.{whole_laid}
 use Rattle.plan_growth.proofs.Goes.{goes_on}
 use Rattle.plan_growth.proofs.Moving.{is_move}
