@@ -107,11 +107,12 @@ module _ (t : ℕ) (v : Sown) (rules : List net.Rule) (owners : List ℕ) (is : 
 
 -- ---- meanings stay
 
-declared_kept : (instance : Instance) (name : List ℕ) (e : TExpr) (needs : List Need) (slot n l : ℕ) (m : net.Rule) → n ≤ l → MeansDeclared instance name e needs slot n m → MeansDeclared instance name e needs slot l m
-declared_kept instance name e needs slot n l m le h =
+declared_kept : (instance : Instance) (name : List ℕ) (e : TExpr) (needs : List Need) (slot n l : ℕ) (cells : List ℕ) (m : net.Rule) → n ≤ l → MeansDeclared instance name e needs slot n cells m → MeansDeclared instance name e needs slot l cells m
+declared_kept instance name e needs slot n l cells m le h =
     record {
       base = h.base;
       bases = h.bases;
+      cells_are = h.cells_are;
       seen = h.seen;
       all_seen = h.all_seen;
       distinct = h.distinct;
@@ -138,6 +139,7 @@ module _ (lib : Library) (layout : Layout) (is js : List Instance) (kept : Kept 
         statement_there = h.statement_there;
         line = h.line;
         line_there = h.line_there;
+        cells_are = h.cells_are;
         stand = h.stand;
         sees = h.sees;
         laid = h.laid;
@@ -161,7 +163,7 @@ module _ (lib : Library) (layout : Layout) (is js : List Instance) (kept : Kept 
         default_is = h.default_is;
         needs = h.needs;
         needs_there = h.needs_there;
-        declared = declared_kept h.instance h.input.name h.value h.needs k n l m le h.declared;
+        declared = declared_kept h.instance h.input.name h.value h.needs k n l needs m le h.declared;
       }
   means_kept (rule.Output i k) needs m h =
       record {
@@ -175,7 +177,7 @@ module _ (lib : Library) (layout : Layout) (is js : List Instance) (kept : Kept 
         output_there = h.output_there;
         needs = h.needs;
         needs_there = h.needs_there;
-        declared = declared_kept h.instance h.output.name h.output.value h.needs (h.flow_layout.first_output + k) n l m le h.declared;
+        declared = declared_kept h.instance h.output.name h.output.value h.needs (h.flow_layout.first_output + k) n l needs m le h.declared;
       }
   means_kept (rule.Gathers c) needs m h = h
   means_kept (rule.Ends c) needs m h = h

@@ -171,6 +171,7 @@ module _ (lib : Library) (layout : Layout) (is : List Instance) (b : Sheet) (own
               statement_there = at_first xs x (body_at flow.body body.path) k at.0;
               line = l;
               line_there = at_first ls l body.statements k at.1;
+              cells_are = refl;
               stand = a;
               sees = sees;
               laid = p;

@@ -26,6 +26,7 @@ use Rattle.plan_growth.specs.declared.instance.Instance.{Instance}
 use Rattle.plan_growth.specs.declared.rule.Rule.{Rule}
 use Rattle.plan_growth.specs.declared.rule.Rule.TheVariants as rule
 use Rattle.plan_growth.specs.Begun.{base_at, given_of, scope_at}
+use Rattle.plan_growth.specs.Entering.{cells_of}
 
 -- Each of these names stands in an instance that there is, at one of so many cells.
 abbrev pub AreThere : List ℕ → ℕ → List Need → Type 0
@@ -43,7 +44,7 @@ pub record IsInstance (lib : Library) (layout : Layout) (is : List Instance) (i 
   pub flow_there : slice_get lib.flows body.flow ≡ Some flow
 
 -- The step does that statement of the instance, as its layout has it.
-pub record MeansStatement (lib : Library) (layout : Layout) (is : List Instance) (n i k : ℕ) (m : net.Rule) : Type 0 where
+pub record MeansStatement (lib : Library) (layout : Layout) (is : List Instance) (n i k : ℕ) (cells : List ℕ) (m : net.Rule) : Type 0 where
   pub instance : Instance
   pub body : BodyLayout
   pub flow : FlowDef
@@ -52,6 +53,7 @@ pub record MeansStatement (lib : Library) (layout : Layout) (is : List Instance)
   pub statement_there : slice_get (body_at flow.body body.path) k ≡ Some statement
   pub line : StatementLayout
   pub line_there : slice_get body.statements k ≡ Some line
+  pub cells_are : cells ≡ cells_of instance.bases line.needs line.after
   pub stand : Stand
   pub sees : Sees lib statement stand
   pub laid : Laid (Sees lib) lib body.flow flow.body layout.bodies (one statement stand line)
@@ -62,9 +64,10 @@ pub record MeansStatement (lib : Library) (layout : Layout) (is : List Instance)
   pub means : m ≡ does statement (scope_at instance.bases stand instance.place) (given_of lib instance.bases stand statement) (base_at instance.bases stand + line.done)
 
 -- The step evaluates that expression of the instance, a workflow's own, at a slot.
-pub record MeansDeclared (instance : Instance) (name : List ℕ) (e : TExpr) (needs : List Need) (slot n : ℕ) (m : net.Rule) : Type 0 where
+pub record MeansDeclared (instance : Instance) (name : List ℕ) (e : TExpr) (needs : List Need) (slot n : ℕ) (cells : List ℕ) (m : net.Rule) : Type 0 where
   pub base : ℕ
   pub bases : instance.bases ≡ base ∷ []
+  pub cells_are : cells ≡ cells_of (base ∷ []) needs []
   pub seen : List Need
   pub all_seen : AllSeen seen (names_of e)
   pub distinct : keys_distinct (spot_keys seen) ≡ true
@@ -76,7 +79,7 @@ pub record MeansDeclared (instance : Instance) (name : List ℕ) (e : TExpr) (ne
   pub means : m ≡ declares name e scope (base + slot)
 
 -- The step evaluates the default of that input, or that output.
-pub record MeansInput (lib : Library) (layout : Layout) (is : List Instance) (n i k : ℕ) (m : net.Rule) : Type 0 where
+pub record MeansInput (lib : Library) (layout : Layout) (is : List Instance) (n i k : ℕ) (cells : List ℕ) (m : net.Rule) : Type 0 where
   pub instance : Instance
   pub body : BodyLayout
   pub flow : FlowDef
@@ -89,9 +92,9 @@ pub record MeansInput (lib : Library) (layout : Layout) (is : List Instance) (n 
   pub default_is : input.value ≡ Some value
   pub needs : List Need
   pub needs_there : slice_get flow_layout.inputs k ≡ Some needs
-  pub declared : MeansDeclared instance input.name value needs k n m
+  pub declared : MeansDeclared instance input.name value needs k n cells m
 
-pub record MeansOutput (lib : Library) (layout : Layout) (is : List Instance) (n i k : ℕ) (m : net.Rule) : Type 0 where
+pub record MeansOutput (lib : Library) (layout : Layout) (is : List Instance) (n i k : ℕ) (cells : List ℕ) (m : net.Rule) : Type 0 where
   pub instance : Instance
   pub body : BodyLayout
   pub flow : FlowDef
@@ -102,13 +105,13 @@ pub record MeansOutput (lib : Library) (layout : Layout) (is : List Instance) (n
   pub output_there : slice_get flow.outputs k ≡ Some output
   pub needs : List Need
   pub needs_there : slice_get flow_layout.outputs k ≡ Some needs
-  pub declared : MeansDeclared instance output.name output.value needs (flow_layout.first_output + k) n m
+  pub declared : MeansDeclared instance output.name output.value needs (flow_layout.first_output + k) n cells m
 
 -- what a rule of a step that needs these cells means, where there are so many cells
 abbrev pub Means : Library → Layout → List Instance → ℕ → Rule → List ℕ → net.Rule → Type 0
-Means lib layout is n (rule.Statement i k) needs m = MeansStatement lib layout is n i k m
-Means lib layout is n (rule.Input i k) needs m = MeansInput lib layout is n i k m
-Means lib layout is n (rule.Output i k) needs m = MeansOutput lib layout is n i k m
+Means lib layout is n (rule.Statement i k) needs m = MeansStatement lib layout is n i k needs m
+Means lib layout is n (rule.Input i k) needs m = MeansInput lib layout is n i k needs m
+Means lib layout is n (rule.Output i k) needs m = MeansOutput lib layout is n i k needs m
 Means lib layout is n (rule.Gathers c) needs m = m ≡ gathers needs c
 Means lib layout is n (rule.Ends c) needs m = m ≡ ends needs c
 Means lib layout is n (rule.Copies c) needs m = (from : ℕ) × (needs ≡ from ∷ []) × (m ≡ copies from c)
