@@ -1,8 +1,10 @@
 pub mod Adding
 pub mod Begins
 pub mod Entry
+pub mod Firsts
 pub mod Goes
 pub mod Handing
+pub mod Heads
 pub mod Inside
 pub mod Instances
 pub mod Items

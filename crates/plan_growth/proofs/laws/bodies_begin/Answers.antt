@@ -1,3 +1,5 @@
+use Rattle.plan_growth.proofs.Heads.{has_head}
+use Rattle.plan_growth.proofs.Firsts.{items_called}
 use Rattle.plan_growth.proofs.Outer.{copy_stands}
 use Rattle.plan_growth.proofs.Inside.{whole_laid}
 use Rattle.plan_growth.proofs.Goes.{goes_on}
