@@ -15,7 +15,7 @@ use Rattle.plan_growth.specs.declared.rule.Rule.{Rule}
 use Rattle.plan_growth.specs.Begun.{hits}
 use Rattle.plan_growth.specs.Entering.{Sown}
 use Rattle.plan_growth.specs.News.{AllStand, New, Stands, new_code, new_means, new_wants, with_news}
-use Rattle.plan_growth.proofs.Lists.{get_at, get_left, get_right}
+use Rattle.plan_growth.proofs.Lists.{get_at, get_left, get_right, get_split}
 
 -- ---- one list of steps behind another
 
@@ -66,6 +66,16 @@ news_by_get f (suc n) j lt = by_case (last j n lt) (news_by_get f n j)
     by_case (inr e) rest =
         let size = news_by_length f n in
         get_at (news_by f n) (f n ∷ []) 0 j (omega (arith, size, e)) ∙ ap (λ (i : ℕ). Some (f i)) (sym e)
+
+-- each is made of a number
+pub news_by_of : (f : ℕ → New) (n j : ℕ) (x : New) → slice_get (news_by f n) j ≡ Some x → (i : ℕ) × (x ≡ f i)
+news_by_of f zero j x h = absurd (let e : ⊥ = cc in e)
+news_by_of f (suc n) j x h = by_case (get_split (news_by f n) (f n ∷ []) j x h) (news_by_of f n j x)
+  where
+    by_case : (slice_get (news_by f n) j ≡ Some x) ⊎ ((i : ℕ) × (j ≡ length (news_by f n) + i) × (slice_get (f n ∷ []) i ≡ Some x)) → (slice_get (news_by f n) j ≡ Some x → (i : ℕ) × (x ≡ f i)) → (i : ℕ) × (x ≡ f i)
+    by_case (inl e) rest = rest e
+    by_case (inr (zero, e, is)) rest = (n, let same : x ≡ f n = cc in same)
+    by_case (inr (suc i, e, is)) rest = absurd (let z : ⊥ = cc in z)
 
 -- ---- where an added step is to be found
 

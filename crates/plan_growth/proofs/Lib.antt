@@ -12,6 +12,7 @@ pub mod Lists
 pub mod Moving
 pub mod Outer
 pub mod Runs
+pub mod Scatters
 pub mod Seen
 pub mod Sitting
 pub mod Standing

@@ -60,6 +60,11 @@ module _ (P : ℕ → Type 0) (bases : List ℕ) (level : ℕ) where
 
 -- ---- the owners outside
 
+-- the owners where the joints own the cells of names, of calls, and the one that says what is done
+abbrev pub outer_owners : List ℕ → ℕ → ℕ → ℕ → ℕ → ℕ → ℕ → ℕ → ℕ → ℕ → List ℕ
+outer_owners owners base first_name names first_call calls done name_step call_step done_step =
+    handed (base + first_name) name_step names (handed (base + first_call) call_step calls (slice_set owners (base + done) done_step))
+
 module _ (b : Sheet) (owners : List ℕ) (t base first_name names first_call calls done : ℕ) (name_free : (j : ℕ) → j < names → IsFree b owners t (base + (first_name + j)))
     (call_free : (j : ℕ) → j < calls → IsFree b owners t (base + (first_call + j))) (done_free : IsFree b owners t (base + done)) (fits : first_name + names ≤ first_call) (fits_too : first_call + calls ≤ done)
     (name_step call_step done_step : ℕ) where
@@ -69,26 +74,26 @@ module _ (b : Sheet) (owners : List ℕ) (t base first_name names first_call cal
   abbrev before_names : List ℕ
   before_names = handed (base + first_call) call_step calls before_calls
 
-  abbrev pub outer_owners : List ℕ
-  outer_owners = handed (base + first_name) name_step names before_names
+  abbrev out_now : List ℕ
+  out_now = outer_owners owners base first_name names first_call calls done name_step call_step done_step
 
-  pub outer_length : length outer_owners ≡ length owners
+  pub outer_length : length out_now ≡ length owners
   outer_length =
       handed_length (base + first_name) name_step names before_names ∙ handed_length (base + first_call) call_step calls before_calls ∙ length-set owners (base + done) done_step
 
   there : (c : ℕ) → IsFree b owners t c → c < length owners
   there c h = slice_get_within owners c t h.0
 
-  pub names_given : (j : ℕ) → j < names → slice_get outer_owners (base + (first_name + j)) ≡ Some (name_step + j)
+  pub names_given : (j : ℕ) → j < names → slice_get out_now (base + (first_name + j)) ≡ Some (name_step + j)
   names_given j lt =
-      ap (slice_get outer_owners) (omega arith)
+      ap (slice_get out_now) (omega arith)
       ∙ handed_get (base + first_name) name_step names before_names (λ i l.
       let inside = there (base + (first_name + i)) (name_free i l) in
       let a = handed_length (base + first_call) call_step calls before_calls in
       let c = length-set owners (base + done) done_step in
       omega (arith, inside, a, c)) j lt
 
-  pub calls_given : (j : ℕ) → j < calls → slice_get outer_owners (base + (first_call + j)) ≡ Some (call_step + j)
+  pub calls_given : (j : ℕ) → j < calls → slice_get out_now (base + (first_call + j)) ≡ Some (call_step + j)
   calls_given j lt =
       handed_other (base + first_name) name_step names before_names (base + (first_call + j)) (λ i l e. omega (arith, l, e, fits))
       ∙ ap (slice_get before_names) (omega arith)
@@ -97,14 +102,14 @@ module _ (b : Sheet) (owners : List ℕ) (t base first_name names first_call cal
       let c = length-set owners (base + done) done_step in
       omega (arith, inside, c)) j lt
 
-  pub done_given : slice_get outer_owners (base + done) ≡ Some done_step
+  pub done_given : slice_get out_now (base + done) ≡ Some done_step
   done_given =
       handed_other (base + first_name) name_step names before_names (base + done) (λ i l e. omega (arith, l, e, fits, fits_too))
       ∙ handed_other (base + first_call) call_step calls before_calls (base + done) (λ i l e. omega (arith, l, e, fits_too))
       ∙ get_set owners (base + done) done_step (there (base + done) done_free)
 
   -- A cell of another step stays its own.
-  pub others_owned : (c u : ℕ) → slice_get owners c ≡ Some u → (u ≡ t → ⊥) → slice_get outer_owners c ≡ Some u
+  pub others_owned : (c u : ℕ) → slice_get owners c ≡ Some u → (u ≡ t → ⊥) → slice_get out_now c ≡ Some u
   others_owned c u h n =
       handed_other (base + first_name) name_step names before_names c (λ i l e. away c u (base + (first_name + i)) h n (name_free i l) (omega (arith, e)))
       ∙ handed_other (base + first_call) call_step calls before_calls c (λ i l e. away c u (base + (first_call + i)) h n (call_free i l) (omega (arith, e)))

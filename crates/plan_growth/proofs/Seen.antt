@@ -73,6 +73,14 @@ module _ (lib : Library) (x : Statement) (a : Stand) (h : Sees lib x a) where
   pub distinct_own : keys_distinct own ≡ true
   distinct_own = distinct_right (spot_keys a.names) own both
 
+  pub distinct_calls : keys_distinct (plain_keys (given_at lib (out-Statement x)).calls) ≡ true
+  distinct_calls =
+      distinct_right (spot_keys a.calls) (plain_keys (given_at lib (out-Statement x)).calls)
+      (ap keys_distinct
+      (ap (λ (ks : List Key). spot_keys a.calls ++ ks) (sym (spots_keys (length a.path) a.next_call (plain_keys (given_at lib (out-Statement x)).calls)))
+      ∙ sym (map-append (λ (n : Need). n.key) a.calls (spots_from (length a.path) a.next_call (plain_keys (given_at lib (out-Statement x)).calls))))
+      ∙ h.calls_distinct)
+
 pub needs_here : (bases : List ℕ) (a : Stand) (place : List Segment) (keys : List Key) → AllSeen a.names keys → Needs (scope_at bases a place) keys (slots_at bases (needs_of a.names keys))
 needs_here bases a place keys h = record { resolved = needs_resolved bases a.names keys; all = needs_all bases a.names keys h }
 
