@@ -22,6 +22,9 @@ use Rattle.plan_growth.proofs.Lists.{get_at, get_left, get_right, get_split}
 behind_mapped : {A : Type 0} (f : New → A) (xs : List A) (ns ms : List New) → (xs ++ map f ns) ++ map f ms ≡ xs ++ map f (ns ++ ms)
 behind_mapped f xs ns ms = append_assoc xs (map f ns) (map f ms) ∙ ap (λ ys. xs ++ ys) (sym (map-append f ns ms))
 
+pub lists_both : {A : Type 0} (f : New → A) (xs now then : List A) (ns ms : List New) → then ≡ xs ++ map f ns → now ≡ then ++ map f ms → now ≡ xs ++ map f (ns ++ ms)
+lists_both f xs now then ns ms e h = h ∙ ap (λ ys. ys ++ map f ms) e ∙ behind_mapped f xs ns ms
+
 pub rules_both : (rs : List net.Rule) (ns ms : List New) → (rs ++ map new_means ns) ++ map new_means ms ≡ rs ++ map new_means (ns ++ ms)
 rules_both rs ns ms = behind_mapped new_means rs ns ms
 

@@ -27,8 +27,10 @@ use Rattle.plan_growth.specs.declared.instance.Instance.{Instance}
 use Rattle.plan_growth.specs.Begun.{AllSit, IsFree, base_at}
 use Rattle.plan_growth.specs.Entering as entering
 use Rattle.plan_growth.specs.Entering.{Plot, beyond_each, dones_at, firsts_of}
+use Rattle.plan_growth.specs.Meaning.{AreThere}
 use Rattle.plan_growth.proofs.Instances.{instance_owners}
-use Rattle.plan_growth.proofs.Items.{AllItems, ItemAt, entered, inner, items_of}
+use Rattle.plan_growth.proofs.Items.{AllItems, ItemAt, entered, inner, items_of, sits_at}
+use Rattle.plan_growth.proofs.Standing.{lines_length}
 use Rattle.plan_growth.proofs.Runs.{CallsAt, NamesAt, given_marks, given_names, marks_run, run_calls, run_keys, run_marks, run_slots, self_ended, self_found, slots_run}
 
 -- The cells that say that statements are done are those of an instance that was entered.
@@ -100,3 +102,16 @@ module _ (lib : Library) (layout : Layout) (number : ℕ) (bl : BodyLayout) (flo
         (subst (λ (ms : List Mark). MarksResolved ms (run_marks (length q.net.values + slot) calls)) (sym same)
         (self_ended (run_marks (length q.net.values + slot) calls) (ap (λ (cs : List (List ℕ)). keys_distinct (plain_keys cs)) (run_calls (length q.net.values + slot) calls) ∙ distinct)),
         items_called distinct slot is (i + 1) xs)
+
+  -- What says that statements of items are done is cells.
+  module _ (deep : length path ≡ length outer) (laid_in : Laid (Sees lib) lib bl.flow flow.body layout.bodies (laid.all ss stand bl.statements)) (site : List ℕ) (rows : List Row) (b : Sheet) (owners : List ℕ)
+      (is : List Instance) (size : ℕ) (within : size ≤ length b.values) (names_there : AreThere outer size a.names) (calls_there : AreThere outer size a.calls) where
+    pub all_within : (i : ℕ) (xs : List Value) → all_items b owners is i xs → All (λ (c : ℕ). c < length b.values) (entering.all_dones bl.statements (firsts i xs))
+    all_within i [] h = All-nil (λ (c : ℕ). c < length b.values)
+    all_within i (x ∷ xs) h =
+        let q = entered lib layout number bl flow ss outer path splace k item a (i + 1) xs p in
+        All-append (λ (c : ℕ). c < length b.values) (dones_at (length q.net.values) bl.statements) (entering.all_dones bl.statements (firsts (i + 1) xs))
+        (dones_within lib b owners (outer ++ length q.net.values ∷ []) ((splace ++ segment.Scatter k ∷ []) ++ segment.Index i ∷ []) (length q.net.steps) ss stand bl.statements
+        (sits_at lib layout number bl flow ss outer path splace k item a deep laid_in site rows b owners is size within names_there calls_there i x q h.0)
+        (lines_length lib 0 [] [] bl.flow flow.body layout.bodies laid_in) (length q.net.values) (get_or_push outer (length q.net.values) 0 (length path) (sym deep)))
+        (all_within (i + 1) xs h.1)

@@ -37,7 +37,7 @@ use Rattle.plan_growth.specs.Entering.{Plot, Sown, dones_at, firsts_of, with_ite
 use Rattle.plan_growth.specs.Growth.{IsEven, sheet_of}
 use Rattle.plan_growth.specs.Meaning.{AreThere}
 use Rattle.plan_growth.specs.News.{AllStand, New, new_code, new_means, new_wants, statement_news, with_news}
-use Rattle.plan_growth.proofs.Adding.{hits_both, hits_length, rules_both, stand_both}
+use Rattle.plan_growth.proofs.Adding.{hits_both, hits_length, lists_both, rules_both, stand_both}
 use Rattle.plan_growth.proofs.Begins.{bodies_begin}
 use Rattle.plan_growth.proofs.Entry.{item_entered, item_even, item_extends, item_there, net_is}
 use Rattle.plan_growth.proofs.Instances.{Extends, IsEntered, Kept, entered_later, extends_twice, instance_owners, put}
@@ -132,9 +132,6 @@ module _ (lib : Library) (layout : Layout) (number : ℕ) (bl : BodyLayout) (flo
           steps = sym (append-nil q.net.steps);
         }
 
-    lists_both : {A : Type 0} (f : New → A) (xs now then : List A) (ns ms : List New) → then ≡ xs ++ map f ns → now ≡ then ++ map f ms → now ≡ xs ++ map f (ns ++ ms)
-    lists_both f xs now then ns ms e h = h ∙ ap (λ ys. ys ++ map f ms) e ∙ append_assoc xs (map f ns) (map f ms) ∙ ap (λ ys. xs ++ ys) (sym (map-append f ns ms))
-
     module _ (i : ℕ) (x : Value) (xs : List Value) (q : Plot) (rules : List net.Rule) (owners : List ℕ) (now : List net.Rule) (own : List ℕ) (h : AreEntered (i + 1) xs q rules owners now own) where
       abbrev mid : Plot
       mid = entered (i + 1) xs q
@@ -224,7 +221,7 @@ module _ (lib : Library) (layout : Layout) (number : ℕ) (bl : BodyLayout) (flo
     Begins depth f w leaves = HasBegun lib site rows b owners depth f w leaves
 
     -- the body at an item
-    sits_at : (i : ℕ) (x : Value) (q : Plot) → ItemAt b owners is i x q → AllSit b owners lib (bases_at q) (place_at i) (length q.net.steps) ss inner bl.statements
+    pub sits_at : (i : ℕ) (x : Value) (q : Plot) → ItemAt b owners is i x q → AllSit b owners lib (bases_at q) (place_at i) (length q.net.steps) ss inner bl.statements
     sits_at i x q h =
         all_sit lib b owners (bases_at q) (place_at i) bl.flow flow.body layout.bodies p (length q.net.steps)
         (put lib b owners (bases_at q) (place_at i) (0 ∷ []) [] (length q.net.values) (length q.net.steps) ss bl.statements inner_names a.calls path h.entered_there

@@ -7,6 +7,7 @@ use Rattle.std.proofs.lemmas.Option.{slice_get-get_or, slice_get_within}
 use Rattle.wdl_base.specs.declared.place.Segment.{Segment}
 use Rattle.wdl_base.specs.declared.place.Segment.TheVariants as segment
 use Rattle.wdl_value.specs.declared.value.Value.{Value}
+use Rattle.wdl_value.specs.Parts.{items_in}
 use Rattle.wdl_value.specs.Tables.{Row}
 use Rattle.wdl_typed.specs.declared.flow.FlowDef.{FlowDef}
 use Rattle.wdl_typed.specs.declared.flow.Statement.{Statement, Statement-F, out-Statement}
@@ -19,8 +20,9 @@ use Rattle.step_net.specs.Views.{Wants}
 use Rattle.value_net.specs.Nets as values
 use Rattle.value_net.specs.Nets.{view_of, with_step, with_taken}
 use Rattle.net_laws.specs.Growing as net
-use Rattle.net_laws.specs.Growing.{AllEnding, AllGathered, Ending, Gathered, Item, body_given, does, ends, gathers, mark_cell, slot_cell}
+use Rattle.net_laws.specs.Growing.{AllEnding, AllGathered, Ending, Gathered, Item, body_given, does, each, ends, gathers, mark_cell, slot_cell}
 use Rattle.net_laws.specs.Net.{Mark, Slot}
+use Rattle.plan_moves.specs.Laws.{EntersScatter, HasHead}
 use Rattle.plan_moves.specs.Sheets.{Sheet, rules_of, state_of}
 use Rattle.plan_layout.specs.declared.layout.BodyLayout.{BodyLayout}
 use Rattle.plan_layout.specs.declared.layout.Layout.{Layout}
@@ -28,36 +30,41 @@ use Rattle.plan_layout.specs.declared.layout.StatementLayout.{StatementLayout}
 use Rattle.plan_layout.specs.Cells.{marks_at, slots_at}
 use Rattle.plan_layout.specs.Laid as laid
 use Rattle.plan_layout.specs.Laid.{Laid, Stand, given_at, item_spot}
+use Rattle.plan_layout.specs.Paths.{body_at}
 use Rattle.plan_layout.specs.Sees.{Sees}
 use Rattle.plan_layout.specs.Spots.{plain_keys, spots_from}
 use Rattle.plan_growth.specs.declared.instance.Instance.{Instance}
 use Rattle.plan_growth.specs.declared.rule.Rule.{Rule}
 use Rattle.plan_growth.specs.declared.rule.Rule.TheVariants as rule
-use Rattle.plan_growth.specs.Begun.{IsFree, base_at, given_by, scope_at}
+use Rattle.plan_growth.specs.Begun.{HasBegun, IsFree, base_at, given_by, hits, scope_at}
 use Rattle.plan_growth.specs.Blocks.{with_gathered, with_scatter}
 use Rattle.plan_growth.specs.Entering as entering
 use Rattle.plan_growth.specs.Entering.{Plot, Sown, beyond_each, firsts_of, with_ends, with_gathers}
 use Rattle.plan_growth.specs.Growth.{IsEven, is_leaf, sheet_of}
 use Rattle.plan_growth.specs.Meaning.{AreThere, Fits, rule_cells}
 use Rattle.plan_growth.specs.News.{AllStand, New, left_wants, new_code, new_means, new_wants, with_news}
-use Rattle.plan_growth.proofs.Adding.{hits_before, hits_behind, hits_one, news_both, news_by, news_by_get, news_by_length, news_by_of, news_last, rule_at, rules_both, stand_both, stand_by, step_at}
+use Rattle.plan_growth.proofs.Adding.{hits_before, hits_behind, hits_one, lists_both, news_both, news_by, news_by_get, news_by_length, news_by_of, news_last, rule_at, rules_both, stand_both, stand_by, step_at}
 use Rattle.plan_growth.proofs.Entry.{even_news}
-use Rattle.plan_growth.proofs.Firsts.{beyond_within, dones_same, items_called, items_named}
+use Rattle.plan_growth.proofs.Firsts.{all_within, beyond_within, dones_same, items_called, items_named}
 use Rattle.plan_growth.proofs.Inside.{ScatterLaid}
 use Rattle.plan_growth.proofs.Instances.{Extends, Kept, instance_owners, owners_count}
-use Rattle.plan_growth.proofs.Items.{AllItems, AreEntered, are_entered, entered, inner, items_later, items_leaves, items_news, items_of, items_owners, items_stand, leaves_sum, rules_after}
+use Rattle.plan_growth.proofs.Items.{AllItems, AreEntered, are_entered, each_begins, entered, inner, items_later, items_leaves, items_news, items_of, items_owners, items_stand, items_work, leaves_sum, rules_after}
 use Rattle.plan_growth.proofs.Lists.{get_at, get_left, get_right, get_split}
 use Rattle.plan_growth.proofs.Moving.{Moves}
 use Rattle.plan_growth.proofs.Outer.{all_left, all_right, calls_at, calls_given, done_given, done_new, end_new, end_stands, ends_added, gather_new, gather_stands, gathers_added, joint_waits, names_at, names_given, others_owned, outer_length, outer_owners}
 use Rattle.plan_growth.proofs.Runs.{ending_all, gathered_all, marks_run, run_marks, run_slots, slots_run}
 use Rattle.plan_growth.proofs.Seen.{distinct_calls, distinct_own}
+use Rattle.plan_growth.proofs.Sitting.{dones_count}
 
 module _ (lib : Library) (layout : Layout) (site : List ℕ) (rows : List Row) (v : Sown) (rules : List net.Rule) (owners : List ℕ) (is : List Instance) (even : IsEven v rules owners) (t : ℕ) (step : Wants)
     (there : slice_get v.steps t ≡ Some step) (fresh : step.is_taken ≡ false) (ready : values.are_set v.values step.needs ≡ true) (outer : List ℕ) (place : List Segment) (a : Stand) (l : StatementLayout) (flow : FlowDef)
     (number : ℕ) (flow_there : slice_get lib.flows number ≡ Some flow) (level : length outer ≡ length a.path + 1) (names_there : AreThere outer (length v.values) a.names)
     (calls_there : AreThere outer (length v.values) a.calls) (x : TScatter Statement) (sees : Sees lib (stmt.Scatter x) a) (lay : ScatterLaid lib number flow.body layout.bodies x a l)
     (fits : Fits (body_given lib x.body) a)
-    (free : All (IsFree (sheet_of v rules) owners t) (rule_cells (does (stmt.Scatter x) (scope_at outer a place) (given_by outer a (body_given lib x.body)) (base_at outer a + l.done)))) (xs : List Value) where
+    (free : All (IsFree (sheet_of v rules) owners t) (rule_cells (does (stmt.Scatter x) (scope_at outer a place) (given_by outer a (body_given lib x.body)) (base_at outer a + l.done)))) (y : Value) where
+  abbrev xs : List Value
+  xs = items_in y
+
   abbrev n : Names
   n = body_given lib x.body
 
@@ -329,3 +336,148 @@ module _ (lib : Library) (layout : Layout) (site : List ℕ) (rows : List Row) (
       inl
       (joint_waits lib site rows b owners_now done_step (ends (entering.all_dones lay.inner.statements firsts) (base + l.done)) (entering.all_dones lay.inner.statements firsts) (base + l.done)
       (rule_here (length n.keys + length n.calls) done_step ending (omega arith) ending_there) (step_here (length n.keys + length n.calls) done_step ending (omega arith) ending_there) done_free))
+
+  -- ---- what holds of the steps that were added
+
+  abbrev Here : ℕ → List New → Type 0
+  Here u ns = AllStand lib layout items_net.instances b owners_now u ns
+
+  abbrev Inside : List ℕ → Type 0
+  Inside cs = All (λ (c : ℕ). c < length b.values) cs
+
+  many : (u : ℕ) → 1 + length n.keys + 0 + length n.calls ≤ length (instance_owners lib (0 ∷ []) [] u x.body)
+  many u =
+      let e = owners_count lib (0 ∷ []) [] u x.body (a.names ++ item_spot path x.item ∷ []) a.calls path in
+      let d = dones_count lib u x.body stand in
+      omega (arith, e, d)
+
+  names_inside : (j : ℕ) → j < length n.keys → Inside (beyond_each firsts (1 + j))
+  names_inside j lt =
+      beyond_within lib layout l.inner lay.inner flow x.body outer path place x.number x.item a start b owners_now items_net.instances 0 xs all_items (1 + j) (omega arith) (λ u. let m = many u in omega (arith, m, lt))
+
+  calls_inside : (j : ℕ) → j < length n.calls → Inside (beyond_each firsts (lay.inner.first_call + j))
+  calls_inside j lt =
+      let e = lay.body.runs.first_call in
+      beyond_within lib layout l.inner lay.inner flow x.body outer path place x.number x.item a start b owners_now items_net.instances 0 xs all_items (lay.inner.first_call + j) (omega (arith, e))
+      (λ u. let m = many u in omega (arith, m, lt, e))
+
+  dones_inside : Inside (entering.all_dones lay.inner.statements firsts)
+  dones_inside =
+      all_within lib layout l.inner lay.inner flow x.body outer path place x.number x.item a start deep inner_laid site rows b owners_now items_net.instances (length v.values) longer names_there calls_there 0 xs all_items
+
+  joints_stand : Here name_step joints
+  joints_stand =
+      let one = news_by_length (gather_new firsts 1 (base + a.next_name)) (length n.keys) in
+      let two = news_by_length (end_new firsts lay.inner.first_call (base + a.next_call)) (length n.calls) in
+      let both = length-append gathering calling in
+      stand_both lib layout items_net.instances b owners_now name_step done_step (gathering ++ calling) (ending ∷ []) (omega (arith, one, two, both))
+      (stand_both lib layout items_net.instances b owners_now name_step call_step gathering calling (omega (arith, one))
+      (stand_by lib layout items_net.instances b owners_now (gather_new firsts 1 (base + a.next_name)) name_step (length n.keys) (λ j lt.
+      gather_stands lib layout items_net.instances b owners_now (name_step + j) (base + a.next_name + j) (beyond_each firsts (1 + j)) (name_free j lt) (names_inside j lt)))
+      (stand_by lib layout items_net.instances b owners_now (end_new firsts lay.inner.first_call (base + a.next_call)) call_step (length n.calls) (λ j lt.
+      end_stands lib layout items_net.instances b owners_now (call_step + j) (base + a.next_call + j) (beyond_each firsts (lay.inner.first_call + j)) (call_free j lt) (calls_inside j lt))))
+      (end_stands lib layout items_net.instances b owners_now done_step (base + l.done) (entering.all_dones lay.inner.statements firsts) done_free dones_inside, tt)
+
+  abbrev pub news : List New
+  news = news_in ++ joints
+
+  starts : length start.net.steps ≡ length v.steps
+  starts = length-set v.steps t (record { needs = step.needs; is_taken = true })
+
+  pub news_stand : Here (length v.steps) news
+  news_stand =
+      subst (λ (u : ℕ). Here u news) starts
+      (stand_both lib layout items_net.instances b owners_now (length start.net.steps) name_step news_in joints (long 0 xs)
+      (items_stand lib layout l.inner lay.inner flow x.body outer path place x.number x.item a deep inner_laid site rows b owners_now items_net.instances (length v.values) longer names_there calls_there lay.there
+      (ap (slice_get lib.flows) lay.body.runs.flow_is ∙ flow_there) (ap (body_at flow.body) lay.body.runs.path_is ∙ lay.body.runs.there) 0 xs start all_items long) joints_stand)
+
+  -- ---- what the step did
+
+  pub scatter_moves : Moves t v rules owners is last_net rules_now owners_now items_net.instances news
+  scatter_moves =
+      record {
+        step = step;
+        there = there;
+        fresh = fresh;
+        ready = ready;
+        codes = lists_both new_code v.rules last_net.rules items_net.net.rules news_in joints entry.codes (ap (λ (u : Sown). u.rules) joined_net);
+        means = rules_both rules news_in joints;
+        steps = lists_both new_wants start.net.steps last_net.steps items_net.net.steps news_in joints entry.steps steps_are;
+        instances = entry.instances;
+        cells = longer;
+        others = λ c u h ne.
+            let inside = slice_get_within owners c u h in
+            let size = even.owners_too in
+            let at = slice_get-get_or v.values c None (omega (arith, inside, size)) in
+            value_kept c (get_or v.values c None) at ∙ sym at;
+        kept = λ c z h. value_kept c (Some z) h;
+        owned = λ c u h ne.
+            get_left owners_out (items_owners lib layout l.inner lay.inner flow x.body outer path place x.number x.item a 0 xs start) c u
+            (others_owned (sheet_of v rules) owners t base a.next_name (length n.keys) a.next_call (length n.calls) l.done own_names own_calls own_done fits.0 low name_step call_step done_step c u h ne);
+        even_now = subst (λ (u : Sown). IsEven u rules_now owners_now) (sym joined_net) (even_news items_net.net rules_in owners_now joints entry.even);
+      }
+
+  -- ---- leaves
+
+  abbrev pub new_leaves : ℕ → ℕ → ℕ
+  new_leaves u k = items_leaves lib layout l.inner lay.inner flow x.body outer path place x.number x.item a u k 0 xs start
+
+  leaves_are : (u k : ℕ) → new_leaves u k ≡ hits u k (length v.steps) news_in
+  leaves_are u k =
+      leaves_sum lib layout l.inner lay.inner flow x.body outer path place x.number x.item a deep inner_laid site rows b owners_now items_net.instances (length v.values) longer names_there calls_there u k 0 xs start long
+      ∙ ap (λ (m : ℕ). hits u k m news_in) starts
+
+  pub leaves_before : (u k : ℕ) → u < length v.steps → new_leaves u k ≡ 0
+  leaves_before u k lt = leaves_are u k ∙ hits_before u k (length v.steps) news_in lt
+
+  pub leaves_past : (u k : ℕ) → length last_net.steps ≤ u → new_leaves u k ≡ 0
+  leaves_past u k le =
+      let all = ap length steps_are in
+      let both = length-append items_net.net.steps (map new_wants joints) in
+      let some = long 0 xs in
+      let first = starts in
+      leaves_are u k ∙ hits_behind u k (length v.steps) news_in (omega (arith, all, both, some, first, le))
+
+  joint_none : (j : ℕ) (m : New) → slice_get joints j ≡ Some m → is_leaf m.means ≡ false
+  joint_none j m h = by_case (get_split (gathering ++ calling) (ending ∷ []) j m h)
+    where
+      by_both : (slice_get gathering j ≡ Some m) ⊎ ((i : ℕ) × (j ≡ length gathering + i) × (slice_get calling i ≡ Some m)) → is_leaf m.means ≡ false
+      by_both (inl e) = let p = news_by_of (gather_new firsts 1 (base + a.next_name)) (length n.keys) j m e in ap (λ (z : New). is_leaf z.means) p.1
+      by_both (inr (i, f, e)) = let p = news_by_of (end_new firsts lay.inner.first_call (base + a.next_call)) (length n.calls) i m e in ap (λ (z : New). is_leaf z.means) p.1
+
+      by_case : (slice_get (gathering ++ calling) j ≡ Some m) ⊎ ((i : ℕ) × (j ≡ length (gathering ++ calling) + i) × (slice_get (ending ∷ []) i ≡ Some m)) → is_leaf m.means ≡ false
+      by_case (inl e) = by_both (get_split gathering calling j m e)
+      by_case (inr (zero, f, e)) = let same : ending ≡ m = cc in ap (λ (z : New). is_leaf z.means) (sym same)
+      by_case (inr (suc i, f, e)) = absurd (let z : ⊥ = cc in z)
+
+  pub leaves_each : (j : ℕ) (m : New) → slice_get news j ≡ Some m → is_leaf m.means ≡ true → (k : ℕ) → new_leaves (length v.steps + j) k ≡ k
+  leaves_each j m h leaf k = by_case (get_split news_in joints j m h)
+    where
+      by_case : (slice_get news_in j ≡ Some m) ⊎ ((i : ℕ) × (j ≡ length news_in + i) × (slice_get joints i ≡ Some m)) → new_leaves (length v.steps + j) k ≡ k
+      by_case (inl e) =
+          let inside = slice_get_within news_in j m e in
+          leaves_are (length v.steps + j) k ∙ hits_one (length v.steps + j) k (length v.steps) news_in (omega arith) (omega (arith, inside))
+      by_case (inr (i, f, e)) = absurd (false≢true (sym (joint_none i m e) ∙ leaf))
+
+  -- ---- what has grown
+
+  pub scatter_enters : HasHead b (scope_at outer a place) x.over (Ok y)
+      → EntersScatter lib site rows b owners_now x (scope_at outer a place) (given_by outer a n) (base + l.done) (items_work lib layout l.inner lay.inner flow x.body outer path place x.number x.item a xs) new_leaves
+  scatter_enters head =
+      record {
+        value = y;
+        value_of_head = head;
+        items = all_of;
+        each_item = λ depth. (begun depth).grown;
+        names = names_gathered;
+        calls = calls_ending;
+        ended = all_ended;
+        work = λ depth weight is_weight. (begun depth).weighs weight is_weight;
+        leaves = λ depth u k. (begun depth).leaves_are u k;
+        spends = λ depth task. (begun depth).spends task;
+      }
+    where
+      begun : (depth : ℕ) → HasBegun lib site rows b owners_now depth (each x.body (scope_at outer a place) x.number x.item 0 xs all_of)
+          (items_work lib layout l.inner lay.inner flow x.body outer path place x.number x.item a xs) new_leaves
+      begun =
+          each_begins lib layout l.inner lay.inner flow x.body outer path place x.number x.item a deep inner_laid site rows b owners_now items_net.instances (length v.values) longer names_there calls_there 0 xs start all_items

@@ -108,6 +108,21 @@ module _ (lib : Library) (i : ℕ) (bases : List ℕ) (place : List Segment) whe
     news_length (laid_next x xs a l ls sees p q) = λ k. let rest = news_length q (k + 1) in omega (arith, rest)
     news_length (laid_whole ss names calls path before after body runs p) = tt
 
+    abbrev AsMany : laid.Form → Type 0
+    AsMany (laid.one x a l) = Unit {0}
+    AsMany (laid.all ss a ls) = length ls ≡ length ss
+    AsMany (laid.whole ss names calls path before after body) = Unit {0}
+
+    -- Each statement has a line of the layout.
+    pub lines_length : {f : laid.Form} → Laid (Sees lib) lib flow root bodies f → AsMany f
+    lines_length (laid_decl x a l slots needs) = tt
+    lines_length (laid_call x a l slots needs) = tt
+    lines_length (laid_scatter x a l body slots needs there p) = tt
+    lines_length (laid_if x a l body slots needs there p) = tt
+    lines_length (laid_none a) = refl
+    lines_length (laid_next x xs a l ls sees p q) = let rest = lines_length q in omega (arith, rest)
+    lines_length (laid_whole ss names calls path before after body runs p) = tt
+
 -- ---- what holds of each
 
 module _ (lib : Library) (layout : Layout) (is : List Instance) (b : Sheet) (owners : List ℕ) (i : ℕ) (instance : Instance) (body : BodyLayout) (flow : FlowDef) (ofi : IsInstance lib layout is i instance body flow) where

@@ -1,4 +1,4 @@
-use Rattle.plan_growth.proofs.Scatters.{all_ended}
+use Rattle.plan_growth.proofs.Scatters.{scatter_enters}
 use Rattle.plan_growth.proofs.Heads.{has_head}
 use Rattle.plan_growth.proofs.Firsts.{items_called}
 use Rattle.plan_growth.proofs.Outer.{copy_stands}
