@@ -207,11 +207,11 @@ module _ (lib : Library) (site : List ℕ) (rows : List Row) (b : Sheet) (owners
 
   -- ---- statements one after the other
 
-  abbrev scoped : Stand → Scope
+  abbrev pub scoped : Stand → Scope
   scoped a = scope_at bases a place
 
   -- the scope behind a statement
-  scope_behind : (x : Statement) (a : Stand) → scoped (behind_one lib x a) ≡ beyond (scoped a) (given_of lib bases a x)
+  pub scope_behind : (x : Statement) (a : Stand) → scoped (behind_one lib x a) ≡ beyond (scoped a) (given_of lib bases a x)
   scope_behind x a =
       ap (λ (ns : List Slot). record { names = ns; calls = marks_at bases (behind_one lib x a).calls; place = place }) (map-append (slot_at bases) a.names (spots_from (length a.path) a.next_name (given_at lib (out-Statement x)).keys))
       ∙ ap (λ (ms : List Mark). record { names = slots_at bases a.names ++ (given_of lib bases a x).names; calls = ms; place = place })

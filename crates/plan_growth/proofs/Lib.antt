@@ -18,3 +18,4 @@ pub mod Seen
 pub mod Sitting
 pub mod Standing
 pub mod There
+pub mod Told
