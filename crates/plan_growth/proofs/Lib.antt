@@ -17,5 +17,6 @@ pub mod Scatters
 pub mod Seen
 pub mod Sitting
 pub mod Standing
+pub mod Telling
 pub mod There
 pub mod Told
