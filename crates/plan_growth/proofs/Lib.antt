@@ -17,6 +17,7 @@ pub mod Scatters
 pub mod Seen
 pub mod Sitting
 pub mod Standing
+pub mod Tellers
 pub mod Telling
 pub mod There
 pub mod Told
