@@ -14,6 +14,7 @@ pub mod Moving
 pub mod Outer
 pub mod Runs
 pub mod Scatters
+pub mod Scopes
 pub mod Seen
 pub mod Sitting
 pub mod Standing
@@ -21,3 +22,4 @@ pub mod Tellers
 pub mod Telling
 pub mod There
 pub mod Told
+pub mod Wholes
