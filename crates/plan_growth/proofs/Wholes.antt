@@ -19,7 +19,7 @@ use Rattle.net_laws.specs.Growing as net
 use Rattle.net_laws.specs.Growing.{all, body_given, flow_whole, nothing_given, slot_cell, start, tells, whole}
 use Rattle.net_laws.specs.Moving as even_works
 use Rattle.net_laws.specs.Moving.{IsWeight, at_step}
-use Rattle.net_laws.specs.Net.{Given, Mark, Scope, Slot, Work, beyond, both_given, both_works, no_work, slot_keys}
+use Rattle.net_laws.specs.Net.{Given, Mark, Resolved, Scope, Slot, Work, beyond, both_given, both_works, no_work, slot_keys}
 use Rattle.net_laws.specs.Planned.{counted}
 use Rattle.net_laws.specs.Works.{evaluated, work_of}
 use Rattle.net_laws.proofs.Even.{work_even}
@@ -48,6 +48,7 @@ use Rattle.plan_growth.proofs.Firsts.{dones_within}
 use Rattle.plan_growth.proofs.Inside.{WholeLaid, whole_laid}
 use Rattle.plan_growth.proofs.Instances.{Extends, IsEntered, Kept, instance_owners, owners_count, put}
 use Rattle.plan_growth.proofs.Lists.{get_copy, get_left, get_right}
+use Rattle.plan_growth.proofs.Runs.{self_found}
 use Rattle.plan_growth.proofs.Scopes.{behind_count, behind_there, body_scope, inputs_cells, inputs_count, inputs_scope, outputs_cells, outputs_scope}
 use Rattle.plan_growth.proofs.Seen.{slots_keys}
 use Rattle.plan_growth.proofs.Sitting.{all_sit, call_owners, done_owners, dones_count, name_owners, names_count}
@@ -73,90 +74,90 @@ output_owner u (d ∷ ds) (suc j) lt = output_owner (u + 1) ds j (omega (arith, 
 module _ (lib : Library) (layout : Layout) (site : List ℕ) (rows : List Row) (number : ℕ) (f : FlowDef) (fl : FlowLayout) (lay : IsLaidAs (Sees lib) lib layout.bodies number f fl) (sees : FlowSees lib f)
     (flow_there : slice_get lib.flows number ≡ Some f) (fl_there : slice_get layout.flows number ≡ Some fl) (given : List Bind) (place : List Segment) (q : Plot) (rules : List net.Rule) (owners : List ℕ)
     (even : IsEven q.net rules owners) where
-  abbrev ss : List Statement
+  abbrev pub ss : List Statement
   ss = f.body
 
-  abbrev seen_in : List Need
+  abbrev pub seen_in : List Need
   seen_in = laid.with_inputs [] f.inputs
 
-  whole_is : WholeLaid lib number f.body layout.bodies ss seen_in [] [] (length f.inputs) (length f.outputs) lay.body
+  pub whole_is : WholeLaid lib number f.body layout.bodies ss seen_in [] [] (length f.inputs) (length f.outputs) lay.body
   whole_is = whole_laid lib number f.body layout.bodies ss seen_in [] [] (length f.inputs) (length f.outputs) lay.body lay.laid
 
-  abbrev instance : ℕ
+  abbrev pub instance : ℕ
   instance = length q.instances
 
-  abbrev base : ℕ
+  abbrev pub base : ℕ
   base = length q.net.values
 
-  abbrev first : ℕ
+  abbrev pub first : ℕ
   first = length q.net.steps
 
-  abbrev bases : List ℕ
+  abbrev pub bases : List ℕ
   bases = base ∷ []
 
-  abbrev input_step : ℕ
+  abbrev pub input_step : ℕ
   input_step = first + length ss
 
-  abbrev in_news : List New
+  abbrev pub in_news : List New
   in_news = input_news instance base place given 0 f.inputs []
 
-  abbrev output_step : ℕ
+  abbrev pub output_step : ℕ
   output_step = input_step + length in_news
 
-  abbrev befores : List ℕ
+  abbrev pub befores : List ℕ
   befores = input_owners instance base place given input_step 0 f.inputs []
 
-  abbrev afters : List ℕ
+  abbrev pub afters : List ℕ
   afters = output_owners output_step f.outputs
 
-  befores_count : length befores ≡ length f.inputs
+  pub befores_count : length befores ≡ length f.inputs
   befores_count = input_owners_length instance base place given input_step 0 f.inputs []
 
-  afters_count : length afters ≡ length f.outputs
+  pub afters_count : length afters ≡ length f.outputs
   afters_count = output_owners_length output_step f.outputs
 
-  abbrev stand : Stand
+  abbrev pub stand : Stand
   stand = beginning seen_in [] [] (body_given lib ss) (length befores) (length afters)
 
-  stand_is : beginning seen_in [] [] (body_given lib ss) (length f.inputs) (length f.outputs) ≡ stand
+  pub stand_is : beginning seen_in [] [] (body_given lib ss) (length f.inputs) (length f.outputs) ≡ stand
   stand_is =
       ap (λ (m : ℕ). beginning seen_in [] [] (body_given lib ss) m (length f.outputs)) (sym befores_count) ∙ ap (λ (m : ℕ). beginning seen_in [] [] (body_given lib ss) (length befores) m) (sym afters_count)
 
-  inner_laid : Laid (Sees lib) lib lay.body.flow f.body layout.bodies (laid.all ss stand lay.body.statements)
+  pub inner_laid : Laid (Sees lib) lib lay.body.flow f.body layout.bodies (laid.all ss stand lay.body.statements)
   inner_laid =
       subst (λ (n : ℕ). Laid (Sees lib) lib n f.body layout.bodies (laid.all ss stand lay.body.statements)) (sym whole_is.runs.flow_is)
       (subst (λ (a : Stand). Laid (Sees lib) lib number f.body layout.bodies (laid.all ss a lay.body.statements)) stand_is whole_is.statements)
 
-  cells_are : lay.body.cells ≡ (behind_all lib ss stand).next_done
+  pub cells_are : lay.body.cells ≡ (behind_all lib ss stand).next_done
   cells_are = whole_is.runs.cells ∙ ap (λ (a : Stand). (behind_all lib ss a).next_done) stand_is
 
   -- ---- the body
 
-  abbrev body_net : Plot
+  abbrev pub body_net : Plot
   body_net = with_instance fl.body [] place lay.body q
 
-  abbrev news_in : List New
+  abbrev pub news_in : List New
   news_in = statement_news lib instance bases place 0 ss stand lay.body.statements
 
-  abbrev rules_in : List net.Rule
+  abbrev pub rules_in : List net.Rule
   rules_in = rules ++ map new_means news_in
 
-  abbrev owners_in : List ℕ
+  abbrev pub owners_in : List ℕ
   owners_in = instance_owners lib befores afters first ss
 
-  abbrev owners_now : List ℕ
+  abbrev pub owners_now : List ℕ
   owners_now = owners ++ owners_in
 
-  body_is : body_net.net ≡ with_news (with_cells q.net lay.body.cells) news_in
+  pub body_is : body_net.net ≡ with_news (with_cells q.net lay.body.cells) news_in
   body_is = net_is lib fl.body lay.body ss [] place befores afters seen_in [] [] refl lay.body.flow f.body layout.bodies inner_laid cells_are q rules owners even
 
-  body_entered : IsEntered lib (sheet_of body_net.net rules_in) owners_now bases place befores afters base first ss stand lay.body.statements
+  pub body_entered : IsEntered lib (sheet_of body_net.net rules_in) owners_now bases place befores afters base first ss stand lay.body.statements
   body_entered = is_entered lib fl.body lay.body ss [] place befores afters seen_in [] [] refl lay.body.flow f.body layout.bodies inner_laid cells_are q rules owners even
 
   body_behind : Extends (sheet_of q.net rules) owners (sheet_of body_net.net rules_in) owners_now
   body_behind = extends lib fl.body lay.body ss [] place befores afters seen_in [] [] refl lay.body.flow f.body layout.bodies inner_laid cells_are q rules owners even
 
-  body_even : IsEven body_net.net rules_in owners_now
+  pub body_even : IsEven body_net.net rules_in owners_now
   body_even = even_now lib fl.body lay.body ss [] place befores afters seen_in [] [] refl lay.body.flow f.body layout.bodies inner_laid cells_are q rules owners even
 
   body_values : body_net.net.values ≡ q.net.values ++ replicate lay.body.cells None
@@ -165,13 +166,13 @@ module _ (lib : Library) (layout : Layout) (site : List ℕ) (rows : List Row) (
   body_cells : lay.body.cells ≡ length owners_in
   body_cells = cells_count lib fl.body lay.body ss [] place befores afters seen_in [] [] refl lay.body.flow f.body layout.bodies inner_laid cells_are q rules owners even
 
-  body_steps : body_net.net.steps ≡ q.net.steps ++ map new_wants news_in
+  pub body_steps : body_net.net.steps ≡ q.net.steps ++ map new_wants news_in
   body_steps = ap (λ (u : Sown). u.steps) body_is
 
   news_count : length news_in ≡ length ss
   news_count = news_length lib instance bases place lay.body.flow f.body layout.bodies inner_laid 0
 
-  long : length body_net.net.steps ≡ input_step
+  pub long : length body_net.net.steps ≡ input_step
   long =
       let a = ap length body_steps in
       let b_ = length-append q.net.steps (map new_wants news_in) in
@@ -181,28 +182,28 @@ module _ (lib : Library) (layout : Layout) (site : List ℕ) (rows : List Row) (
 
   -- ---- inputs and outputs
 
-  abbrev seen_out : List Need
+  abbrev pub seen_out : List Need
   seen_out = (behind_all lib ss stand).names
 
-  abbrev calls_out : List Mark
+  abbrev pub calls_out : List Mark
   calls_out = marks_at bases (behind_all lib ss stand).calls
 
-  seen_is : body_seen lib f ≡ seen_out
+  pub seen_is : body_seen lib f ≡ seen_out
   seen_is = ap (λ (a : Stand). (behind_all lib ss a).names) stand_is
 
-  abbrev out_news : List New
+  abbrev pub out_news : List New
   out_news = output_news instance base place calls_out 0 f.outputs seen_out
 
-  abbrev told : List New
+  abbrev pub told : List New
   told = in_news ++ out_news
 
-  abbrev last_net : Sown
+  abbrev pub last_net : Sown
   last_net = (with_flow f given place fl lay.body q).net
 
   abbrev values_now : List (Option Value)
   values_now = input_values instance base place given 0 f.inputs body_net.net.values
 
-  last_is : last_net ≡ with_news (view_of values_now body_net.net.rules body_net.net.steps) told
+  pub last_is : last_net ≡ with_news (view_of values_now body_net.net.rules body_net.net.steps) told
   last_is =
       ap (λ (ns : List (List Need)). with_outputs instance base 0 fl.outputs (with_inputs given instance base 0 f.inputs ns body_net.net)) lay.inputs
       ∙ ap (λ (u : Sown). with_outputs instance base 0 fl.outputs u) (inputs_added instance base place given f.inputs 0 [] body_net.net)
@@ -210,16 +211,16 @@ module _ (lib : Library) (layout : Layout) (site : List ℕ) (rows : List Row) (
       ∙ outputs_added instance base place given calls_out f.outputs 0 seen_out (with_news (view_of values_now body_net.net.rules body_net.net.steps) in_news)
       ∙ news_both (view_of values_now body_net.net.rules body_net.net.steps) in_news out_news
 
-  abbrev rules_now : List net.Rule
+  abbrev pub rules_now : List net.Rule
   rules_now = rules_in ++ map new_means told
 
   abbrev pub b : Sheet
   b = sheet_of last_net rules_now
 
-  values_are_now : last_net.values ≡ values_now
+  pub values_are_now : last_net.values ≡ values_now
   values_are_now = ap (λ (u : Sown). u.values) last_is
 
-  steps_now : last_net.steps ≡ body_net.net.steps ++ map new_wants told
+  pub steps_now : last_net.steps ≡ body_net.net.steps ++ map new_wants told
   steps_now = ap (λ (u : Sown). u.steps) last_is
 
   -- a cell that is none of the inputs'
@@ -227,10 +228,10 @@ module _ (lib : Library) (layout : Layout) (site : List ℕ) (rows : List Row) (
   value_other c away =
       ap (λ (os : List (Option Value)). slice_get os c) values_are_now ∙ values_other instance base place given f.inputs 0 body_net.net.values c (λ m lt e. away m lt (omega (arith, e)))
 
-  value_kept : (c : ℕ) (o : Option Value) → slice_get q.net.values c ≡ Some o → slice_get b.values c ≡ Some o
+  pub value_kept : (c : ℕ) (o : Option Value) → slice_get q.net.values c ≡ Some o → slice_get b.values c ≡ Some o
   value_kept c o h = let inside = slice_get_within q.net.values c o h in value_other c (λ m lt e. omega (arith, e, inside)) ∙ body_behind.values c o h
 
-  longer : length q.net.values ≤ length b.values
+  pub longer : length q.net.values ≤ length b.values
   longer = by_last (length q.net.values) refl
     where
       by_last : (m : ℕ) → length q.net.values ≡ m → m ≤ length b.values
@@ -240,7 +241,7 @@ module _ (lib : Library) (layout : Layout) (site : List ℕ) (rows : List Row) (
           let inside = slice_get_within b.values m (get_or q.net.values m None) (value_kept m (get_or q.net.values m None) h) in
           omega (arith, inside)
 
-  entered_now : IsEntered lib b owners_now bases place befores afters base first ss stand lay.body.statements
+  pub entered_now : IsEntered lib b owners_now bases place befores afters base first ss stand lay.body.statements
   entered_now =
       record {
         rules = λ j r h. get_left rules_in (map new_means told) (first + j) r (body_entered.rules j r h);
@@ -251,7 +252,7 @@ module _ (lib : Library) (layout : Layout) (site : List ℕ) (rows : List Row) (
             value_other (base + j) (λ m l e. omega (arith, e, le, l, many)) ∙ body_entered.unset j le lt;
       }
 
-  all_sits : AllSit b owners_now lib bases place first ss stand lay.body.statements
+  pub all_sits : AllSit b owners_now lib bases place first ss stand lay.body.statements
   all_sits =
       all_sit lib b owners_now bases place lay.body.flow f.body layout.bodies inner_laid first (put lib b owners_now bases place befores afters base first ss lay.body.statements seen_in [] [] entered_now refl)
 
@@ -284,7 +285,7 @@ module _ (lib : Library) (layout : Layout) (site : List ℕ) (rows : List Row) (
   ins_sit : InputsSit lib site rows b owners_now instance base place given input_step 0 f.inputs []
   ins_sit = inputs_sit instance base place given lib site rows b owners_now f.inputs input_step 0 [] body_net.net.values inputs_put
 
-  seen_count : length seen_out ≡ length befores + length (body_given lib ss).keys
+  pub seen_count : length seen_out ≡ length befores + length (body_given lib ss).keys
   seen_count =
       let a = behind_count lib ss stand in
       let c = inputs_count f.inputs [] in
@@ -320,13 +321,13 @@ module _ (lib : Library) (layout : Layout) (site : List ℕ) (rows : List Row) (
 
   -- ---- what has begun
 
-  abbrev ins : Given
+  abbrev pub ins : Given
   ins = inputs_given base 0 f.inputs
 
-  abbrev body_out : Given
+  abbrev pub body_out : Given
   body_out = all_given lib bases stand ss
 
-  abbrev outs : Given
+  abbrev pub outs : Given
   outs = outputs_given base (length seen_out) f.outputs
 
   abbrev pub names_out : Given
@@ -414,7 +415,7 @@ module _ (lib : Library) (layout : Layout) (site : List ℕ) (rows : List Row) (
   abbrev Here : ℕ → List New → Type 0
   Here u ns = AllStand lib layout body_net.instances b owners_now u ns
 
-  abbrev one : Instance
+  abbrev pub one : Instance
   one = record { body = fl.body; bases = bases; place = place }
 
   there_now : slice_get body_net.instances instance ≡ Some one
@@ -449,3 +450,82 @@ module _ (lib : Library) (layout : Layout) (site : List ℕ) (rows : List Row) (
 
   pub news_stand : Here first news
   news_stand = let size = news_count in stand_both lib layout body_net.instances b owners_now first input_step news_in told (omega (arith, size)) body_stand told_stand
+
+  -- ---- names
+
+  pub names_are : names_out.names ≡ slots_at bases (see.with_outputs seen_out f.outputs)
+  names_are =
+      ap (λ (ns : List Slot). ins.names ++ (body_out.names ++ ns)) (append-nil outs.names) ∙ sym (append_assoc ins.names body_out.names outs.names)
+      ∙ sym (ap (λ (s : Scope). s.names ++ outs.names) outs_scope) ∙ sym (ap (λ (s : Scope). s.names) (outputs_scope base place calls_out f.outputs seen_out (length seen_out) refl))
+
+  pub names_differ : keys_distinct (slot_keys names_out.names) ≡ true
+  names_differ =
+      ap (λ (ns : List Slot). keys_distinct (slot_keys ns)) names_are ∙ ap keys_distinct (slots_keys bases (see.with_outputs seen_out f.outputs))
+      ∙ subst (λ (s : List Need). keys_distinct (spot_keys (see.with_outputs s f.outputs)) ≡ true) seen_is sees.distinct
+
+  resolved_right : (all_ xs ys : List Slot) → Resolved all_ (xs ++ ys) → Resolved all_ ys
+  resolved_right all_ [] ys h = h
+  resolved_right all_ (x ∷ xs) ys h = resolved_right all_ xs ys h.1
+
+  pub outs_found : Resolved names_out.names outs.names
+  outs_found =
+      subst (λ (ns : List Slot). Resolved names_out.names ns) (append-nil outs.names)
+      (resolved_right names_out.names body_out.names (outs.names ++ []) (resolved_right names_out.names ins.names (body_out.names ++ (outs.names ++ [])) (self_found names_out.names names_differ)))
+
+  -- ---- what was there stays
+
+  pub flow_behind : Extends (sheet_of q.net rules) owners b owners_now
+  flow_behind =
+      record {
+        rules = λ i r h. get_left rules_in (map new_means told) i r (body_behind.rules i r h);
+        steps = λ i w h. ap (λ (ws : List Wants). slice_get ws i) steps_now ∙ get_left body_net.net.steps (map new_wants told) i w (body_behind.steps i w h);
+        owners = body_behind.owners;
+        values = value_kept;
+      }
+
+  pub flow_even : IsEven last_net rules_now owners_now
+  flow_even =
+      let mid : IsEven (view_of values_now body_net.net.rules body_net.net.steps) rules_in owners_now =
+      record { codes = body_even.codes; rules_too = body_even.rules_too; owners_too = body_even.owners_too ∙ sym (values_length instance base place given f.inputs 0 body_net.net.values) } in
+      subst (λ (u : Sown). IsEven u rules_now owners_now) (sym last_is) (even_news (view_of values_now body_net.net.rules body_net.net.steps) rules_in owners_now told mid)
+
+  pub flow_codes : last_net.rules ≡ q.net.rules ++ map new_code news
+  flow_codes = lists_both new_code q.net.rules last_net.rules body_net.net.rules news_in told (ap (λ (u : Sown). u.rules) body_is) (ap (λ (u : Sown). u.rules) last_is)
+
+  pub flow_steps : last_net.steps ≡ q.net.steps ++ map new_wants news
+  flow_steps = lists_both new_wants q.net.steps last_net.steps body_net.net.steps news_in told body_steps steps_now
+
+  pub flow_rules : rules_now ≡ rules ++ map new_means news
+  flow_rules = rules_both rules news_in told
+
+  pub flow_instances : Kept q.instances body_net.instances
+  flow_instances = instances_kept lib fl.body lay.body ss [] place befores afters seen_in [] [] refl lay.body.flow f.body layout.bodies inner_laid cells_are q rules owners even
+
+  -- ---- the cells that say that all is done, and those of outputs, are there
+
+  pub outs_inside : (j : ℕ) → j < length f.outputs → base + (length seen_out + j) < length b.values
+  outs_inside j lt = slice_get_within b.values (base + (length seen_out + j)) None (out_free j lt).1
+
+  ins_inside : (j : ℕ) → j < length f.inputs → base + j < length b.values
+  ins_inside j lt =
+      let all_ = ap length values_are_now ∙ values_length instance base place given f.inputs 0 body_net.net.values ∙ ap length body_values in
+      let both = length-append q.net.values (replicate lay.body.cells None) in
+      let many = length-replicate {A = Option Value} lay.body.cells None in
+      let size = body_cells in
+      let own = length-append befores (name_owners lib first ss ++ (afters ++ (call_owners lib first ss ++ done_owners lib first ss))) in
+      let count = befores_count in
+      omega (arith, all_, both, many, size, own, count, lt)
+
+  cells_inside : (c n : ℕ) → ((j : ℕ) → j < n → c + j < length b.values) → All (λ (d : ℕ). d < length b.values) (cells_from c n)
+  cells_inside c zero h = All-nil (λ (d : ℕ). d < length b.values)
+  cells_inside c (suc n) h =
+      All-append (λ (d : ℕ). d < length b.values) (cells_from c n) ((c + n) ∷ []) (cells_inside c n (λ j lt. h j (omega (arith, lt))))
+      (All-cons (λ (d : ℕ). d < length b.values) (c + n) [] (h n (omega arith)) (All-nil (λ (d : ℕ). d < length b.values)))
+
+  pub dones_inside : All (λ (d : ℕ). d < length b.values) (flow_dones f fl lay.body base)
+  dones_inside =
+      let same : fl.first_output ≡ length seen_out = lay.first_output ∙ ap length seen_is in
+      All-append (λ (d : ℕ). d < length b.values) (cells_from base (length f.inputs)) (dones_at base lay.body.statements ++ cells_from (base + fl.first_output) (length f.outputs)) (cells_inside base (length f.inputs) ins_inside)
+      (All-append (λ (d : ℕ). d < length b.values) (dones_at base lay.body.statements) (cells_from (base + fl.first_output) (length f.outputs))
+      (dones_within lib b owners_now bases place first ss stand lay.body.statements all_sits (lines_length lib 0 [] [] lay.body.flow f.body layout.bodies inner_laid) base refl)
+      (cells_inside (base + fl.first_output) (length f.outputs) (λ j lt. let h = outs_inside j lt in omega (arith, h, same))))
