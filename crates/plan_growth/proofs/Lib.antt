@@ -3,6 +3,7 @@ pub mod Begins
 pub mod Conditions
 pub mod Entry
 pub mod Firsts
+pub mod FlowCalls
 pub mod Goes
 pub mod Handing
 pub mod Heads
