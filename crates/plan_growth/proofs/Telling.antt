@@ -15,15 +15,16 @@ use Rattle.wdl_typed.specs.Declarations.{plain_key}
 use Rattle.wdl_typed.specs.Scope.{lookup}
 use Rattle.value_net.specs.Nets.{view_of, with_step, with_value}
 use Rattle.net_laws.specs.Growing.{declares}
-use Rattle.net_laws.specs.Net.{Mark}
+use Rattle.net_laws.specs.Net.{Mark, Scope}
 use Rattle.plan_moves.specs.Sheets.{Sheet}
 use Rattle.plan_layout.specs.declared.layout.Need.{Need}
 use Rattle.plan_layout.specs.Laid.{default_needs, input_needs, output_needs, with_plain}
 use Rattle.plan_growth.specs.declared.rule.Rule.TheVariants as rule
 use Rattle.plan_growth.specs.Begun.{IsFree, hits}
 use Rattle.plan_growth.specs.Entering.{Sown, cells_of, with_given, with_inputs, with_outputs}
-use Rattle.plan_growth.specs.News.{New, new_means, new_wants, with_news}
+use Rattle.plan_growth.specs.News.{New, left_wants, new_means, new_wants, with_news}
 use Rattle.plan_growth.proofs.Adding.{hits_both, news_both}
+use Rattle.plan_growth.proofs.Instances.{Extends}
 use Rattle.plan_growth.proofs.Lists.{get_at, get_left, get_right, get_set, get_unset}
 use Rattle.plan_growth.proofs.Standing.{news_next, news_none}
 use Rattle.plan_growth.proofs.Told.{InputsSit, OutputsSit, ToldSits, input_news, inputs_leaves, one_news, output_news, told_cells, told_scope}
@@ -216,3 +217,36 @@ module _ (instance base : ℕ) (place : List Segment) (given : List Bind) where
 pub output_news_length : (instance base : ℕ) (place : List Segment) (calls : List Mark) (k : ℕ) (ds : List TDecl) (seen : List Need) → length (output_news instance base place calls k ds seen) ≡ length ds
 output_news_length instance base place calls k [] seen = refl
 output_news_length instance base place calls k (d ∷ ds) seen = let rest = output_news_length instance base place calls (k + 1) ds (with_plain seen d.name) in omega (arith, rest)
+
+-- ---- what is added later leaves inputs and outputs
+
+told_later : (b c : Sheet) (mine theirs : List ℕ) → Extends b mine c theirs → (u : ℕ) (name : List ℕ) (e : TExpr) (s : Scope) (d : ℕ) (cells : List ℕ) → ToldSits b mine u name e s d cells → ToldSits c theirs u name e s d cells
+told_later b c mine theirs x u name e s d cells h =
+    record {
+      rule_at = x.rules u (declares name e s d) h.rule_at;
+      step_at = x.steps u (left_wants cells) h.step_at;
+      free = (x.owners d u h.free.0, x.values d None h.free.1);
+    }
+
+module _ (lib : Library) (site : List ℕ) (rows : List Row) (b c : Sheet) (mine theirs : List ℕ) (x : Extends b mine c theirs) (instance base : ℕ) (place : List Segment) where
+  module _ (given : List Bind) where
+    abbrev OneAt : Sheet → List ℕ → ℕ → ℕ → List ℕ → List Need → Option TExpr → Option Value → Type 0
+    OneAt d own u k name seen e (Some y) = slice_get d.values (base + k) ≡ Some (Some y)
+    OneAt d own u k name seen None None = slice_get d.values (base + k) ≡ Some (Some v.Absent)
+    OneAt d own u k name seen (Some e) None = ToldSits d own u name e (told_scope base place [] seen) (base + k) (told_cells base seen e)
+
+    one_later : (u k : ℕ) (name : List ℕ) (seen : List Need) (d : Option TExpr) (o : Option Value) → OneAt b mine u k name seen d o → OneAt c theirs u k name seen d o
+    one_later u k name seen d (Some y) h = x.values (base + k) (Some y) h
+    one_later u k name seen None None h = x.values (base + k) (Some v.Absent) h
+    one_later u k name seen (Some e) None h = told_later b c mine theirs x u name e (told_scope base place [] seen) (base + k) (told_cells base seen e) h
+
+    pub inputs_later : (is : List TInput) (u k : ℕ) (seen : List Need) → InputsSit lib site rows b mine instance base place given u k is seen → InputsSit lib site rows c theirs instance base place given u k is seen
+    inputs_later [] u k seen h = tt
+    inputs_later (i ∷ is) u k seen h =
+        (one_later u k i.name seen i.value (lookup given (plain_key i.name)) h.0,
+        inputs_later is (u + length (one_news instance base place k i.name seen i.value (lookup given (plain_key i.name)))) (k + 1) (with_plain seen i.name) h.1)
+
+  pub outputs_later : (calls : List Mark) (ds : List TDecl) (u : ℕ) (seen : List Need) → OutputsSit lib site rows b mine instance base place calls u ds seen → OutputsSit lib site rows c theirs instance base place calls u ds seen
+  outputs_later calls [] u seen h = tt
+  outputs_later calls (d ∷ ds) u seen h =
+      (told_later b c mine theirs x u d.name d.value (told_scope base place calls seen) (base + length seen) (told_cells base seen d.value) h.0, outputs_later calls ds (u + 1) (with_plain seen d.name) h.1)

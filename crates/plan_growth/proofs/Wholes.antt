@@ -46,7 +46,7 @@ use Rattle.plan_growth.proofs.Begins.{bodies_begin}
 use Rattle.plan_growth.proofs.Entry.{cells_count, even_news, even_now, extends, instance_there, instances_kept, is_entered, net_is, values_are}
 use Rattle.plan_growth.proofs.Firsts.{dones_within}
 use Rattle.plan_growth.proofs.Inside.{WholeLaid, whole_laid}
-use Rattle.plan_growth.proofs.Instances.{Extends, IsEntered, Kept, instance_owners, owners_count, put}
+use Rattle.plan_growth.proofs.Instances.{Extends, IsEntered, Kept, entered_later, instance_owners, owners_count, put}
 use Rattle.plan_growth.proofs.Lists.{get_copy, get_left, get_right}
 use Rattle.plan_growth.proofs.Runs.{self_found}
 use Rattle.plan_growth.proofs.Scopes.{behind_count, behind_there, body_scope, inputs_cells, inputs_count, inputs_scope, outputs_cells, outputs_scope}
@@ -54,7 +54,7 @@ use Rattle.plan_growth.proofs.Seen.{slots_keys}
 use Rattle.plan_growth.proofs.Sitting.{all_sit, call_owners, done_owners, dones_count, name_owners, names_count}
 use Rattle.plan_growth.proofs.Standing.{lines_length, news_length, statements_stand}
 use Rattle.plan_growth.proofs.Tellers.{inputs_stand, inputs_there, outputs_stand}
-use Rattle.plan_growth.proofs.Telling.{InputsPut, OutputsPut, input_hits, input_owners, input_owners_length, input_values, inputs_added, inputs_sit, output_news_length, outputs_added, outputs_sit, values_length, values_other}
+use Rattle.plan_growth.proofs.Telling.{InputsPut, OutputsPut, input_hits, input_owners, input_owners_length, input_values, inputs_added, inputs_later, inputs_sit, output_news_length, outputs_added, outputs_later, outputs_sit, values_length, values_other}
 use Rattle.plan_growth.proofs.Told.{InputsSit, OutputsSit, input_news, inputs_begin, inputs_given, inputs_leaves, output_news, outputs_begin, outputs_given, told_scope}
 
 -- the owners of outputs, from a step on
@@ -333,123 +333,139 @@ module _ (lib : Library) (layout : Layout) (site : List ℕ) (rows : List Row) (
   abbrev pub names_out : Given
   names_out = both_given ins (both_given body_out (both_given outs nothing_given))
 
-  abbrev Begins : ℕ → net.Form → Work → (ℕ → ℕ → ℕ) → Type 0
-  Begins depth form w leaves = HasBegun lib site rows b owners_now depth form w leaves
-
   ins_scope : scope_at bases stand place ≡ beyond (start place) ins
   ins_scope = inputs_scope base place [] f.inputs [] 0 refl
 
   outs_scope : told_scope base place calls_out seen_out ≡ beyond (beyond (start place) ins) body_out
   outs_scope = body_scope lib site rows b owners_now bases place ss stand ∙ ap (λ (s : Scope). beyond s body_out) ins_scope
 
-  body_begins : (depth : ℕ) → Begins depth (all ss (beyond (start place) ins) body_out (dones_at base lay.body.statements)) no_work (λ u k. hits u k first ss)
-  body_begins depth =
-      subst (λ (s : Scope). Begins depth (all ss s body_out (dones_at base lay.body.statements)) no_work (λ u k. hits u k first ss)) ins_scope
-      (bodies_begin lib site rows b owners_now bases place lay.body.flow f.body layout.bodies ss stand lay.body.statements inner_laid first all_sits depth)
-
-  outs_begin : (depth : ℕ) → Begins depth (tells f.outputs (beyond (beyond (start place) ins) body_out) outs) no_work (λ u k. hits u k output_step f.outputs)
-  outs_begin depth =
-      subst (λ (s : Scope). Begins depth (tells f.outputs s outs) no_work (λ u k. hits u k output_step f.outputs)) outs_scope
-      (outputs_begin lib site rows b owners_now instance base place calls_out f.outputs seen_out output_step (length seen_out) refl outs_see outs_sit depth)
-
-  abbrev pub new_leaves : ℕ → ℕ → ℕ
-  new_leaves u k = inputs_leaves lib site rows b owners_now instance base place given u k input_step 0 f.inputs [] + (hits u k first ss + hits u k output_step f.outputs)
-
-  abbrev done_cells : List ℕ
-  done_cells = map slot_cell ins.names ++ dones_at base lay.body.statements ++ map slot_cell outs.names
-
-  dones_are : done_cells ≡ flow_dones f fl lay.body base
-  dones_are =
-      let same : base + fl.first_output ≡ base + length seen_out = (let e = lay.first_output in let s = ap length seen_is in omega (arith, e, s)) in
-      ap (λ (cs : List ℕ). cs ++ dones_at base lay.body.statements ++ map slot_cell outs.names) (inputs_cells base 0 base f.inputs (omega arith))
-      ∙ ap (λ (cs : List ℕ). cells_from base (length f.inputs) ++ dones_at base lay.body.statements ++ cs) (outputs_cells base (length seen_out) (base + fl.first_output) f.outputs same)
-      ∙ append_assoc (cells_from base (length f.inputs)) (dones_at base lay.body.statements) (cells_from (base + fl.first_output) (length f.outputs))
-
-  weigh_all : (weight : Work → ℕ) → IsWeight weight → (p r s : Work) → even_works.IsEven p → even_works.IsEven r → even_works.IsEven s → weight p ≡ weight no_work → weight r ≡ weight no_work → weight s ≡ weight no_work
-      → weight (both_works p (both_works (counted (length ss) r) (both_works s no_work))) ≡ weight (counted (length ss) no_work)
-  weigh_all weight w p r s ep er es hp hr hs =
-      let a = w.both p (both_works (counted (length ss) r) (both_works s no_work)) ep in
-      let c = w.both (counted (length ss) r) (both_works s no_work) er in
-      let d = w.both s no_work es in
-      let e = w.more (length ss) r in
-      let g = w.more (length ss) no_work in
-      let z = w.nothing in
-      omega (arith, a, c, d, e, g, z, hp, hr, hs)
-
-  three : (m n o i j k : ℕ) → m ≡ i → n ≡ j → o ≡ k → m + (n + o) ≡ i + (j + k)
-  three m n o i j k e g h = omega (arith, e, g, h)
-
-  pub flow_begins : (depth : ℕ) → Begins depth (whole f given place names_out (flow_dones f fl lay.body base)) (counted (length ss) no_work) new_leaves
-  flow_begins depth =
-      let p = inputs_begin lib site rows b owners_now instance base place given f.inputs [] input_step 0 refl sees.inputs ins_sit depth in
-      let r = body_begins depth in
-      let s = outs_begin depth in
-      subst (λ (cs : List ℕ). Begins depth (whole f given place names_out cs) (counted (length ss) no_work) new_leaves) dones_are
-      (record {
-        grown = flow_whole depth f given place ins body_out outs (dones_at base lay.body.statements) p.grown r.grown s.grown;
-        weighs = λ weight is_weight.
-            weigh_all weight is_weight (work_of lib site rows (rules_of b) (state_of b owners_now) p.grown) (work_of lib site rows (rules_of b) (state_of b owners_now) r.grown)
-            (work_of lib site rows (rules_of b) (state_of b owners_now) s.grown) (work_even lib site rows (rules_of b) (state_of b owners_now) p.grown) (work_even lib site rows (rules_of b) (state_of b owners_now) r.grown)
-            (work_even lib site rows (rules_of b) (state_of b owners_now) s.grown) (p.weighs weight is_weight) (r.weighs weight is_weight) (s.weighs weight is_weight);
-        leaves_are = λ u k. three _ _ _ (inputs_leaves lib site rows b owners_now instance base place given u k input_step 0 f.inputs []) (hits u k first ss) (hits u k output_step f.outputs) (p.leaves_are u k) (r.leaves_are u k) (s.leaves_are u k);
-        spends = λ task. three _ _ _ 0 0 0 (p.spends task) (r.spends task) (s.spends task);
-      })
-
-  -- ---- leaves, by the steps
-
   abbrev pub news : List New
   news = news_in ++ told
 
-  pub leaves_are : (u k : ℕ) → new_leaves u k ≡ hits u k first news
-  leaves_are u k =
-      let a = input_hits instance base place given lib site rows b owners_now f.inputs u k input_step 0 [] in
-      let c = hits_length u k first ss news_in (sym news_count) in
-      let d = hits_length u k output_step f.outputs out_news (sym (output_news_length instance base place calls_out 0 f.outputs seen_out)) in
-      let size = news_count in
-      let e = hits_both u k first input_step news_in told (omega (arith, size)) in
-      let g = hits_both u k input_step output_step in_news out_news refl in
-      omega (arith, a, c, d, e, g)
+  -- ---- where more may have been added
 
-  -- ---- what holds of the steps
+  module _ (c : Sheet) (theirs : List ℕ) (js : List Instance) (added : Extends b owners_now c theirs) (kept : Kept body_net.instances js) where
+    entered_later_is : IsEntered lib c theirs bases place befores afters base first ss stand lay.body.statements
+    entered_later_is = entered_later lib b c owners_now theirs bases place befores afters base first ss stand lay.body.statements added entered_now
 
-  abbrev Here : ℕ → List New → Type 0
-  Here u ns = AllStand lib layout body_net.instances b owners_now u ns
+    all_sits_later : AllSit c theirs lib bases place first ss stand lay.body.statements
+    all_sits_later =
+        all_sit lib c theirs bases place lay.body.flow f.body layout.bodies inner_laid first (put lib c theirs bases place befores afters base first ss lay.body.statements seen_in [] [] entered_later_is refl)
 
-  abbrev pub one : Instance
-  one = record { body = fl.body; bases = bases; place = place }
+    ins_sit_later : InputsSit lib site rows c theirs instance base place given input_step 0 f.inputs []
+    ins_sit_later = inputs_later lib site rows b c owners_now theirs added instance base place given f.inputs input_step 0 [] ins_sit
 
-  there_now : slice_get body_net.instances instance ≡ Some one
-  there_now = instance_there lib fl.body lay.body ss [] place befores afters seen_in [] [] refl lay.body.flow f.body layout.bodies inner_laid cells_are q rules owners even
+    outs_sit_later : OutputsSit lib site rows c theirs instance base place calls_out output_step f.outputs seen_out
+    outs_sit_later = outputs_later lib site rows b c owners_now theirs added instance base place calls_out f.outputs output_step seen_out outs_sit
 
-  flow_here : slice_get lib.flows lay.body.flow ≡ Some f
-  flow_here = ap (slice_get lib.flows) whole_is.runs.flow_is ∙ flow_there
+    abbrev Begins : ℕ → net.Form → Work → (ℕ → ℕ → ℕ) → Type 0
+    Begins depth form w leaves = HasBegun lib site rows c theirs depth form w leaves
 
-  fl_here : slice_get layout.flows lay.body.flow ≡ Some fl
-  fl_here = ap (slice_get layout.flows) whole_is.runs.flow_is ∙ fl_there
+    body_begins : (depth : ℕ) → Begins depth (all ss (beyond (start place) ins) body_out (dones_at base lay.body.statements)) no_work (λ u k. hits u k first ss)
+    body_begins depth =
+        subst (λ (s : Scope). Begins depth (all ss s body_out (dones_at base lay.body.statements)) no_work (λ u k. hits u k first ss)) ins_scope
+        (bodies_begin lib site rows c theirs bases place lay.body.flow f.body layout.bodies ss stand lay.body.statements inner_laid first all_sits_later depth)
 
-  ins_there : AreThere bases (length b.values) seen_in
-  ins_there =
-      inputs_there lib layout site rows body_net.instances b owners_now instance base place lay.body f fl one refl refl (record { there = there_now; body_there = lay.there; flow_there = flow_here }) fl_here given f.inputs [] input_step 0 refl
-      ins_sit tt
+    outs_begin : (depth : ℕ) → Begins depth (tells f.outputs (beyond (beyond (start place) ins) body_out) outs) no_work (λ u k. hits u k output_step f.outputs)
+    outs_begin depth =
+        subst (λ (s : Scope). Begins depth (tells f.outputs s outs) no_work (λ u k. hits u k output_step f.outputs)) outs_scope
+        (outputs_begin lib site rows c theirs instance base place calls_out f.outputs seen_out output_step (length seen_out) refl outs_see outs_sit_later depth)
 
-  body_stand : Here first news_in
-  body_stand =
-      statements_stand lib layout body_net.instances b owners_now instance one lay.body f (record { there = there_now; body_there = lay.there; flow_there = flow_here }) inner_laid first 0 all_sits ins_there tt refl
-      (λ j z e. ap (λ (ys : List Statement). slice_get ys (0 + j)) (ap (body_at f.body) whole_is.runs.path_is) ∙ ap (slice_get ss) (omega arith) ∙ e, λ j z e. ap (slice_get lay.body.statements) (omega arith) ∙ e) (omega arith, omega arith)
+    abbrev pub new_leaves : ℕ → ℕ → ℕ
+    new_leaves u k = inputs_leaves lib site rows c theirs instance base place given u k input_step 0 f.inputs [] + (hits u k first ss + hits u k output_step f.outputs)
 
-  told_stand : Here input_step told
-  told_stand =
-      stand_both lib layout body_net.instances b owners_now input_step output_step in_news out_news refl
-      (inputs_stand lib layout site rows body_net.instances b owners_now instance base place lay.body f fl one refl refl (record { there = there_now; body_there = lay.there; flow_there = flow_here }) fl_here given f.inputs [] input_step 0 refl
-      ins_sit sees.inputs tt (λ j z e. ap (slice_get f.inputs) (omega arith) ∙ e) (λ j z e. ap (λ (ls : List (List Need)). slice_get ls (0 + j)) lay.inputs ∙ ap (slice_get (laid.input_needs [] f.inputs)) (omega arith) ∙ e))
-      (outputs_stand lib layout site rows body_net.instances b owners_now instance base place lay.body f fl one refl refl (record { there = there_now; body_there = lay.there; flow_there = flow_here }) fl_here calls_out f.outputs seen_out
-      output_step 0 (let e = lay.first_output in let s = ap length seen_is in omega (arith, e, s)) outs_sit outs_see
-      (behind_there lib site rows b owners_now bases place first ss stand lay.body.statements all_sits (omega arith) ins_there) (λ j z e. ap (slice_get f.outputs) (omega arith) ∙ e)
-      (λ j z e.
-      ap (λ (ls : List (List Need)). slice_get ls (0 + j)) (lay.outputs ∙ ap (λ (s : List Need). laid.output_needs s f.outputs) seen_is) ∙ ap (slice_get (laid.output_needs seen_out f.outputs)) (omega arith) ∙ e))
+    abbrev done_cells : List ℕ
+    done_cells = map slot_cell ins.names ++ dones_at base lay.body.statements ++ map slot_cell outs.names
 
-  pub news_stand : Here first news
-  news_stand = let size = news_count in stand_both lib layout body_net.instances b owners_now first input_step news_in told (omega (arith, size)) body_stand told_stand
+    dones_are : done_cells ≡ flow_dones f fl lay.body base
+    dones_are =
+        let same : base + fl.first_output ≡ base + length seen_out = (let e = lay.first_output in let s = ap length seen_is in omega (arith, e, s)) in
+        ap (λ (cs : List ℕ). cs ++ dones_at base lay.body.statements ++ map slot_cell outs.names) (inputs_cells base 0 base f.inputs (omega arith))
+        ∙ ap (λ (cs : List ℕ). cells_from base (length f.inputs) ++ dones_at base lay.body.statements ++ cs) (outputs_cells base (length seen_out) (base + fl.first_output) f.outputs same)
+        ∙ append_assoc (cells_from base (length f.inputs)) (dones_at base lay.body.statements) (cells_from (base + fl.first_output) (length f.outputs))
+
+    weigh_all : (weight : Work → ℕ) → IsWeight weight → (p r s : Work) → even_works.IsEven p → even_works.IsEven r → even_works.IsEven s → weight p ≡ weight no_work → weight r ≡ weight no_work → weight s ≡ weight no_work
+        → weight (both_works p (both_works (counted (length ss) r) (both_works s no_work))) ≡ weight (counted (length ss) no_work)
+    weigh_all weight w p r s ep er es hp hr hs =
+        let a = w.both p (both_works (counted (length ss) r) (both_works s no_work)) ep in
+        let c = w.both (counted (length ss) r) (both_works s no_work) er in
+        let d = w.both s no_work es in
+        let e = w.more (length ss) r in
+        let g = w.more (length ss) no_work in
+        let z = w.nothing in
+        omega (arith, a, c, d, e, g, z, hp, hr, hs)
+
+    three : (m n o i j k : ℕ) → m ≡ i → n ≡ j → o ≡ k → m + (n + o) ≡ i + (j + k)
+    three m n o i j k e g h = omega (arith, e, g, h)
+
+    pub flow_begins : (depth : ℕ) → Begins depth (whole f given place names_out (flow_dones f fl lay.body base)) (counted (length ss) no_work) new_leaves
+    flow_begins depth =
+        let p = inputs_begin lib site rows c theirs instance base place given f.inputs [] input_step 0 refl sees.inputs ins_sit_later depth in
+        let r = body_begins depth in
+        let s = outs_begin depth in
+        subst (λ (cs : List ℕ). Begins depth (whole f given place names_out cs) (counted (length ss) no_work) new_leaves) dones_are
+        (record {
+          grown = flow_whole depth f given place ins body_out outs (dones_at base lay.body.statements) p.grown r.grown s.grown;
+          weighs = λ weight is_weight.
+              weigh_all weight is_weight (work_of lib site rows (rules_of c) (state_of c theirs) p.grown) (work_of lib site rows (rules_of c) (state_of c theirs) r.grown)
+              (work_of lib site rows (rules_of c) (state_of c theirs) s.grown) (work_even lib site rows (rules_of c) (state_of c theirs) p.grown) (work_even lib site rows (rules_of c) (state_of c theirs) r.grown)
+              (work_even lib site rows (rules_of c) (state_of c theirs) s.grown) (p.weighs weight is_weight) (r.weighs weight is_weight) (s.weighs weight is_weight);
+          leaves_are = λ u k. three _ _ _ (inputs_leaves lib site rows c theirs instance base place given u k input_step 0 f.inputs []) (hits u k first ss) (hits u k output_step f.outputs) (p.leaves_are u k) (r.leaves_are u k) (s.leaves_are u k);
+          spends = λ task. three _ _ _ 0 0 0 (p.spends task) (r.spends task) (s.spends task);
+        })
+
+    -- ---- leaves, by the steps
+
+    pub leaves_are : (u k : ℕ) → new_leaves u k ≡ hits u k first news
+    leaves_are u k =
+        let a = input_hits instance base place given lib site rows c theirs f.inputs u k input_step 0 [] in
+        let c = hits_length u k first ss news_in (sym news_count) in
+        let d = hits_length u k output_step f.outputs out_news (sym (output_news_length instance base place calls_out 0 f.outputs seen_out)) in
+        let size = news_count in
+        let e = hits_both u k first input_step news_in told (omega (arith, size)) in
+        let g = hits_both u k input_step output_step in_news out_news refl in
+        omega (arith, a, c, d, e, g)
+
+    -- ---- what holds of the steps
+
+    abbrev Here : ℕ → List New → Type 0
+    Here u ns = AllStand lib layout js c theirs u ns
+
+    abbrev pub one : Instance
+    one = record { body = fl.body; bases = bases; place = place }
+
+    there_now : slice_get js instance ≡ Some one
+    there_now = kept instance one (instance_there lib fl.body lay.body ss [] place befores afters seen_in [] [] refl lay.body.flow f.body layout.bodies inner_laid cells_are q rules owners even)
+
+    flow_here : slice_get lib.flows lay.body.flow ≡ Some f
+    flow_here = ap (slice_get lib.flows) whole_is.runs.flow_is ∙ flow_there
+
+    fl_here : slice_get layout.flows lay.body.flow ≡ Some fl
+    fl_here = ap (slice_get layout.flows) whole_is.runs.flow_is ∙ fl_there
+
+    ins_there : AreThere bases (length c.values) seen_in
+    ins_there =
+        inputs_there lib layout site rows js c theirs instance base place lay.body f fl one refl refl (record { there = there_now; body_there = lay.there; flow_there = flow_here }) fl_here given f.inputs [] input_step 0 refl
+        ins_sit_later tt
+
+    body_stand : Here first news_in
+    body_stand =
+        statements_stand lib layout js c theirs instance one lay.body f (record { there = there_now; body_there = lay.there; flow_there = flow_here }) inner_laid first 0 all_sits_later ins_there tt refl
+        (λ j z e. ap (λ (ys : List Statement). slice_get ys (0 + j)) (ap (body_at f.body) whole_is.runs.path_is) ∙ ap (slice_get ss) (omega arith) ∙ e, λ j z e. ap (slice_get lay.body.statements) (omega arith) ∙ e) (omega arith, omega arith)
+
+    told_stand : Here input_step told
+    told_stand =
+        stand_both lib layout js c theirs input_step output_step in_news out_news refl
+        (inputs_stand lib layout site rows js c theirs instance base place lay.body f fl one refl refl (record { there = there_now; body_there = lay.there; flow_there = flow_here }) fl_here given f.inputs [] input_step 0 refl
+        ins_sit_later sees.inputs tt (λ j z e. ap (slice_get f.inputs) (omega arith) ∙ e) (λ j z e. ap (λ (ls : List (List Need)). slice_get ls (0 + j)) lay.inputs ∙ ap (slice_get (laid.input_needs [] f.inputs)) (omega arith) ∙ e))
+        (outputs_stand lib layout site rows js c theirs instance base place lay.body f fl one refl refl (record { there = there_now; body_there = lay.there; flow_there = flow_here }) fl_here calls_out f.outputs seen_out
+        output_step 0 (let e = lay.first_output in let s = ap length seen_is in omega (arith, e, s)) outs_sit_later outs_see
+        (behind_there lib site rows c theirs bases place first ss stand lay.body.statements all_sits_later (omega arith) ins_there) (λ j z e. ap (slice_get f.outputs) (omega arith) ∙ e)
+        (λ j z e.
+        ap (λ (ls : List (List Need)). slice_get ls (0 + j)) (lay.outputs ∙ ap (λ (s : List Need). laid.output_needs s f.outputs) seen_is) ∙ ap (slice_get (laid.output_needs seen_out f.outputs)) (omega arith) ∙ e))
+
+    pub news_stand : Here first news
+    news_stand = let size = news_count in stand_both lib layout js c theirs first input_step news_in told (omega (arith, size)) body_stand told_stand
 
   -- ---- names
 
