@@ -66,7 +66,7 @@ module _ (lib : Library) (site : List ℕ) (rows : List Row) (b : Sheet) (owners
   -- ---- its needs
 
   module _ (x : Statement) (a : Stand) (l : StatementLayout) (sees : Sees lib x a) (t : ℕ) where
-    pub named_needs : (e : TExpr) → AllSeen a.names (names_of e) → HasNeeds a (names_of e) [] l → st.needs t ≡ cells_of bases l.needs l.after → NamesNeeded st t (scope_at bases a place) e
+    abbrev pub named_needs : (e : TExpr) → AllSeen a.names (names_of e) → HasNeeds a (names_of e) [] l → st.needs t ≡ cells_of bases l.needs l.after → NamesNeeded st t (scope_at bases a place) e
     named_needs e all_seen n is =
         record {
           slots = slots_at bases (needs_of a.names (names_of e));
@@ -78,7 +78,7 @@ module _ (lib : Library) (site : List ℕ) (rows : List Row) (b : Sheet) (owners
               ∙ append-nil (map (cell_at bases) (needs_of a.names (names_of e))) ∙ sym (slots_cells bases (needs_of a.names (names_of e)));
         }
 
-    pub call_needs : (y : TCall) → AllSeen a.names (arg_keys y.args) → AllSeen a.calls (plain_keys y.after) → HasNeeds a (arg_keys y.args) y.after l → st.needs t ≡ cells_of bases l.needs l.after
+    abbrev pub call_needs : (y : TCall) → AllSeen a.names (arg_keys y.args) → AllSeen a.calls (plain_keys y.after) → HasNeeds a (arg_keys y.args) y.after l → st.needs t ≡ cells_of bases l.needs l.after
         → CallNeeded st t (scope_at bases a place) y
     call_needs y all_seen all_after n is =
         record {

@@ -39,7 +39,7 @@ use Rattle.plan_layout.specs.declared.layout.BodyLayout.{BodyLayout}
 use Rattle.plan_layout.specs.declared.layout.FlowLayout.{FlowLayout}
 use Rattle.plan_layout.specs.declared.layout.Layout.{Layout}
 use Rattle.plan_layout.specs.declared.layout.StatementLayout.{StatementLayout}
-use Rattle.plan_layout.specs.Cells.{marks_at, slots_at}
+use Rattle.plan_layout.specs.Cells.{cell_at, marks_at, slots_at}
 use Rattle.plan_layout.specs.Laid.{IsLaidAs, Stand}
 use Rattle.plan_layout.specs.Sees.{AllSeen, FlowSees, Sees, after_at, keys_at}
 use Rattle.plan_layout.specs.Spots.{plain_keys, spots_from}
@@ -138,7 +138,7 @@ module _ (lib : Library) (layout : Layout) (site : List ℕ) (rows : List Row) (
   abbrev owners_out : List ℕ
   owners_out = outer_owners owners base a.next_name count a.next_call 0 l.done name_step done_step done_step
 
-  even_start : IsEven start.net rules owners_out
+  pub even_start : IsEven start.net rules owners_out
   even_start =
       let size = length-set v.steps t (record { needs = step.needs; is_taken = true }) in
       record {
@@ -287,3 +287,177 @@ module _ (lib : Library) (layout : Layout) (site : List ℕ) (rows : List Row) (
       inl
       (joint_waits lib site rows b owners_now done_step (ends (flow_dones f fl flow_laid.body first) (base + l.done)) (flow_dones f fl flow_laid.body first) (base + l.done) (rule_here count done_step ending refl ending_there)
       (step_here count done_step ending refl ending_there) done_free))
+
+  -- ---- what has grown
+
+  pub added : Extends (sheet_of flow_net.net rules_in) owners_now b owners_now
+  added =
+      record {
+        rules = λ i r h. get_left rules_in (map new_means joints) i r h;
+        steps = λ i w h. ap (λ (ws : List Wants). slice_get ws i) steps_are ∙ get_left flow_net.net.steps (map new_wants joints) i w h;
+        owners = λ i u h. h;
+        values = λ i o h. ap (λ (os : List (Option Value)). slice_get os i) values_same ∙ h;
+      }
+
+  abbrev Here : ℕ → List New → Type 0
+  Here u ns = AllStand lib layout flow_net.instances b owners_now u ns
+
+  size_same : (c : ℕ) → c < length flow_net.net.values → c < length b.values
+  size_same c lt = let e = ap length values_same in omega (arith, e, lt)
+
+  output_inside : (j : ℕ) → j < count → first + fl.first_output + j < length b.values
+  output_inside j lt =
+      let many = count_is in
+      let at = outs_at in
+      let inside = size_same _ (whole.outs_inside lib layout site rows callee f fl flow_laid flow_sees flow_there fl_there args place_in start rules owners_out even_start j (omega (arith, lt, many))) in
+      omega (arith, inside, at)
+
+  dones_inside : All (λ (c : ℕ). c < length b.values) (flow_dones f fl flow_laid.body first)
+  dones_inside i d lt =
+      size_same (get_or (flow_dones f fl flow_laid.body first) i d) (whole.dones_inside lib layout site rows callee f fl flow_laid flow_sees flow_there fl_there args place_in start rules owners_out even_start i d lt)
+
+  joints_stand : Here name_step joints
+  joints_stand =
+      let one = news_by_length (copy_new (first + fl.first_output) (base + a.next_name)) count in
+      stand_both lib layout flow_net.instances b owners_now name_step done_step copying (ending ∷ []) (omega (arith, one))
+      (stand_by lib layout flow_net.instances b owners_now (copy_new (first + fl.first_output) (base + a.next_name)) name_step count (λ j lt.
+      copy_stands lib layout flow_net.instances b owners_now (name_step + j) (base + a.next_name + j) (first + fl.first_output + j) (name_free j lt) (output_inside j lt)))
+      (end_stands lib layout flow_net.instances b owners_now done_step (base + l.done) (flow_dones f fl flow_laid.body first) done_free dones_inside, tt)
+
+  abbrev pub news : List New
+  news = news_in ++ joints
+
+  starts : length start.net.steps ≡ length v.steps
+  starts = length-set v.steps t (record { needs = step.needs; is_taken = true })
+
+  pub news_stand : Here (length v.steps) news
+  news_stand =
+      subst (λ (u : ℕ). Here u news) starts
+      (stand_both lib layout flow_net.instances b owners_now (length start.net.steps) name_step news_in joints long
+      (whole.news_stand lib layout site rows callee f fl flow_laid flow_sees flow_there fl_there args place_in start rules owners_out even_start b owners_now flow_net.instances added (λ i z h. h)) joints_stand)
+
+  -- ---- what the step did
+
+  pub call_moves : Moves t v rules owners is last_net rules_now owners_now flow_net.instances news
+  call_moves =
+      record {
+        step = step;
+        there = there;
+        fresh = fresh;
+        ready = ready;
+        codes =
+            lists_both new_code v.rules last_net.rules flow_net.net.rules news_in joints
+            (whole.flow_codes lib layout site rows callee f fl flow_laid flow_sees flow_there fl_there args place_in start rules owners_out even_start) (ap (λ (u : Sown). u.rules) joined_net);
+        means =
+            ap (λ (rs : List net.Rule). rs ++ map new_means joints) (whole.flow_rules lib layout site rows callee f fl flow_laid flow_sees flow_there fl_there args place_in start rules owners_out even_start)
+            ∙ rules_both rules news_in joints;
+        steps = lists_both new_wants start.net.steps last_net.steps flow_net.net.steps news_in joints steps_in steps_are;
+        instances = whole.flow_instances lib layout site rows callee f fl flow_laid flow_sees flow_there fl_there args place_in start rules owners_out even_start;
+        cells = longer;
+        others = λ c u h ne.
+            let inside = slice_get_within owners c u h in
+            let size = even.owners_too in
+            let at = slice_get-get_or v.values c None (omega (arith, inside, size)) in
+            value_kept c (get_or v.values c None) at ∙ sym at;
+        kept = λ c z h. value_kept c (Some z) h;
+        owned = λ c u h ne.
+            get_left owners_out owners_in c u
+            (others_owned (sheet_of v rules) owners t base a.next_name count a.next_call 0 l.done own_names own_calls own_done fits.0 low name_step done_step done_step c u h ne);
+        even_now = subst (λ (u : Sown). IsEven u rules_now owners_now) (sym joined_net) (even_news flow_net.net rules_in owners_now joints even_in);
+      }
+
+  -- ---- leaves
+
+  abbrev pub new_leaves : ℕ → ℕ → ℕ
+  new_leaves u k = whole.new_leaves lib layout site rows callee f fl flow_laid flow_sees flow_there fl_there args place_in start rules owners_out even_start b owners_now flow_net.instances added (λ i z h. h) u k
+
+  leaves_are : (u k : ℕ) → new_leaves u k ≡ hits u k (length v.steps) news_in
+  leaves_are u k =
+      whole.leaves_are lib layout site rows callee f fl flow_laid flow_sees flow_there fl_there args place_in start rules owners_out even_start b owners_now flow_net.instances added (λ i z h. h) u k
+      ∙ ap (λ (m : ℕ). hits u k m news_in) starts
+
+  pub leaves_before : (u k : ℕ) → u < length v.steps → new_leaves u k ≡ 0
+  leaves_before u k lt = leaves_are u k ∙ hits_before u k (length v.steps) news_in lt
+
+  pub leaves_past : (u k : ℕ) → length last_net.steps ≤ u → new_leaves u k ≡ 0
+  leaves_past u k le =
+      let all_ = ap length steps_are in
+      let both = length-append flow_net.net.steps (map new_wants joints) in
+      let some = long in
+      let same = starts in
+      leaves_are u k ∙ hits_behind u k (length v.steps) news_in (omega (arith, all_, both, some, same, le))
+
+  joint_none : (j : ℕ) (m : New) → slice_get joints j ≡ Some m → is_leaf m.means ≡ false
+  joint_none j m h = by_case (get_split copying (ending ∷ []) j m h)
+    where
+      by_case : (slice_get copying j ≡ Some m) ⊎ ((i : ℕ) × (j ≡ length copying + i) × (slice_get (ending ∷ []) i ≡ Some m)) → is_leaf m.means ≡ false
+      by_case (inl e) = let p = news_by_of (copy_new (first + fl.first_output) (base + a.next_name)) count j m e in ap (λ (z : New). is_leaf z.means) p.1
+      by_case (inr (zero, g, e)) = let same : ending ≡ m = cc in ap (λ (z : New). is_leaf z.means) (sym same)
+      by_case (inr (suc i, g, e)) = absurd (let z : ⊥ = cc in z)
+
+  pub leaves_each : (j : ℕ) (m : New) → slice_get news j ≡ Some m → is_leaf m.means ≡ true → (k : ℕ) → new_leaves (length v.steps + j) k ≡ k
+  leaves_each j m h leaf k = by_case (get_split news_in joints j m h)
+    where
+      by_case : (slice_get news_in j ≡ Some m) ⊎ ((i : ℕ) × (j ≡ length news_in + i) × (slice_get joints i ≡ Some m)) → new_leaves (length v.steps + j) k ≡ k
+      by_case (inl e) =
+          let inside = slice_get_within news_in j m e in
+          leaves_are (length v.steps + j) k ∙ hits_one (length v.steps + j) k (length v.steps) news_in (omega arith) (omega (arith, inside))
+      by_case (inr (i, g, e)) = absurd (false≢true (sym (joint_none i m e) ∙ leaf))
+
+  -- ---- the law of moves
+
+  begun : (depth : ℕ) → HasBegun lib site rows b owners_now depth (net.whole f args place_in inside_names (flow_dones f fl flow_laid.body first)) (counted (length f.body) no_work) new_leaves
+  begun depth = whole.flow_begins lib layout site rows callee f fl flow_laid flow_sees flow_there fl_there args place_in start rules owners_out even_start b owners_now flow_net.instances added (λ i z h. h) depth
+
+  abbrev slots : List Slot
+  slots = slots_at outer l.needs
+
+  pub step_was : slice_get last_net.steps t ≡ Some (record { needs = step.needs; is_taken = true })
+  unfolding call_moves
+  step_was = step_now t v rules owners is last_net rules_now owners_now flow_net.instances news call_moves even
+
+  abbrev needed : CallNeeded (state_of b owners_now) t (scope_at outer a place) x
+  needed =
+      call_needs lib site rows b owners_now outer place (stmt.Call x) a l sees t x (subst (λ (y : Statement-F Statement). AllSeen a.names (keys_at y)) (stmt.outs-Call x) sees.names)
+      (subst (λ (y : Statement-F Statement). AllSeen a.calls (plain_keys (after_at y))) (stmt.outs-Call x) sees.calls) lay.needs
+      (ap needs_in step_was ∙ wants)
+
+  needed_slots : needed.slots ≡ slots
+  needed_slots = ap (slots_at outer) (sym lay.needs.needs)
+
+  pub call_enters : args_met (env_of (map (known_in (value_at v.values)) slots)) x.args ≡ Ok args
+      → EntersFlow lib site rows b owners_now x (scope_at outer a place) (given_by outer a n) (base + l.done) (counted (length f.body) no_work) new_leaves
+  call_enters met =
+      let test =
+      and_parts (args_known (map (known_in (value_at b.values)) needed.slots) x.args) (list_all (has_ended (map (ended_in (value_at b.values)) needed.marks)) x.after)
+      (call_ready (state_of b owners_now) t (scope_at outer a place) x needed
+      (set_now lib site rows t (sheet_of v rules) owners b owners_now (is_move t v rules owners is last_net rules_now owners_now flow_net.instances news call_moves even))) in
+      let same =
+      known_same (value_at v.values) (value_at b.values) slots (needs_set v.values outer l.needs (map (cell_at outer) l.after) (ap (values.are_set v.values) (sym wants) ∙ ready))
+      (values_kept v.values b.values (λ c z h. value_kept c (Some z) h)) in
+      record {
+        slots = needed.slots;
+        marks = needed.marks;
+        needs = needed.needs;
+        number = callee;
+        is = is_flow;
+        callee = f;
+        found = flow_there;
+        args = args;
+        met =
+            record {
+              known = test.0;
+              ended = test.1;
+              met =
+                  ap (λ (ss : List Slot). args_met (env_of (map (known_in (value_at b.values)) ss)) x.args) needed_slots ∙ ap (λ (ks : List Known). args_met (env_of ks) x.args) same ∙ met;
+            };
+        inner = inside_names;
+        dones = flow_dones f fl flow_laid.body first;
+        distinct = whole.names_differ lib layout site rows callee f fl flow_laid flow_sees flow_there fl_there args place_in start rules owners_out even_start;
+        body = λ depth. (begun depth).grown;
+        copied = all_copied;
+        ended = all_ended;
+        work = λ depth weight is_weight. (begun depth).weighs weight is_weight;
+        leaves = λ depth u k. (begun depth).leaves_are u k;
+        spends = λ depth task. (begun depth).spends task;
+      }
