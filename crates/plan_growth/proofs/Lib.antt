@@ -17,6 +17,7 @@ pub mod Runs
 pub mod Scatters
 pub mod Scopes
 pub mod Seen
+pub mod Setting
 pub mod Sitting
 pub mod Standing
 pub mod Tellers
