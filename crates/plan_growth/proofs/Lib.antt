@@ -10,6 +10,7 @@ pub mod Heads
 pub mod Inside
 pub mod Instances
 pub mod Items
+pub mod Keeping
 pub mod Lists
 pub mod Moving
 pub mod Outer

@@ -43,7 +43,7 @@ use Rattle.plan_growth.proofs.Moving.{Moves}
 
 -- ---- cells of the step alone
 
-same_inside : {A : Type 0} {x y : A} → Some x ≡ Some y → x ≡ y
+pub same_inside : {A : Type 0} {x y : A} → Some x ≡ Some y → x ≡ y
 same_inside e = cc
 
 module _ (v : Sown) (rules : List net.Rule) (owners : List ℕ) (is : List Instance) (even : IsEven v rules owners) (t : ℕ) (step : Wants) (there : slice_get v.steps t ≡ Some step) (fresh : step.is_taken ≡ false)
