@@ -117,7 +117,7 @@ module _ (lib : Library) (layout : Layout) (site : List ℕ) (rows : List Row) (
   abbrev bases_in : List ℕ
   bases_in = outer ++ first ∷ []
 
-  abbrev body_net : Plot
+  abbrev pub body_net : Plot
   body_net = with_instance l.inner outer place_in lay.inner start
 
   abbrev name_step : ℕ
@@ -151,7 +151,7 @@ module _ (lib : Library) (layout : Layout) (site : List ℕ) (rows : List Row) (
   abbrev owners_in : List ℕ
   owners_in = instance_owners lib [] [] (length start.net.steps) x.body
 
-  abbrev owners_now : List ℕ
+  abbrev pub owners_now : List ℕ
   owners_now = owners_out ++ owners_in
 
   body_is : body_net.net ≡ with_news (with_cells start.net lay.inner.cells) news_in
@@ -189,7 +189,7 @@ module _ (lib : Library) (layout : Layout) (site : List ℕ) (rows : List Row) (
   abbrev joints : List New
   joints = (copying ++ calling) ++ ending ∷ []
 
-  abbrev last_net : Sown
+  abbrev pub last_net : Sown
   last_net = with_copied first lay.inner l base body_net.net
 
   copied_net : with_copies (first + lay.inner.first_name) (base + l.first_name) l.names body_net.net ≡ with_news body_net.net copying
@@ -210,10 +210,10 @@ module _ (lib : Library) (layout : Layout) (site : List ℕ) (rows : List Row) (
   joined_net : last_net ≡ with_news body_net.net joints
   joined_net = ap (λ (u : Sown). with_step u (rule.Ends (base + l.done)) (dones_at first lay.inner.statements)) called_net ∙ news_last body_net.net (copying ++ calling) ending
 
-  abbrev rules_now : List net.Rule
+  abbrev pub rules_now : List net.Rule
   rules_now = rules_in ++ map new_means joints
 
-  abbrev b : Sheet
+  abbrev pub b : Sheet
   b = sheet_of last_net rules_now
 
   values_same : last_net.values ≡ body_net.net.values

@@ -126,7 +126,7 @@ module _ (lib : Library) (layout : Layout) (site : List ℕ) (rows : List Row) (
 
   -- ---- the workflow
 
-  abbrev flow_net : Plot
+  abbrev pub flow_net : Plot
   flow_net = with_flow f args place_in fl flow_laid.body start
 
   abbrev name_step : ℕ
@@ -150,7 +150,7 @@ module _ (lib : Library) (layout : Layout) (site : List ℕ) (rows : List Row) (
   abbrev rules_in : List net.Rule
   rules_in = whole.rules_now lib layout site rows callee f fl flow_laid flow_sees flow_there fl_there args place_in start rules owners_out even_start
 
-  abbrev owners_now : List ℕ
+  abbrev pub owners_now : List ℕ
   owners_now = whole.owners_now lib layout site rows callee f fl flow_laid flow_sees flow_there fl_there args place_in start rules owners_out even_start
 
   abbrev news_in : List New
@@ -185,10 +185,10 @@ module _ (lib : Library) (layout : Layout) (site : List ℕ) (rows : List Row) (
   abbrev joints : List New
   joints = copying ++ ending ∷ []
 
-  abbrev last_plot : Plot
+  abbrev pub last_plot : Plot
   last_plot = with_call f args place_in fl flow_laid.body l base start
 
-  abbrev last_net : Sown
+  abbrev pub last_net : Sown
   last_net = last_plot.net
 
   joined_net : last_net ≡ with_news flow_net.net joints
@@ -199,10 +199,10 @@ module _ (lib : Library) (layout : Layout) (site : List ℕ) (rows : List Row) (
       ∙ copies_added (first + fl.first_output) (base + a.next_name) count flow_net.net)
       ∙ news_last flow_net.net copying ending
 
-  abbrev rules_now : List net.Rule
+  abbrev pub rules_now : List net.Rule
   rules_now = rules_in ++ map new_means joints
 
-  abbrev b : Sheet
+  abbrev pub b : Sheet
   b = sheet_of last_net rules_now
 
   values_same : last_net.values ≡ flow_net.net.values

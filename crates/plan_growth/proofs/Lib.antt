@@ -1,5 +1,6 @@
 pub mod Adding
 pub mod Begins
+pub mod Blocking
 pub mod Conditions
 pub mod Entry
 pub mod Firsts

@@ -111,7 +111,7 @@ module _ (lib : Library) (layout : Layout) (site : List ℕ) (rows : List Row) (
 
   -- ---- the items
 
-  abbrev items_net : Plot
+  abbrev pub items_net : Plot
   items_net = entered lib layout l.inner lay.inner flow x.body outer path place x.number x.item a 0 xs start
 
   abbrev firsts : List ℕ
@@ -145,7 +145,7 @@ module _ (lib : Library) (layout : Layout) (site : List ℕ) (rows : List Row) (
   abbrev rules_in : List net.Rule
   rules_in = rules_after lib layout l.inner lay.inner flow x.body outer path place x.number x.item a 0 xs start rules
 
-  abbrev owners_now : List ℕ
+  abbrev pub owners_now : List ℕ
   owners_now = owners_out ++ items_owners lib layout l.inner lay.inner flow x.body outer path place x.number x.item a 0 xs start
 
   entry : Entered 0 xs rules_in owners_now
@@ -175,7 +175,7 @@ module _ (lib : Library) (layout : Layout) (site : List ℕ) (rows : List Row) (
   abbrev joints : List New
   joints = (gathering ++ calling) ++ ending ∷ []
 
-  abbrev last_net : Sown
+  abbrev pub last_net : Sown
   last_net = with_gathered firsts lay.inner l base items_net.net
 
   gathered_net : with_gathers firsts lay.inner.first_name (base + l.first_name) l.names items_net.net ≡ with_news items_net.net gathering
@@ -198,10 +198,10 @@ module _ (lib : Library) (layout : Layout) (site : List ℕ) (rows : List Row) (
   joined_net =
       ap (λ (u : Sown). with_step u (rule.Ends (base + l.done)) (entering.all_dones lay.inner.statements firsts)) called_net ∙ news_last items_net.net (gathering ++ calling) ending
 
-  abbrev rules_now : List net.Rule
+  abbrev pub rules_now : List net.Rule
   rules_now = rules_in ++ map new_means joints
 
-  abbrev b : Sheet
+  abbrev pub b : Sheet
   b = sheet_of last_net rules_now
 
   values_same : last_net.values ≡ items_net.net.values
