@@ -71,6 +71,7 @@ use Rattle.plan_growth.proofs.Keeping.{MeansAt, base_same, means_at}
 use Rattle.plan_growth.proofs.Lists.{get_set, get_unset}
 use Rattle.plan_growth.proofs.Moving.{Moves, is_move}
 use Rattle.plan_growth.proofs.Adding.{last}
+use Rattle.plan_growth.proofs.Alike.{calls_alike, names_alike}
 use Rattle.plan_growth.proofs.Conditions as condition
 use Rattle.plan_growth.proofs.Goes.{goes_on}
 use Rattle.plan_growth.proofs.Outer.{all_left, all_right, calls_at, names_at}
@@ -121,19 +122,6 @@ absent_get first (suc n) vs inside j lt = by_case (last j n lt) (absent_get firs
         let low = inside n (omega arith) in
         let same : first + j ≡ first + n = omega (arith, e) in
         ap (slice_get (slice_set (absent_values first n vs) (first + n) (Some kind.Absent))) same ∙ get_set (absent_values first n vs) (first + n) (Some kind.Absent) (omega (arith, low, size))
-
--- what a condition that is false gives out
-names_absent : (cells : Cells) (c : ℕ) (ks : List Key) → ((j d : ℕ) → d ≡ c + j → j < length ks → cells d ≡ Some kind.Absent) → each_key (Some kind.Absent) ks ≡ map (known_in cells) (run_slots c ks)
-names_absent cells c [] h = refl
-names_absent cells c (k ∷ ks) h =
-    ap (λ (o : Option Value). record { key = k; value = o } ∷ each_key (Some kind.Absent) ks) (sym (h 0 c (omega arith) (omega arith)))
-    ∙ ap (λ (xs : List Known). record { key = k; value = cells c } ∷ xs) (names_absent cells (c + 1) ks (λ j d e lt. h (suc j) d (omega (arith, e)) (omega (arith, lt))))
-
-calls_absent : (cells : Cells) (c : ℕ) (xs : List (List ℕ)) → ((j d : ℕ) → d ≡ c + j → j < length xs → cells d ≡ Some kind.Absent) → each_call true xs ≡ map (ended_in cells) (run_marks c xs)
-calls_absent cells c [] h = refl
-calls_absent cells c (x ∷ xs) h =
-    ap (λ (o : Option Value). record { call = x; ended = known_types.is_some o } ∷ each_call true xs) (sym (h 0 c (omega arith) (omega arith)))
-    ∙ ap (λ (ys : List Ended). record { call = x; ended = known_types.is_some (cells c) } ∷ ys) (calls_absent cells (c + 1) xs (λ j d e lt. h (suc j) d (omega (arith, e)) (omega (arith, lt))))
 
 module _ (lib : Library) (layout : Layout) (site : List ℕ) (rows : List Row) (depth : ℕ) (form : Form) (v : Sown) (is : List Instance) (listed : Work) (asked : List ℕ) (paid : TaskCost → ℕ)
     (g : IsGrowing lib layout site rows depth form v is listed asked paid) (t : ℕ) (r : Rule) (code : slice_get v.rules t ≡ Some r) (step : Wants) (there : slice_get v.steps t ≡ Some step)
@@ -422,10 +410,10 @@ module _ (lib : Library) (layout : Layout) (site : List ℕ) (rows : List Row) (
     off_gives : giving (Some kind.Absent) true n ≡ flowing_of (value_at off_values) ig no_work
     off_gives =
         ap (λ (ks : List Known). off_flow ks (each_call true n.calls))
-        (names_absent (value_at off_values) (base + ih.stand.next_name) n.keys off_name
+        (names_alike (value_at off_values) (Some kind.Absent) (base + ih.stand.next_name) n.keys off_name
         ∙ ap (map (known_in (value_at off_values))) (sym (slots_run q.bases (length ih.stand.path) ih.stand.next_name (base + ih.stand.next_name) n.keys refl)))
         ∙ ap (λ (es : List Ended). off_flow (map (known_in (value_at off_values)) ig.names) es)
-        (calls_absent (value_at off_values) (base + ih.stand.next_call) n.calls off_call
+        (calls_alike (value_at off_values) (Some kind.Absent) (base + ih.stand.next_call) n.calls off_call
         ∙ ap (map (ended_in (value_at off_values))) (sym (marks_run q.bases (length ih.stand.path) ih.stand.next_call (base + ih.stand.next_call) n.calls refl)))
 
     off_net : with_nothing l (last_base q.bases) w ≡ After off_values

@@ -1,4 +1,5 @@
 pub mod Adding
+pub mod Alike
 pub mod Begins
 pub mod Blocking
 pub mod Conditions
