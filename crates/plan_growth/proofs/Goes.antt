@@ -27,6 +27,29 @@ use Rattle.plan_growth.proofs.Moving.{Moves, all_stand, free_kept, mapped_back, 
 
 module _ (lib : Library) (layout : Layout) (site : List ℕ) (rows : List Row) (depth : ℕ) (form : Form) (v : Sown) (is : List Instance) (listed : Work) (asked : List ℕ) (paid : TaskCost → ℕ)
     (g : IsGrowing lib layout site rows depth form v is listed asked paid) where
+  -- a call that was asked more
+  pub asks_too : (u : ℕ) → IsAsker lib layout site rows g.growth u → IsGrowing lib layout site rows depth form v is listed (asked ++ u ∷ []) paid
+  asks_too u h =
+      record {
+        laid = g.laid;
+        root = g.root;
+        growth = g.growth;
+        even = g.even;
+        stands = g.stands;
+        weighs = g.weighs;
+        once = g.once;
+        fresh = g.fresh;
+        asks = λ j x e. by_case j x (get_split asked (u ∷ []) j x e);
+        spends = g.spends;
+      }
+    where
+      by_case : (j x : ℕ) → (slice_get asked j ≡ Some x) ⊎ ((i : ℕ) × (j ≡ length asked + i) × (slice_get (u ∷ []) i ≡ Some x)) → IsAsker lib layout site rows g.growth x
+      by_case j x (inl e) = g.asks j x e
+      by_case j x (inr (zero, e, is_)) = let same : u ≡ x = cc in subst (λ (z : ℕ). IsAsker lib layout site rows g.growth z) same h
+      by_case j x (inr (suc i, e, is_)) = absurd (let f : ⊥ = cc in f)
+
+module _ (lib : Library) (layout : Layout) (site : List ℕ) (rows : List Row) (depth : ℕ) (form : Form) (v : Sown) (is : List Instance) (listed : Work) (asked : List ℕ) (paid : TaskCost → ℕ)
+    (g : IsGrowing lib layout site rows depth form v is listed asked paid) where
   abbrev old_leaves : ℕ → ℕ → ℕ
   old_leaves u k = growth_leaves lib layout site rows g.growth u k
 
@@ -144,23 +167,12 @@ module _ (lib : Library) (layout : Layout) (site : List ℕ) (rows : List Row) (
                 omega (arith, a, b, c);
           }
 
-  -- a call that was asked more
-  pub asks_too : (u : ℕ) → IsAsker lib layout site rows g.growth u → IsGrowing lib layout site rows depth form v is listed (asked ++ u ∷ []) paid
-  asks_too u h =
-      record {
-        laid = g.laid;
-        root = g.root;
-        growth = g.growth;
-        even = g.even;
-        stands = g.stands;
-        weighs = g.weighs;
-        once = g.once;
-        fresh = g.fresh;
-        asks = λ j x e. by_case j x (get_split asked (u ∷ []) j x e);
-        spends = g.spends;
-      }
-    where
-      by_case : (j x : ℕ) → (slice_get asked j ≡ Some x) ⊎ ((i : ℕ) × (j ≡ length asked + i) × (slice_get (u ∷ []) i ≡ Some x)) → IsAsker lib layout site rows g.growth x
-      by_case j x (inl e) = g.asks j x e
-      by_case j x (inr (zero, e, is_)) = let same : u ≡ x = cc in subst (λ (z : ℕ). IsAsker lib layout site rows g.growth z) same h
-      by_case j x (inr (suc i, e, is_)) = absurd (let f : ⊥ = cc in f)
+      -- The same where the step is one of a call that was asked.
+      pub goes_asked : (added later_listed : Work) (cost later_paid : TaskCost → ℕ) → AllStand lib layout js (sheet_of w rules_now) owners_now (length v.steps) news
+          → ((weight : Work → ℕ) → IsWeight weight → weight (growth_work lib layout site rows now) ≡ weight (growth_work lib layout site rows g.growth) + weight added)
+          → ((weight : Work → ℕ) → IsWeight weight → weight later_listed ≡ weight listed + weight added)
+          → ((task : TaskCost) → growth_spent lib layout site rows task now ≡ growth_spent lib layout site rows task g.growth + cost task)
+          → ((task : TaskCost) → later_paid task ≤ paid task + cost task) → IsAsker lib layout site rows now t → IsGrowing lib layout site rows depth form w js later_listed (asked ++ t ∷ []) later_paid
+      unfolding goes_on
+      goes_asked added later_listed cost later_paid stand weighs lists spends pays h =
+          asks_too lib layout site rows depth form w js later_listed asked later_paid (goes_on added later_listed cost later_paid stand weighs lists spends pays) t h

@@ -2,6 +2,7 @@ pub mod Adding
 pub mod Alike
 pub mod Begins
 pub mod Blocking
+pub mod Calling
 pub mod Conditions
 pub mod Entry
 pub mod Firsts
