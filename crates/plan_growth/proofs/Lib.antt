@@ -24,6 +24,7 @@ pub mod Seen
 pub mod Setting
 pub mod Sitting
 pub mod Standing
+pub mod Started
 pub mod Tellers
 pub mod Telling
 pub mod There

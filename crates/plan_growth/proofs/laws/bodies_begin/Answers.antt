@@ -1,3 +1,4 @@
+use Rattle.plan_growth.proofs.Started.{plan_starts}
 use Rattle.plan_growth.proofs.Calling.{flow_goes}
 use Rattle.plan_growth.proofs.Blocking.{if_on}
 use Rattle.plan_growth.proofs.Keeping.{output_goes}
