@@ -1,5 +1,5 @@
 -- Runs of names and calls whose cells are all alike.
-use Rattle.std.proofs.Common.{◌≡◌, ℕ, zero, suc, ◌+◌, ◌<◌, Bool, List, [], ◌∷◌, map, length, Option, arith, sym, ap, ◌∙◌, refl}
+use Rattle.std.proofs.Common.{◌≡◌, ℕ, suc, ◌+◌, ◌<◌, List, [], ◌∷◌, map, length, Option, arith, sym, ap, ◌∙◌, refl}
 use Rattle.wdl_base.specs.declared.name.Key.{Key}
 use Rattle.wdl_value.specs.declared.value.Value.{Value}
 use Rattle.wdl_typed.specs.Flow.{Ended, Known, each_call, each_key}

@@ -1,31 +1,22 @@
 -- Blocks: a plan goes on growing.
-use Rattle.std.proofs.Common.{◌≡◌, ℕ, zero, suc, ◌+◌, ◌-◌, ◌*◌, ◌<◌, ◌≤◌, ◌⊎◌, inl, inr, suc-mul, zero-mul, Bool, true, false, ◌&&◌, List, [], ◌∷◌, ◌++◌, All, map, append-nil, length, get_or, is_some, Option, Some, None, Ok, Err, codes, slice_get, slice_set, arith, sym, ap, ◌∙◌, subst, refl}
-use Rattle.std.specs.List.{list_all}
-use Rattle.std.proofs.lemmas.Bool.{and_from, and_parts}
+use Rattle.std.proofs.Common.{◌≡◌, ℕ, zero, suc, ◌+◌, ◌*◌, ◌<◌, ◌≤◌, ◌⊎◌, inl, inr, suc-mul, zero-mul, true, false, List, [], ◌∷◌, ◌++◌, All, map, length, Option, Some, None, Ok, Err, codes, slice_get, slice_set, arith, sym, ap, ◌∙◌, subst, refl}
 use Rattle.std.proofs.lemmas.List.{length-set}
-use Rattle.std.proofs.lemmas.List.Elements.{All-head}
 use Rattle.std.proofs.lemmas.Option.{slice_get_within}
 use Rattle.wdl_base.specs.declared.fault.EvalCode.{EvalCode}
-use Rattle.wdl_base.specs.declared.name.Key.{Key}
 use Rattle.wdl_base.specs.declared.place.Segment.{Segment}
 use Rattle.wdl_base.specs.declared.place.Segment.TheVariants as segment
 use Rattle.wdl_value.specs.declared.value.Value.{Value}
 use Rattle.wdl_value.specs.declared.value.Value.TheVariants as kind
-use Rattle.wdl_value.specs.Outcome.{Outcome}
 use Rattle.wdl_value.specs.Parts.{bool_in, items_in}
 use Rattle.wdl_value.specs.Tables.{Row}
-use Rattle.wdl_typed.specs.declared.expr.TExpr.{TExpr}
 use Rattle.wdl_typed.specs.declared.flow.FlowDef.{FlowDef}
-use Rattle.wdl_typed.specs.declared.flow.Statement.{Statement, Statement-F, out-Statement}
-use Rattle.wdl_typed.specs.declared.flow.Statement.TheOpen as layer
+use Rattle.wdl_typed.specs.declared.flow.Statement.{Statement, Statement-F}
 use Rattle.wdl_typed.specs.declared.flow.Statement.TheVariants as stmt
 use Rattle.wdl_typed.specs.declared.flow.TIf.{TIf}
 use Rattle.wdl_typed.specs.declared.flow.TScatter.{TScatter}
 use Rattle.wdl_typed.specs.Bodies.{Library}
-use Rattle.wdl_typed.specs.Evaluation.{value_of}
-use Rattle.wdl_typed.specs.Flow.{Ended, Flowing, Known, Names, each_call, each_key, fault_at, giving}
+use Rattle.wdl_typed.specs.Flow.{Ended, Flowing, Known, Names, each_call, fault_at, giving}
 use Rattle.wdl_typed.specs.KnownTypes as known_types
-use Rattle.wdl_typed.specs.Requests.{before}
 use Rattle.wdl_typed.specs.Scope.{names_of}
 use Rattle.step_net.specs.Views.{Wants}
 use Rattle.value_net.specs.Nets as values
@@ -34,36 +25,26 @@ use Rattle.net_laws.specs.Cost.{TaskCost}
 use Rattle.net_laws.specs.Growing as net
 use Rattle.net_laws.specs.Growing.{Form, body_given, does, mark_cell, slot_cell}
 use Rattle.net_laws.specs.Moving.{IsWeight}
-use Rattle.net_laws.specs.Net.{Cells, Given, Mark, Scope, Slot, Work, both_works, ended_in, flowing_of, known_in, no_work}
+use Rattle.net_laws.specs.Net.{Given, Scope, Work, both_works, ended_in, flowing_of, known_in, no_work}
 use Rattle.net_laws.specs.Planned.{counted}
 use Rattle.net_laws.specs.Works.{faulty}
-use Rattle.net_laws.specs.Rules.{Needs}
-use Rattle.net_laws.proofs.Sets.{slots_set}
-use Rattle.plan_moves.specs.Laws.{HasMoved, Joins, Tells}
-use Rattle.plan_moves.specs.Sheets.{Sheet, rules_of, state_of}
 use Rattle.plan_moves.proofs.Entered.{enters}
 use Rattle.plan_moves.proofs.Passed.{blocks}
 use Rattle.plan_layout.specs.declared.layout.BodyLayout.{BodyLayout}
-use Rattle.plan_layout.specs.declared.layout.FlowLayout.{FlowLayout}
 use Rattle.plan_layout.specs.declared.layout.Layout.{Layout}
-use Rattle.plan_layout.specs.declared.layout.Need.{Need}
 use Rattle.plan_layout.specs.declared.layout.StatementLayout.{StatementLayout}
-use Rattle.plan_layout.specs.Cells.{cell_at, slots_at}
-use Rattle.plan_layout.specs.Laid.{Laid, Stand, given_at, one, one_name}
-use Rattle.plan_layout.specs.Paths.{body_at}
-use Rattle.plan_layout.specs.Sees.{AllSeen, Sees, keys_at}
-use Rattle.plan_layout.specs.Spots.{needs_of}
-use Rattle.plan_layout.proofs.Needed.{needs_all, needs_resolved}
+use Rattle.plan_layout.specs.Cells.{cell_at}
+use Rattle.plan_layout.specs.Laid.{Stand, given_at}
+use Rattle.plan_layout.specs.Sees.{AllSeen, keys_at}
 use Rattle.plan_growth.specs.declared.instance.Instance.{Instance}
 use Rattle.plan_growth.specs.declared.rule.Rule.{Rule}
 use Rattle.plan_growth.specs.declared.rule.Rule.TheVariants as rule
-use Rattle.plan_growth.specs.Begun.{IsFree, base_at, given_by, given_of, scope_at}
+use Rattle.plan_growth.specs.Begun.{IsFree, base_at, given_by, scope_at}
 use Rattle.plan_growth.specs.Blocks.{with_condition, with_nothing, with_scatter}
 use Rattle.plan_growth.specs.Entering.{Plot, Sown, with_absent}
 use Rattle.plan_growth.specs.Growth.{IsGrowing, growth_leaves, sheet_of}
 use Rattle.plan_growth.specs.Keeps.{IsAt, last_base, own_outcome}
-use Rattle.plan_growth.specs.Meaning.{AreThere, Fits, IsInstance, Means, MeansDeclared, MeansStatement, rule_cells}
-use Rattle.plan_growth.specs.News.{Stands}
+use Rattle.plan_growth.specs.Meaning.{Fits, Means, rule_cells}
 use Rattle.plan_growth.proofs.Heads.{has_head}
 use Rattle.plan_growth.proofs.Inside.{IfLaid, ScatterLaid, if_laid, scatter_laid}
 use Rattle.plan_growth.proofs.Items.{items_work}
@@ -75,7 +56,7 @@ use Rattle.plan_growth.proofs.Alike.{calls_alike, names_alike}
 use Rattle.plan_growth.proofs.Conditions as condition
 use Rattle.plan_growth.proofs.Goes.{goes_on}
 use Rattle.plan_growth.proofs.Outer.{all_left, all_right, calls_at, names_at}
-use Rattle.plan_growth.proofs.Runs.{marks_run, run_marks, run_slots, slots_run}
+use Rattle.plan_growth.proofs.Runs.{marks_run, slots_run}
 use Rattle.plan_growth.proofs.Scatters as scatter
 use Rattle.plan_growth.proofs.Standing.{lines_length}
 use Rattle.plan_growth.proofs.Setting.{SetsOwn, StepAt, goes_moved, once_at, same_inside, sets_more, sets_moves, sets_none, step_at}

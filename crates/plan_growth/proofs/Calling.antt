@@ -1,37 +1,24 @@
 -- Calls: a plan goes on growing.
-use Rattle.std.proofs.Common.{◌≡◌, ℕ, zero, suc, ◌+◌, ◌-◌, ◌*◌, ◌<◌, ◌≤◌, ◌⊎◌, inl, inr, suc-mul, zero-mul, Bool, true, false, cond, ◌&&◌, List, [], ◌∷◌, ◌++◌, All, map, append-nil, length, get_or, is_some, Option, Some, None, Ok, Err, codes, slice_get, slice_set, arith, sym, ap, ◌∙◌, subst, refl}
+use Rattle.std.proofs.Common.{◌≡◌, ℕ, zero, suc, ◌+◌, ◌<◌, ◌≤◌, ◌⊎◌, inl, inr, Bool, true, false, cond, ◌&&◌, List, [], ◌∷◌, ◌++◌, All, map, length, Option, Some, None, Ok, Err, slice_get, arith, sym, ap, ◌∙◌, subst, refl}
 use Rattle.std.specs.List.{list_all}
-use Rattle.std.proofs.lemmas.Bool.{and_from, and_parts}
-use Rattle.std.proofs.lemmas.List.{length-set}
-use Rattle.std.proofs.lemmas.List.Elements.{All-head}
 use Rattle.std.proofs.lemmas.Option.{slice_get_within}
-use Rattle.wdl_base.specs.declared.fault.EvalCode.{EvalCode}
-use Rattle.wdl_base.specs.declared.name.Key.{Key}
 use Rattle.wdl_base.specs.declared.place.Segment.{Segment}
 use Rattle.wdl_base.specs.declared.place.Segment.TheVariants as segment
-use Rattle.wdl_value.specs.declared.value.Value.{Value}
-use Rattle.wdl_value.specs.declared.value.Value.TheVariants as kind
-use Rattle.wdl_value.specs.Outcome.{Outcome}
 use Rattle.wdl_base.specs.declared.answer.Answer.{Answer}
 use Rattle.wdl_value.specs.declared.env.Bind.{Bind}
 use Rattle.wdl_value.specs.Tables.{Row, answer_at}
-use Rattle.wdl_typed.specs.declared.expr.TExpr.{TExpr}
 use Rattle.wdl_typed.specs.declared.flow.FlowDef.{FlowDef}
-use Rattle.wdl_typed.specs.declared.flow.Statement.{Statement, Statement-F, out-Statement}
-use Rattle.wdl_typed.specs.declared.flow.Statement.TheOpen as layer
+use Rattle.wdl_typed.specs.declared.flow.Statement.{Statement, Statement-F}
 use Rattle.wdl_typed.specs.declared.flow.Statement.TheVariants as stmt
 use Rattle.wdl_typed.specs.declared.flow.TCall.{TCall}
 use Rattle.wdl_typed.specs.declared.flow.Target.{Target}
 use Rattle.wdl_typed.specs.declared.flow.Target.TheVariants as target
 use Rattle.wdl_typed.specs.declared.task.TaskDef.{TaskDef}
 use Rattle.wdl_typed.specs.Bodies.{Library}
-use Rattle.wdl_typed.specs.Evaluation.{value_of}
 use Rattle.wdl_typed.specs.Flow.{Ended, Flowing, Known, Names, args_known, args_met, asked, attempted, attempts, call_of, called, each_call, each_key, env_of, failing_at, has_ended, missing, task_called, waiting, with_args, with_jobs}
 use Rattle.wdl_typed.specs.Flow.{flow as flow_of}
-use Rattle.wdl_typed.specs.KnownTypes as known_types
 use Rattle.wdl_typed.specs.Requests.{Asked, Failing, Tried, asks, request}
 use Rattle.flow_laws.specs.Laws.{run_with}
-use Rattle.wdl_typed.specs.Scope.{names_of}
 use Rattle.step_net.specs.Views.{Wants}
 use Rattle.value_net.specs.Nets as values
 use Rattle.value_net.specs.Nets.{joined, value_at, view_of, with_taken, with_value}
@@ -39,12 +26,12 @@ use Rattle.net_laws.specs.Cost.{TaskCost, called_cost, met_cost}
 use Rattle.net_laws.specs.Growing as net
 use Rattle.net_laws.specs.Growing.{CallNeeded, Form, does, mark_cell, slot_cell}
 use Rattle.net_laws.specs.Moving.{IsWeight}
-use Rattle.net_laws.specs.Net.{Cells, Given, Mark, Scope, Slot, Work, both_works, ended_in, flowing_of, known_in, no_work}
+use Rattle.net_laws.specs.Net.{Given, Scope, Work, ended_in, flowing_of, known_in, no_work}
 use Rattle.net_laws.specs.Planned.{call_names, counted}
 use Rattle.net_laws.specs.Works.{faulty}
 use Rattle.net_laws.specs.Rules.{Follows, own_sight}
 use Rattle.net_laws.proofs.Leaves.{call_ready}
-use Rattle.plan_moves.specs.Laws.{HasAsked, TellsCall, asked_cost}
+use Rattle.plan_moves.specs.Laws.{HasAsked, asked_cost}
 use Rattle.plan_moves.specs.Sheets.{IsMove, needs_in, state_of, taken_in}
 use Rattle.plan_moves.proofs.Called.{flows as enter_flows}
 use Rattle.plan_moves.proofs.Calls.{calls}
@@ -54,36 +41,29 @@ use Rattle.plan_layout.specs.declared.layout.FlowLayout.{FlowLayout}
 use Rattle.plan_layout.specs.declared.layout.Layout.{Layout}
 use Rattle.plan_layout.specs.declared.layout.Need.{Need}
 use Rattle.plan_layout.specs.declared.layout.StatementLayout.{StatementLayout}
-use Rattle.plan_layout.specs.Cells.{cell_at, slots_at}
-use Rattle.plan_layout.specs.Laid.{IsLaidAs, Laid, Stand, given_at}
-use Rattle.plan_layout.specs.Paths.{body_at}
+use Rattle.plan_layout.specs.Laid.{IsLaidAs, given_at}
 use Rattle.plan_layout.specs.Sees.{AllSeen, FlowSees, Sees, after_at, keys_at}
 use Rattle.plan_layout.specs.Spots.{plain_keys}
-use Rattle.plan_layout.proofs.Needed.{needs_all, needs_resolved}
 use Rattle.plan_growth.specs.declared.instance.Instance.{Instance}
 use Rattle.plan_growth.specs.declared.rule.Rule.{Rule}
 use Rattle.plan_growth.specs.declared.rule.Rule.TheVariants as rule
-use Rattle.plan_growth.specs.Begun.{IsFree, base_at, given_by, given_of, scope_at}
+use Rattle.plan_growth.specs.Begun.{IsFree, base_at, given_by, scope_at}
 use Rattle.plan_growth.specs.Blocks.{with_call}
 use Rattle.plan_growth.specs.Entering.{Plot, Sown}
 use Rattle.plan_growth.specs.Growth.{IsGrowing, growth_leaves, growth_spent, sheet_of}
-use Rattle.plan_growth.specs.Keeps.{IsAt, last_base, own_binds}
-use Rattle.plan_growth.specs.Meaning.{AreThere, Fits, IsInstance, Means, MeansDeclared, MeansStatement, rule_cells}
-use Rattle.plan_growth.specs.News.{Stands}
+use Rattle.plan_growth.specs.Keeps.{IsAt, asked_first, last_base, own_binds}
+use Rattle.plan_growth.specs.Meaning.{Fits, Means, rule_cells}
 use Rattle.plan_growth.proofs.Begins.{call_needs}
 use Rattle.plan_growth.proofs.FlowCalls as flows
 use Rattle.plan_growth.proofs.Inside.{CallLaid, call_laid}
 use Rattle.plan_growth.proofs.Keeping.{MeansAt, base_same, means_at}
-use Rattle.plan_growth.proofs.Lists.{get_set, get_unset}
+use Rattle.plan_growth.proofs.Lists.{get_set}
 use Rattle.plan_growth.proofs.Moving.{Moves, is_move}
 use Rattle.plan_growth.proofs.Alike.{calls_alike, names_alike}
 use Rattle.plan_growth.proofs.Goes.{goes_asked, goes_on}
 use Rattle.plan_growth.proofs.Outer.{all_left, all_right, calls_at, names_at}
-use Rattle.plan_growth.proofs.Runs.{marks_run, run_marks, run_slots, slots_run}
-use Rattle.plan_growth.proofs.Setting.{SetsOwn, StepAt, goes_moved, once_at, same_inside, sets_more, sets_moves, sets_none, step_at}
-
-abbrev pub asked_work : Library → List ℕ → List Segment → Asked → Work
-asked_work lib site place a = record { jobs = request site place 0 a ∷ []; codes = a.codes ∷ []; faults = []; waits = place ∷ []; count = 0 }
+use Rattle.plan_growth.proofs.Runs.{marks_run, slots_run}
+use Rattle.plan_growth.proofs.Setting.{SetsOwn, StepAt, once_at, same_inside, sets_moves, sets_none, step_at}
 
 -- the first attempt of a call waits where no answer is there
 first_waits : (lib : Library) (site : List ℕ) (rows : List Row) (n : Names) (place : List Segment) (y : TaskDef) (call : List ℕ) (a : Asked) (retries : ℕ) → answer_at rows place 0 ≡ None
@@ -287,11 +267,11 @@ module _ (lib : Library) (layout : Layout) (site : List ℕ) (rows : List Row) (
         call_told (faulty (failing_at place e)) (inl (c, y, is_task, task_there)) (λ dp. task_is dp (Err e) is_err ∙ none_given (faulty (failing_at place e))) later lists later_paid pays
 
     -- the task is asked, and its first attempt waits
-    pub task_asked : (a : Asked) → asks y args ≡ Ok a → answer_at rows place 0 ≡ None → (later : Work) → Lists later (asked_work lib site place a) → (later_paid : TaskCost → ℕ)
+    pub task_asked : (a : Asked) → asks y args ≡ Ok a → answer_at rows place 0 ≡ None → (later : Work) → Lists later (asked_first site place a) → (later_paid : TaskCost → ℕ)
         → ((task : TaskCost) → later_paid task ≤ paid task + cost task) → IsGrowing lib layout site rows depth form w is later (asked_steps ++ t ∷ []) later_paid
     task_asked a is_ok none later lists later_paid pays =
-        call_asked (asked_work lib site place a) (inl (c, y, is_task, task_there))
-        (λ dp. task_is dp (Ok a) is_ok ∙ first_waits lib site rows n place y x.name a a.retries none ∙ none_given (asked_work lib site place a)) later lists later_paid pays
+        call_asked (asked_first site place a) (inl (c, y, is_task, task_there))
+        (λ dp. task_is dp (Ok a) is_ok ∙ first_waits lib site rows n place y x.name a a.retries none ∙ none_given (asked_first site place a)) later lists later_paid pays
 
   -- ---- calls of workflows
 

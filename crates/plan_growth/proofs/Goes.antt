@@ -1,32 +1,48 @@
 -- A plan goes on growing: what a law of moves gives, as what holds of a plan at any time.
-use Rattle.std.proofs.Common.{◌≡◌, ℕ, zero, suc, ◌+◌, ◌<◌, ◌≤◌, ◌⊎◌, inl, inr, Bool, true, false, List, [], ◌∷◌, ◌++◌, All, map, length, get_or, Option, Some, None, slice_get, slice_set, arith, sym, ap, ◌∙◌, subst, refl}
+use Rattle.std.proofs.Common.{◌≡◌, ℕ, zero, suc, ◌+◌, ◌<◌, ◌≤◌, ◌⊎◌, inl, inr, true, false, List, [], ◌∷◌, ◌++◌, map, length, get_or, Some, slice_get, slice_set, arith, sym, ap, ◌∙◌, subst}
 use Rattle.std.proofs.lemmas.Bool.{true≢false}
 use Rattle.std.proofs.lemmas.List.{length-append, length-map, length-set}
 use Rattle.std.proofs.lemmas.Option.{slice_get-get_or, slice_get_within}
 use Rattle.wdl_value.specs.Tables.{Row}
 use Rattle.wdl_typed.specs.declared.flow.Statement.TheVariants as stmt
 use Rattle.wdl_typed.specs.Bodies.{Library}
-use Rattle.step_net.specs.Views.{Wants}
 use Rattle.net_laws.specs.Cost.{TaskCost}
 use Rattle.net_laws.specs.Growing as net
 use Rattle.net_laws.specs.Growing.{Form, does}
-use Rattle.net_laws.specs.Moving.{IsWeight, at_step}
+use Rattle.net_laws.specs.Moving.{IsWeight}
 use Rattle.net_laws.specs.Net.{Work}
-use Rattle.net_laws.specs.Works.{evaluated, work_of}
-use Rattle.plan_moves.specs.Sheets.{Grown, rules_of, state_of, taken_in}
+use Rattle.plan_moves.specs.Sheets.{Grown, taken_in}
 use Rattle.plan_layout.specs.declared.layout.Layout.{Layout}
 use Rattle.plan_growth.specs.declared.instance.Instance.{Instance}
-use Rattle.plan_growth.specs.declared.rule.Rule.{Rule}
 use Rattle.plan_growth.specs.Entering.{Sown}
-use Rattle.plan_growth.specs.Growth.{Growth, IsAsker, IsEven, IsGrowing, growth_leaves, growth_spent, growth_work, is_leaf, sheet_of}
+use Rattle.plan_growth.specs.Growth.{Growth, IsAsker, IsGrowing, growth_leaves, growth_spent, growth_work, is_leaf, sheet_of}
 use Rattle.plan_growth.specs.Meaning.{rule_cells}
 use Rattle.plan_growth.specs.News.{AllStand, New, new_means, new_wants}
-use Rattle.plan_growth.proofs.Adding.{apart}
-use Rattle.plan_growth.proofs.Lists.{get_left, get_none, get_split, get_unset}
+use Rattle.plan_growth.proofs.Lists.{get_split}
 use Rattle.plan_growth.proofs.Moving.{Moves, all_stand, free_kept, mapped_back, rule_kept, step_now, step_other}
 
 module _ (lib : Library) (layout : Layout) (site : List ℕ) (rows : List Row) (depth : ℕ) (form : Form) (v : Sown) (is : List Instance) (listed : Work) (asked : List ℕ) (paid : TaskCost → ℕ)
     (g : IsGrowing lib layout site rows depth form v is listed asked paid) where
+  -- lists that weigh the same, and less that was paid
+  pub as_listed : (later : Work) → ((weight : Work → ℕ) → IsWeight weight → weight later ≡ weight listed) → (later_paid : TaskCost → ℕ) → ((task : TaskCost) → later_paid task ≤ paid task)
+      → IsGrowing lib layout site rows depth form v is later asked later_paid
+  as_listed later lists later_paid pays =
+      record {
+        laid = g.laid;
+        root = g.root;
+        growth = g.growth;
+        even = g.even;
+        stands = g.stands;
+        weighs = λ weight is_weight. g.weighs weight is_weight ∙ sym (lists weight is_weight);
+        once = g.once;
+        fresh = g.fresh;
+        asks = g.asks;
+        spends = λ task.
+            let a = g.spends task in
+            let b = pays task in
+            omega (arith, a, b);
+      }
+
   -- a call that was asked more
   pub asks_too : (u : ℕ) → IsAsker lib layout site rows g.growth u → IsGrowing lib layout site rows depth form v is listed (asked ++ u ∷ []) paid
   asks_too u h =

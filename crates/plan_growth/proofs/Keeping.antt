@@ -1,5 +1,5 @@
 -- Joints, declarations, defaults and outputs: a plan goes on growing.
-use Rattle.std.proofs.Common.{◌≡◌, ℕ, zero, suc, ◌+◌, ◌-◌, ◌<◌, ◌≤◌, Bool, true, false, ◌&&◌, List, [], ◌∷◌, ◌++◌, All, map, append-nil, length, get_or, is_some, Option, Some, None, Ok, Err, slice_get, slice_set, arith, sym, ap, ◌∙◌, subst, refl}
+use Rattle.std.proofs.Common.{◌≡◌, ℕ, ◌+◌, ◌-◌, ◌≤◌, true, false, List, [], ◌∷◌, All, map, length, get_or, Option, Some, None, Ok, Err, slice_get, slice_set, arith, sym, ap, ◌∙◌, subst, refl}
 use Rattle.std.specs.List.{list_all}
 use Rattle.std.proofs.lemmas.Bool.{and_from, and_parts}
 use Rattle.std.proofs.lemmas.List.Elements.{All-head}
@@ -12,7 +12,6 @@ use Rattle.wdl_value.specs.Tables.{Row}
 use Rattle.wdl_typed.specs.declared.expr.TExpr.{TExpr}
 use Rattle.wdl_typed.specs.declared.flow.FlowDef.{FlowDef}
 use Rattle.wdl_typed.specs.declared.flow.Statement.{Statement, Statement-F, out-Statement}
-use Rattle.wdl_typed.specs.declared.flow.Statement.TheOpen as layer
 use Rattle.wdl_typed.specs.declared.flow.Statement.TheVariants as stmt
 use Rattle.wdl_typed.specs.declared.task.TDecl.{TDecl}
 use Rattle.wdl_typed.specs.declared.task.TInput.{TInput}
@@ -33,7 +32,7 @@ use Rattle.net_laws.specs.Net.{Given, Resolved, Scope, Slot, Work, known_in, no_
 use Rattle.net_laws.specs.Rules.{Needs}
 use Rattle.net_laws.proofs.Sets.{slots_set}
 use Rattle.plan_moves.specs.Laws.{HasMoved, Joins, Tells}
-use Rattle.plan_moves.specs.Sheets.{Sheet, rules_of, state_of}
+use Rattle.plan_moves.specs.Sheets.{Sheet}
 use Rattle.plan_moves.proofs.Declarations.{declarations, defaults}
 use Rattle.plan_moves.proofs.Joints.{joints}
 use Rattle.plan_layout.specs.declared.layout.BodyLayout.{BodyLayout}
@@ -42,7 +41,7 @@ use Rattle.plan_layout.specs.declared.layout.Layout.{Layout}
 use Rattle.plan_layout.specs.declared.layout.Need.{Need}
 use Rattle.plan_layout.specs.declared.layout.StatementLayout.{StatementLayout}
 use Rattle.plan_layout.specs.Cells.{cell_at, slots_at}
-use Rattle.plan_layout.specs.Laid.{Laid, Stand, given_at, one, one_name}
+use Rattle.plan_layout.specs.Laid.{Laid, Stand, given_at, one}
 use Rattle.plan_layout.specs.Paths.{body_at}
 use Rattle.plan_layout.specs.Sees.{AllSeen, Sees, keys_at}
 use Rattle.plan_layout.specs.Spots.{needs_of}
@@ -52,16 +51,14 @@ use Rattle.plan_growth.specs.declared.rule.Rule.{Rule}
 use Rattle.plan_growth.specs.declared.rule.Rule.TheVariants as rule
 use Rattle.plan_growth.specs.Begun.{IsFree, base_at, given_by, given_of, scope_at}
 use Rattle.plan_growth.specs.Entering.{Sown, cells_of}
-use Rattle.plan_growth.specs.Growth.{IsGrowing, is_leaf, sheet_of}
+use Rattle.plan_growth.specs.Growth.{IsGrowing, sheet_of}
 use Rattle.plan_growth.specs.Keeps.{IsAt, IsInputAt, IsOutputAt, last_base, net_told, own_outcome, work_told}
-use Rattle.plan_growth.specs.Meaning.{AreThere, Fits, IsInstance, Means, MeansDeclared, MeansStatement, rule_cells}
-use Rattle.plan_growth.specs.News.{Stands}
+use Rattle.plan_growth.specs.Meaning.{AreThere, Fits, Means, MeansDeclared, MeansStatement, rule_cells}
 use Rattle.plan_growth.proofs.Heads.{needs_are, needs_set, same_some, values_kept}
 use Rattle.plan_growth.proofs.Inside.{decl_laid}
 use Rattle.plan_growth.proofs.Lists.{get_set}
 use Rattle.plan_growth.proofs.Moving.{Moves, is_move}
-use Rattle.plan_growth.proofs.Seen.{slots_keys}
-use Rattle.plan_growth.proofs.Setting.{SetsOwn, StepAt, goes_moved, once_at, same_inside, sets_more, sets_moves, sets_none, step_at, tells_by, told_value, told_work}
+use Rattle.plan_growth.proofs.Setting.{SetsOwn, StepAt, goes_moved, once_at, same_inside, sets_more, sets_moves, sets_none, step_at, tells_by, told_work}
 
 -- what the meaning of a step tells of these objects
 pub record MeansAt (lib : Library) (layout : Layout) (n : ℕ) (q : Instance) (body : BodyLayout) (flow : FlowDef) (l : StatementLayout) (x : Statement) (cells : List ℕ) (m : net.Rule) : Type 0 where

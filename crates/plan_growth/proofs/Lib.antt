@@ -7,6 +7,7 @@ pub mod Conditions
 pub mod Entry
 pub mod Firsts
 pub mod FlowCalls
+pub mod GoOn
 pub mod Goes
 pub mod Handing
 pub mod Heads

@@ -1,10 +1,7 @@
 -- Steps that add no other: they set cells of their own, or none.
-use Rattle.std.proofs.Common.{◌≡◌, ℕ, zero, suc, ◌+◌, ◌<◌, ◌≤◌, ◌⊎◌, inl, inr, Bool, true, false, cond, List, [], ◌∷◌, ◌++◌, All, map, append-nil, length, get_or, Option, Some, None, Ok, Err, slice_get, slice_set, arith, sym, ap, ◌∙◌, subst, refl}
-use Rattle.std.specs.List.{list_all}
+use Rattle.std.proofs.Common.{◌≡◌, ℕ, ◌+◌, ◌≤◌, Bool, true, false, cond, List, [], map, append-nil, length, get_or, Option, Some, None, Ok, Err, slice_get, slice_set, arith, sym, ap, ◌∙◌, refl}
 use Rattle.std.proofs.lemmas.List.{length-set}
-use Rattle.std.proofs.lemmas.List.Elements.{All-head}
 use Rattle.std.proofs.lemmas.Option.{slice_get-get_or, slice_get_within}
-use Rattle.wdl_base.specs.declared.name.Key.{Key}
 use Rattle.wdl_base.specs.declared.place.Segment.{Segment}
 use Rattle.wdl_value.specs.declared.value.Value.{Value}
 use Rattle.wdl_value.specs.Outcome.{Outcome}
@@ -12,10 +9,9 @@ use Rattle.wdl_value.specs.Tables.{Row}
 use Rattle.wdl_typed.specs.declared.expr.TExpr.{TExpr}
 use Rattle.wdl_typed.specs.Bodies.{Library}
 use Rattle.wdl_typed.specs.Evaluation.{value_of}
-use Rattle.wdl_typed.specs.Flow.{Flowing, Known, Sight, all_known, declaration, declared_as, env_of, fault_at, known, named, with_fault}
-use Rattle.wdl_typed.specs.KnownTypes as known_types
+use Rattle.wdl_typed.specs.Flow.{Known, Sight, all_known, declaration, declared_as, env_of, fault_at, known, named, with_fault}
 use Rattle.wdl_typed.specs.Requests.{before}
-use Rattle.wdl_typed.specs.Scope.{is_among, names_of}
+use Rattle.wdl_typed.specs.Scope.{names_of}
 use Rattle.step_net.specs.Views.{Wants}
 use Rattle.value_net.specs.Nets as values
 use Rattle.value_net.specs.Nets.{IsTaken, joined, value_at, view_of, with_taken, with_value}
@@ -23,22 +19,22 @@ use Rattle.net_laws.specs.Cost.{TaskCost}
 use Rattle.net_laws.specs.Growing as net
 use Rattle.net_laws.specs.Growing.{Form, only}
 use Rattle.net_laws.specs.Moving.{IsWeight}
-use Rattle.net_laws.specs.Net.{Cells, Scope, Slot, Work, flowing_of, known_in, no_work, slot_keys}
-use Rattle.net_laws.specs.Rules.{Follows, Needs, own_sight}
+use Rattle.net_laws.specs.Net.{Cells, Scope, Slot, Work, flowing_of, known_in, no_work}
+use Rattle.net_laws.specs.Rules.{Follows, Needs}
 use Rattle.net_laws.specs.Works.{faulty}
 use Rattle.net_laws.proofs.Sets.{all_known_set, slots_set}
 use Rattle.plan_moves.specs.Laws.{HasMoved, Tells}
-use Rattle.plan_moves.specs.Sheets.{Grown, IsMove, Sheet, taken_in}
+use Rattle.plan_moves.specs.Sheets.{Sheet, taken_in}
 use Rattle.plan_layout.specs.declared.layout.Layout.{Layout}
 use Rattle.plan_growth.specs.declared.instance.Instance.{Instance}
 use Rattle.plan_growth.specs.declared.rule.Rule.{Rule}
 use Rattle.plan_growth.specs.Begun.{IsFree}
 use Rattle.plan_growth.specs.Entering.{Sown}
-use Rattle.plan_growth.specs.Growth.{Growth, IsEven, IsGrowing, growth_leaves, is_leaf, sheet_of}
-use Rattle.plan_growth.specs.News.{New, Stands}
-use Rattle.plan_growth.proofs.Goes.{AddsLeaves, goes_on}
+use Rattle.plan_growth.specs.Growth.{IsEven, IsGrowing, growth_leaves, is_leaf, sheet_of}
+use Rattle.plan_growth.specs.News.{Stands}
+use Rattle.plan_growth.proofs.Goes.{goes_on}
 use Rattle.plan_growth.proofs.Heads.{known_same, set_same, values_kept}
-use Rattle.plan_growth.proofs.Lists.{get_set, get_unset}
+use Rattle.plan_growth.proofs.Lists.{get_unset}
 use Rattle.plan_growth.proofs.Moving.{Moves}
 
 -- ---- cells of the step alone
