@@ -1,5 +1,5 @@
 -- A plan begins: the main workflow is entered, and nothing was done.
-use Rattle.std.proofs.Common.{◌≡◌, ℕ, ◌+◌, ◌≤◌, true, List, [], length, Option, Some, slice_get, arith, sym, ap, ◌∙◌, subst, refl}
+use Rattle.std.proofs.Common.{◌≡◌, ℕ, ◌+◌, ◌≤◌, true, List, [], ◌∷◌, length, Option, Some, slice_get, arith, sym, ap, ◌∙◌, subst, refl}
 use Rattle.std.proofs.lemmas.List.{length-map}
 use Rattle.std.proofs.lemmas.Option.{slice_get_within}
 use Rattle.wdl_value.specs.declared.env.Bind.{Bind}
@@ -16,8 +16,10 @@ use Rattle.net_laws.specs.Planned.{counted}
 use Rattle.plan_layout.specs.declared.layout.BodyLayout.{BodyLayout}
 use Rattle.plan_layout.specs.declared.layout.FlowLayout.{FlowLayout}
 use Rattle.plan_layout.specs.declared.layout.Layout.{Layout}
-use Rattle.plan_layout.specs.Laid.{IsLaidAs, IsLayout}
-use Rattle.plan_layout.specs.Sees.{FlowSees, Sees}
+use Rattle.plan_layout.specs.declared.layout.Need.{Need}
+use Rattle.plan_layout.specs.Cells.{slots_at}
+use Rattle.plan_layout.specs.Laid.{IsLaidAs, IsLayout, body_seen}
+use Rattle.plan_layout.specs.Sees.{FlowSees, Sees, with_outputs}
 use Rattle.plan_growth.specs.declared.rule.Rule.{Rule}
 use Rattle.plan_growth.specs.Entering.{Plot, flow_dones, with_flow}
 use Rattle.plan_growth.specs.Growth.{IsEven, IsGrowing}
@@ -117,9 +119,17 @@ module _ (lib : Library) (layout : Layout) (site : List ℕ) (rows : List Row) (
           spends = λ task. omega arith;
         }
 
+    -- its names are those of its layout
+    names_laid : names.names ≡ slots_at (0 ∷ []) (with_outputs (body_seen lib f) f.outputs)
+    names_laid =
+        flows.names_are lib layout site rows k f fl lay sees flow_there fl_there given [] bare [] [] even
+        ∙ ap (λ (s : List Need). slots_at (0 ∷ []) (with_outputs s f.outputs)) (sym (flows.seen_is lib layout site rows k f fl lay sees flow_there fl_there given [] bare [] [] even))
+
   -- The plan begins as a net that grows of the main workflow.
   pub plan_starts : (depth : ℕ) → 24 ≤ depth → (own : BodyLayout) → slice_get layout.bodies fl.body ≡ Some own
       → (g : Given) × IsGrowing lib layout site rows depth (whole f given [] g (flow_dones f fl own 0)) (with_flow f given [] fl own bare).net (with_flow f given [] fl own bare).instances (counted (length f.body) no_work) [] (λ task. 0)
+      × (g.names ≡ slots_at (0 ∷ []) (with_outputs (body_seen lib f) f.outputs))
   plan_starts depth deep own there =
-      subst (λ (z : BodyLayout). (g : Given) × IsGrowing lib layout site rows depth (whole f given [] g (flow_dones f fl z 0)) (with_flow f given [] fl z bare).net (with_flow f given [] fl z bare).instances (counted (length f.body) no_work) [] (λ task. 0))
-      (same_inside (sym flow_laid.there ∙ there)) (names flow_laid, grows flow_laid depth deep)
+      subst (λ (z : BodyLayout). (g : Given) × IsGrowing lib layout site rows depth (whole f given [] g (flow_dones f fl z 0)) (with_flow f given [] fl z bare).net (with_flow f given [] fl z bare).instances (counted (length f.body) no_work) [] (λ task. 0)
+      × (g.names ≡ slots_at (0 ∷ []) (with_outputs (body_seen lib f) f.outputs)))
+      (same_inside (sym flow_laid.there ∙ there)) (names flow_laid, grows flow_laid depth deep, names_laid flow_laid)

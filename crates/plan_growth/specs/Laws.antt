@@ -1,5 +1,5 @@
 -- The laws of the growth of plans, each the promise of a function in `laws`.
-use Rattle.std.specs.Prelude.{◌≡◌, ◌≤◌, ℕ, true, List, [], Option, Some, length, slice_get}
+use Rattle.std.specs.Prelude.{◌≡◌, ◌≤◌, ℕ, true, List, [], ◌∷◌, Option, Some, length, slice_get}
 use Rattle.wdl_base.specs.declared.place.Segment.{Segment}
 use Rattle.wdl_value.specs.declared.env.Bind.{Bind}
 use Rattle.wdl_value.specs.Tables.{Row}
@@ -19,9 +19,10 @@ use Rattle.plan_layout.specs.declared.layout.BodyLayout.{BodyLayout}
 use Rattle.plan_layout.specs.declared.layout.FlowLayout.{FlowLayout}
 use Rattle.plan_layout.specs.declared.layout.Layout.{Layout}
 use Rattle.plan_layout.specs.declared.layout.StatementLayout.{StatementLayout}
+use Rattle.plan_layout.specs.Cells.{slots_at}
 use Rattle.plan_layout.specs.Laid as laid
-use Rattle.plan_layout.specs.Laid.{IsLayout, Laid, Stand}
-use Rattle.plan_layout.specs.Sees.{FlowSees, Sees}
+use Rattle.plan_layout.specs.Laid.{IsLayout, Laid, Stand, body_seen}
+use Rattle.plan_layout.specs.Sees.{FlowSees, Sees, with_outputs}
 use Rattle.plan_growth.specs.Begun.{AllSit, HasBegun, all_given, base_at, hits, scope_at}
 use Rattle.plan_growth.specs.declared.instance.Instance.{Instance}
 use Rattle.plan_growth.specs.declared.rule.Rule.TheVariants as rule
@@ -49,10 +50,11 @@ pub record PlansGoOn : Type 0 where
       → IsGrowing lib layout site rows depth form v is listed asked paid → (t : ℕ) (w : Sown) (taken : IsTaken v t w) (i k : ℕ) (code : slice_get v.rules t ≡ Some (rule.Statement i k)) (q : Instance) (body : BodyLayout) (flow : FlowDef)
       (l : StatementLayout) (x : TCall) (at : IsAt lib layout is i k q body flow l (stmt.Call x)) → CallsGoOn lib layout site rows depth form v is listed asked paid t w taken.step i k code q body flow l x at
 
--- A plan begins as a net that grows of the main workflow.
+-- A plan begins as a net that grows of the main workflow, whose names are those of its layout.
 abbrev pub PlansBegin : Type 0
 PlansBegin =
     (lib : Library) (layout : Layout) (site : List ℕ) (rows : List Row) → IsLayout (Sees lib) lib layout → (main : Option ℕ) → is_checked lib main ≡ true → (k : ℕ) (f : FlowDef) → slice_get lib.flows k ≡ Some f → FlowSees lib f
     → (fl : FlowLayout) → slice_get layout.flows k ≡ Some fl → (own : BodyLayout) → slice_get layout.bodies fl.body ≡ Some own → (given : List Bind) (depth : ℕ) → 24 ≤ depth
     → (let p : Plot = with_flow f given [] fl own (record { net = empty; instances = [] }) in
-    (g : Given) × IsGrowing lib layout site rows depth (whole f given [] g (flow_dones f fl own 0)) p.net p.instances (counted (length f.body) no_work) [] (λ task. 0))
+    (g : Given) × IsGrowing lib layout site rows depth (whole f given [] g (flow_dones f fl own 0)) p.net p.instances (counted (length f.body) no_work) [] (λ task. 0)
+    × (g.names ≡ slots_at (0 ∷ []) (with_outputs (body_seen lib f) f.outputs)))
