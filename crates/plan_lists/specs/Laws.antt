@@ -1,5 +1,5 @@
 -- The laws of what a plan lists, each the promise of a function in `laws`.
-use Rattle.std.specs.Prelude.{◌≡◌, ℕ, suc, ◌+◌, Bool, true, nat_lt, ◌||◌, List, [], ◌++◌, Option, Some, count_by, length, slice_get}
+use Rattle.std.specs.Prelude.{◌≡◌, ℕ, suc, ◌+◌, Bool, true, nat_lt, ◌||◌, List, [], ◌++◌, Option, Some, count_by, length, slice_get, if◌then◌else◌}
 use Rattle.wdl_base.specs.declared.fault.Fault.{Fault}
 use Rattle.wdl_base.specs.declared.place.Segment.{Segment}
 use Rattle.wdl_value.specs.declared.env.Bind.{Bind}
@@ -9,6 +9,7 @@ use Rattle.wdl_typed.specs.Bodies.{Library}
 use Rattle.wdl_typed.specs.Flow.{Flowing, flow, is_clean, too_many, value_in}
 use Rattle.wdl_typed.specs.Journal.{keys_distinct}
 use Rattle.wdl_typed.specs.Kept.{is_checked}
+use Rattle.wdl_typed.specs.Requests.{Asked, request}
 use Rattle.wdl_base.specs.declared.name.Key.{Key}
 use Rattle.flow_laws.specs.Laws.{run_with}
 use Rattle.value_net.specs.Nets.{AllStuck, value_at}
@@ -16,12 +17,23 @@ use Rattle.net_laws.specs.Growing.{whole}
 use Rattle.net_laws.specs.Net.{Given, Work, find, slot_keys}
 use Rattle.net_laws.specs.Works.{work_of}
 use Rattle.plan_moves.specs.Sheets.{Grown, Sheet, rules_of, state_of}
-use Rattle.plan_lists.specs.Lists.{Adds, JobTest, Listed, Swaps, any_job, jobs_in, unanswered}
+use Rattle.plan_moves.specs.Telling.{work_after}
+use Rattle.plan_lists.specs.Lists.{Adds, JobTest, Listed, Same, Swaps, any_job, jobs_in, unanswered}
 
 abbrev pub StepsList : Type 0
 StepsList =
     (w x added : Work) (jobs : JobTest → ℕ) (faults : List Fault) (count : ℕ) → Listed w jobs faults count → Adds w x added
     → Listed x (λ is. jobs is + jobs_in added is) (faults ++ added.faults) (count + added.count)
+
+-- The lists of a work that weighs the same tell of it.
+abbrev pub WorksList : Type 0
+WorksList = (w x : Work) → Same w x → Listed w (jobs_in x) x.faults x.count
+
+-- The work of a call after one attempt more has one job more.
+abbrev pub AttemptsList : Type 0
+AttemptsList =
+    (site : List ℕ) (place : List Segment) (a : Asked) (k : ℕ) (faults more : List Fault) (waits others : List (List Segment)) (is : JobTest)
+    → jobs_in (work_after site place a (k + 1) more others) is ≡ jobs_in (work_after site place a k faults waits) is + (if is (request site place (k + 1) a) a.codes then 1 else 0)
 
 -- The call's work before had no fault, and counted as much.
 abbrev pub AnswersList : Type 0

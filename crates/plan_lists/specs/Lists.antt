@@ -40,3 +40,7 @@ Adds w x added = (weight : Work → ℕ) → IsWeight weight → weight x ≡ we
 -- By each weight, `v` went from it and `now` came in its place.
 abbrev pub Swaps : Work → Work → Work → Work → Type 0
 Swaps w x v now = (weight : Work → ℕ) → IsWeight weight → weight x + weight v ≡ weight w + weight now
+
+-- By each weight the two are the same.
+abbrev pub Same : Work → Work → Type 0
+Same w x = (weight : Work → ℕ) → IsWeight weight → weight w ≡ weight x

@@ -1,6 +1,6 @@
 //! Laws of the definitions, which say nothing of code.
 
-ghost use Rattle.plan_lists.specs.Laws.{AnswersList, ListsEnd, StepsList, TooManyEarly};
+ghost use Rattle.plan_lists.specs.Laws.{AnswersList, AttemptsList, ListsEnd, StepsList, TooManyEarly, WorksList};
 
 /// A step that adds work leaves lists that tell of the work, with the jobs, the faults and the count of what was added.
 pub fn steps_list()
@@ -22,4 +22,14 @@ pub fn lists_end()
 /// At any time, lists that are past the limits are those of a flow that is past them.
 pub fn too_many_early()
     ensures { TooManyEarly }
+{}
+
+/// The lists of a work that weighs the same tell of the work.
+pub fn works_list()
+    ensures { WorksList }
+{}
+
+/// One attempt more is one job more.
+pub fn attempts_list()
+    ensures { AttemptsList }
 {}

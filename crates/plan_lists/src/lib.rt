@@ -3,4 +3,4 @@
 
 mod laws;
 
-pub use laws::{answers_list, lists_end, steps_list, too_many_early};
+pub use laws::{answers_list, attempts_list, lists_end, steps_list, too_many_early, works_list};
