@@ -16,14 +16,14 @@ use Rattle.net_laws.specs.Net.{Given, Scope}
 use Rattle.net_laws.specs.Roots.{IsRoot}
 use Rattle.net_laws.proofs.Places.{one_at_a_place, root_apart}
 
-is_hit : (t u : ℕ) → 0 < hit t 1 u → u ≡ t
+pub is_hit : (t u : ℕ) → 0 < hit t 1 u → u ≡ t
 is_hit t u h = go (cases_eq u t)
   where
     go : (u ≡ t) ⊎ (u ≡ t → ⊥) → u ≡ t
     go (inl e) = e
     go (inr n) = let z : hit t 1 u ≡ 0 = ap (λ (b : Bool). cond b 1 0) (ne_eqb u t n) in absurd (omega (arith, h, z))
 
-some_of : (a b : ℕ) → 0 < a + b → (0 < a) ⊎ (0 < b)
+pub some_of : (a b : ℕ) → 0 < a + b → (0 < a) ⊎ (0 < b)
 some_of zero b h = inr (omega (arith, h))
 some_of (suc a) b h = inl (omega arith)
 

@@ -72,16 +72,16 @@ unfolding work_in_flow
 clean_together f g h j = clean_both (work_in_flow f) (work_in_flow g) ∙ and_from (is_clean f) (is_clean g) h j
 
 module _ (lib : Library) (site : List ℕ) (table : List Row) (desc : ℕ → Rule → Type 0) (st : State) where
-  abbrev run : Run
+  abbrev pub run : Run
   run = run_with lib site table
 
-  abbrev callee : ℕ → Callee
+  abbrev pub callee : ℕ → Callee
   callee depth = flow run depth
 
-  abbrev part : ℕ → Statement → Part
+  abbrev pub part : ℕ → Statement → Part
   part depth = part_of run (callee depth)
 
-  abbrev work : {depth : ℕ} {f : Form} → Growing lib site table desc st depth f → Work
+  abbrev pub work : {depth : ℕ} {f : Form} → Growing lib site table desc st depth f → Work
   work p = work_of lib site table desc st p
 
   -- ---- what each form comes to
@@ -101,10 +101,10 @@ module _ (lib : Library) (site : List ℕ) (table : List Row) (desc : ℕ → Ru
     pub under : Under (flowing_of st.cells g w) (flow_run run (callee depth) f given (beginning place))
     pub ends : are_set st ds ≡ true → is_clean (flow_run run (callee depth) f given (beginning place)) ≡ true
 
-  abbrev taking : List Bind → TInput → Runner
+  abbrev pub taking : List Bind → TInput → Runner
   taking given i t = input_of t i (lookup given (plain_key i.name))
 
-  abbrev telling : TDecl → Runner
+  abbrev pub telling : TDecl → Runner
   telling x t = declaration t x.name x.value
 
   abbrev pub turns : ℕ → List Statement → Runner
@@ -172,7 +172,7 @@ module _ (lib : Library) (site : List ℕ) (table : List Row) (desc : ℕ → Ru
       on : (ls : List Known) (es : List Ended) → Sees st.cells s ls es → Sees st.cells (beyond s g) (ls ++ (f (sight s.place ls es)).names) (es ++ (f (sight s.place ls es)).calls)
       on ls es e = let u = p.under ls es e in sees_beyond st.cells s g ls (f (sight s.place ls es)).names es (f (sight s.place ls es)).calls e u.names u.calls
 
-  body_beneath : (depth : ℕ) (xs : List Statement) (s : Scope) (g : Given) (w : Work) (done : Bool) → Beneath s (turns depth xs) g w done → Beneath s (body_run (map (part depth) xs)) g (counted (length xs) w) done
+  pub body_beneath : (depth : ℕ) (xs : List Statement) (s : Scope) (g : Given) (w : Work) (done : Bool) → Beneath s (turns depth xs) g w done → Beneath s (body_run (map (part depth) xs)) g (counted (length xs) w) done
   body_beneath depth xs s g w done p =
       record {
         under = λ ls es h.
@@ -183,7 +183,7 @@ module _ (lib : Library) (site : List ℕ) (table : List Row) (desc : ℕ → Ru
 
   -- ---- declarations
 
-  declared_beneath : (name : List ℕ) (e : TExpr) (s : Scope) (c : ℕ) (d : Declared lib site table desc st name e s c)
+  pub declared_beneath : (name : List ℕ) (e : TExpr) (s : Scope) (c : ℕ) (d : Declared lib site table desc st name e s c)
       → Beneath s (λ (t : Sight). declaration t name e) (only name c) (told_work lib site table desc st name e s c d) (is_set st c)
   declared_beneath name e s c (t, n, inl p) =
       lacking s (λ (y : Sight). declaration y name e) (record { keys = plain_key name ∷ []; calls = [] }) (only name c) (is_set st c) (record { keys = refl; calls = refl }) (single p.1.1) (λ k d i. absurd (omega (arith, i)))
@@ -196,6 +196,28 @@ module _ (lib : Library) (site : List ℕ) (table : List Row) (desc : ℕ → Ru
       exact s (λ (y : Sight). declaration y name e) (only name c) p.work (is_set st c)
       (λ ls es h. declaration_further st.cells s n.distinct ls es h n.slots (needs_slots st t s e n p.set) name e n.needs ∙ p.follows)
       (λ d. sym (declaration_settles st.cells s.place name e n.slots c p.work (needs_known st t s e n p.set) p.follows) ∙ d)
+
+  -- ---- inputs
+
+  pub given_beneath : (given : List Bind) (i : TInput) (s : Scope) (c : ℕ) (y : Value) → lookup given (plain_key i.name) ≡ Some y → st.cells c ≡ Some y → Beneath s (taking given i) (only i.name c) no_work (is_set st c)
+  given_beneath given i s c y e found =
+      exact s (taking given i) (only i.name c) no_work (is_set st c)
+      (λ ls es q. ap (λ (o : Option Value). input_of (sight s.place ls es) i o) e ∙ ap (λ (o : Option Value). named_known (known i.name o)) (sym found)) (λ d. refl)
+
+  pub absent_beneath : (given : List Bind) (i : TInput) (s : Scope) (c : ℕ) → lookup given (plain_key i.name) ≡ None → i.value ≡ None → st.cells c ≡ Some v.Absent → Beneath s (taking given i) (only i.name c) no_work (is_set st c)
+  absent_beneath given i s c e none found =
+      exact s (taking given i) (only i.name c) no_work (is_set st c)
+      (λ ls es q.
+      ap (λ (o : Option Value). input_of (sight s.place ls es) i o) e
+      ∙ ap (λ (o : Option TExpr). default_of (sight s.place ls es) i.name o) none
+      ∙ ap (λ (o : Option Value). named_known (known i.name o)) (sym found))
+      (λ d. refl)
+
+  pub default_beneath : (given : List Bind) (i : TInput) (s : Scope) (c : ℕ) (e : TExpr) → lookup given (plain_key i.name) ≡ None → i.value ≡ Some e → (d : Declared lib site table desc st i.name e s c)
+      → Beneath s (taking given i) (only i.name c) (told_work lib site table desc st i.name e s c d) (is_set st c)
+  default_beneath given i s c e lacking_ some d =
+      as_runner s (taking given i) (λ (t : Sight). declaration t i.name e) (only i.name c) (told_work lib site table desc st i.name e s c d) (is_set st c)
+      (λ t. ap (λ (o : Option Value). input_of t i o) lacking_ ∙ ap (λ (o : Option TExpr). default_of t i.name o) some) (declared_beneath i.name e s c d)
 
   -- ---- calls
 
@@ -278,7 +300,7 @@ module _ (lib : Library) (site : List ℕ) (table : List Row) (desc : ℕ → Ru
 
   -- ---- items
 
-  sees_item : (s : Scope) (k : ℕ) (item : List ℕ) (i cell : ℕ) (y : Value) → st.cells cell ≡ Some y → (ls : List Known) (es : List Ended) → Sees st.cells s ls es
+  pub sees_item : (s : Scope) (k : ℕ) (item : List ℕ) (i cell : ℕ) (y : Value) → st.cells cell ≡ Some y → (ls : List Known) (es : List Ended) → Sees st.cells s ls es
       → Sees st.cells (item_scope s k item i cell) (ls ++ record { key = plain_key item; value = Some y } ∷ []) es
   sees_item s k item i cell y is ls es h =
       record {
@@ -422,21 +444,12 @@ module _ (lib : Library) (site : List ℕ) (table : List Row) (desc : ℕ → Ru
       (body_beneath depth xs (item_scope s k item i cell) g (work p) (are_set st ds) (beneath p)) (beneath q)
   beneath (no_input depth given s) = none_beneath s
   beneath (given_input depth given i is s h c y e found p) =
-      next_beneath s (taking given i) (map (taking given) is) (only i.name c) h no_work (work p) (is_set st c) (slots_set st.cells h.names)
-      (exact s (taking given i) (only i.name c) no_work (is_set st c)
-      (λ ls es q. ap (λ (o : Option Value). input_of (sight s.place ls es) i o) e ∙ ap (λ (o : Option Value). named_known (known i.name o)) (sym found)) (λ d. refl)) (beneath p)
+      next_beneath s (taking given i) (map (taking given) is) (only i.name c) h no_work (work p) (is_set st c) (slots_set st.cells h.names) (given_beneath given i s c y e found) (beneath p)
   beneath (absent_input depth given i is s h c e lacking_ found p) =
-      next_beneath s (taking given i) (map (taking given) is) (only i.name c) h no_work (work p) (is_set st c) (slots_set st.cells h.names)
-      (exact s (taking given i) (only i.name c) no_work (is_set st c)
-      (λ ls es q.
-      ap (λ (o : Option Value). input_of (sight s.place ls es) i o) e
-      ∙ ap (λ (o : Option TExpr). default_of (sight s.place ls es) i.name o) lacking_
-      ∙ ap (λ (o : Option Value). named_known (known i.name o)) (sym found))
-      (λ d. refl)) (beneath p)
+      next_beneath s (taking given i) (map (taking given) is) (only i.name c) h no_work (work p) (is_set st c) (slots_set st.cells h.names) (absent_beneath given i s c e lacking_ found) (beneath p)
   beneath (default_input depth given i is s h c e lacking_ some d p) =
       next_beneath s (taking given i) (map (taking given) is) (only i.name c) h (told_work lib site table desc st i.name e s c d) (work p) (is_set st c) (slots_set st.cells h.names)
-      (as_runner s (taking given i) (λ (t : Sight). declaration t i.name e) (only i.name c) (told_work lib site table desc st i.name e s c d) (is_set st c)
-      (λ t. ap (λ (o : Option Value). input_of t i o) lacking_ ∙ ap (λ (o : Option TExpr). default_of t i.name o) some) (declared_beneath i.name e s c d)) (beneath p)
+      (default_beneath given i s c e lacking_ some d) (beneath p)
   beneath (no_output depth s) = none_beneath s
   beneath (output_next depth x xs s h c d p) =
       next_beneath s (telling x) (map telling xs) (only x.name c) h (told_work lib site table desc st x.name x.value s c d) (work p) (is_set st c) (slots_set st.cells h.names) (declared_beneath x.name x.value s c d) (beneath p)

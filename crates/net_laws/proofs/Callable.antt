@@ -108,7 +108,7 @@ module _ (lib : Library) where
 
   -- ---- checked forms
 
-  body_kept : (f : FlowDef) → flow_typed lib f ≡ true → body_nests lib.flows 24 f.body ≡ true
+  pub body_kept : (f : FlowDef) → flow_typed lib f ≡ true → body_nests lib.flows 24 f.body ≡ true
   body_kept f h =
       let names = are_distinct (flow_names f) && items_differ f.body (flow_names f) && is_numbered f.body in
       let a = and_parts (names && body_nests lib.flows 24 f.body && inputs_typed lib.structs [] f.inputs) (outputs_typed lib.structs f (body_gives lib f.body (inputs_seen f))) h in

@@ -36,7 +36,7 @@ as_head cells None = refl
 as_head cells (Some r) = refl
 
 -- Lists of one length have elements at the same places.
-there_too : {A B : Type 0} (xs : List A) (ys : List B) (i : ℕ) (x : A) → length xs ≡ length ys → slice_get xs i ≡ Some x → (y : B) × (slice_get ys i ≡ Some y)
+pub there_too : {A B : Type 0} (xs : List A) (ys : List B) (i : ℕ) (x : A) → length xs ≡ length ys → slice_get xs i ≡ Some x → (y : B) × (slice_get ys i ≡ Some y)
 there_too [] ys i x same e = absurd (let f : ⊥ = cc in f)
 there_too (z ∷ xs) [] i x same e = absurd (omega (arith, same))
 there_too (z ∷ xs) (y ∷ ys) zero x same e = (y, refl)

@@ -9,3 +9,5 @@ pub mod Passed
 pub mod Arrivals
 pub mod Entered
 pub mod Called
+pub mod Attempts
+pub mod Telling
