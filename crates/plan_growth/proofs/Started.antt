@@ -1,17 +1,20 @@
 -- A plan begins: the main workflow is entered, and nothing was done.
-use Rattle.std.proofs.Common.{◌≡◌, ℕ, ◌+◌, ◌≤◌, true, List, [], ◌∷◌, length, Option, Some, slice_get, arith, sym, ap, ◌∙◌, subst, refl}
+use Rattle.std.proofs.Common.{◌≡◌, ℕ, zero, suc, ◌+◌, ◌≤◌, true, List, [], ◌∷◌, length, Option, Some, slice_get, arith, sym, ap, ◌∙◌, subst, refl}
 use Rattle.std.proofs.lemmas.List.{length-map}
 use Rattle.std.proofs.lemmas.Option.{slice_get_within}
 use Rattle.wdl_value.specs.declared.env.Bind.{Bind}
 use Rattle.wdl_value.specs.Tables.{Row}
 use Rattle.wdl_typed.specs.declared.flow.FlowDef.{FlowDef}
+use Rattle.wdl_typed.specs.declared.task.TDecl.{TDecl}
 use Rattle.wdl_typed.specs.Bodies.{Library}
+use Rattle.wdl_typed.specs.Declarations.{plain_key}
+use Rattle.wdl_typed.specs.Journal.{keys_distinct}
 use Rattle.wdl_typed.specs.Kept.{is_checked}
 use Rattle.step_net.specs.Views.{Wants}
 use Rattle.value_net.specs.Nets.{empty}
 use Rattle.net_laws.specs.Growing as net
 use Rattle.net_laws.specs.Growing.{whole}
-use Rattle.net_laws.specs.Net.{Given, no_work}
+use Rattle.net_laws.specs.Net.{Given, Resolved, Slot, find, no_work, slot_keys}
 use Rattle.net_laws.specs.Planned.{counted}
 use Rattle.plan_layout.specs.declared.layout.BodyLayout.{BodyLayout}
 use Rattle.plan_layout.specs.declared.layout.FlowLayout.{FlowLayout}
@@ -28,7 +31,19 @@ use Rattle.plan_growth.proofs.Adding.{hits_behind, hits_one, stand_get}
 use Rattle.plan_growth.proofs.Instances.{Extends}
 use Rattle.plan_growth.proofs.Moving.{mapped_back}
 use Rattle.plan_growth.proofs.Setting.{same_inside}
+use Rattle.plan_growth.proofs.Told.{outputs_given}
 use Rattle.plan_growth.proofs.Wholes as flows
+
+-- where an output is found
+found_at : (names : List Slot) (base k : ℕ) (ds : List TDecl) → Resolved names (outputs_given base k ds).names → (j : ℕ) (d : TDecl) → slice_get ds j ≡ Some d → find names (plain_key d.name) ≡ Some (base + (k + j))
+found_at names base k [] h j d is = absurd (let z : ⊥ = cc in z)
+found_at names base k (x ∷ xs) h zero d is =
+    let same : x ≡ d = cc in
+    let at : base + k ≡ base + (k + 0) = omega arith in
+    ap (λ (y : TDecl). find names (plain_key y.name)) (sym same) ∙ h.0 ∙ ap (λ (c : ℕ). Some c) at
+found_at names base k (x ∷ xs) h (suc j) d is =
+    let at : base + (k + 1 + j) ≡ base + (k + suc j) = omega arith in
+    found_at names base (k + 1) xs h.1 j d is ∙ ap (λ (c : ℕ). Some c) at
 
 module _ (lib : Library) (layout : Layout) (site : List ℕ) (rows : List Row) (all_laid : IsLayout (Sees lib) lib layout) (main : Option ℕ) (checked : is_checked lib main ≡ true) (k : ℕ) (f : FlowDef)
     (flow_there : slice_get lib.flows k ≡ Some f) (sees : FlowSees lib f) (fl : FlowLayout) (fl_there : slice_get layout.flows k ≡ Some fl) (given : List Bind) where
@@ -125,11 +140,24 @@ module _ (lib : Library) (layout : Layout) (site : List ℕ) (rows : List Row) (
         flows.names_are lib layout site rows k f fl lay sees flow_there fl_there given [] bare [] [] even
         ∙ ap (λ (s : List Need). slots_at (0 ∷ []) (with_outputs s f.outputs)) (sym (flows.seen_is lib layout site rows k f fl lay sees flow_there fl_there given [] bare [] [] even))
 
+    names_differ : keys_distinct (slot_keys names.names) ≡ true
+    names_differ = flows.names_differ lib layout site rows k f fl lay sees flow_there fl_there given [] bare [] [] even
+
+    output_found : (j : ℕ) (d : TDecl) → slice_get f.outputs j ≡ Some d → find names.names (plain_key d.name) ≡ Some (fl.first_output + j)
+    output_found j d is =
+        let first = lay.first_output ∙ ap length (flows.seen_is lib layout site rows k f fl lay sees flow_there fl_there given [] bare [] [] even) in
+        let at : 0 + (length (flows.seen_out lib layout site rows k f fl lay sees flow_there fl_there given [] bare [] [] even) + j) ≡ fl.first_output + j = omega (arith, first) in
+        found_at names.names 0 (length (flows.seen_out lib layout site rows k f fl lay sees flow_there fl_there given [] bare [] [] even)) f.outputs
+        (flows.outs_found lib layout site rows k f fl lay sees flow_there fl_there given [] bare [] [] even) j d is
+        ∙ ap (λ (c : ℕ). Some c) at
+
   -- The plan begins as a net that grows of the main workflow.
   pub plan_starts : (depth : ℕ) → 24 ≤ depth → (own : BodyLayout) → slice_get layout.bodies fl.body ≡ Some own
       → (g : Given) × IsGrowing lib layout site rows depth (whole f given [] g (flow_dones f fl own 0)) (with_flow f given [] fl own bare).net (with_flow f given [] fl own bare).instances (counted (length f.body) no_work) [] (λ task. 0)
-      × (g.names ≡ slots_at (0 ∷ []) (with_outputs (body_seen lib f) f.outputs))
+      × (g.names ≡ slots_at (0 ∷ []) (with_outputs (body_seen lib f) f.outputs)) × (keys_distinct (slot_keys g.names) ≡ true)
+      × ((j : ℕ) (d : TDecl) → slice_get f.outputs j ≡ Some d → find g.names (plain_key d.name) ≡ Some (fl.first_output + j))
   plan_starts depth deep own there =
       subst (λ (z : BodyLayout). (g : Given) × IsGrowing lib layout site rows depth (whole f given [] g (flow_dones f fl z 0)) (with_flow f given [] fl z bare).net (with_flow f given [] fl z bare).instances (counted (length f.body) no_work) [] (λ task. 0)
-      × (g.names ≡ slots_at (0 ∷ []) (with_outputs (body_seen lib f) f.outputs)))
-      (same_inside (sym flow_laid.there ∙ there)) (names flow_laid, grows flow_laid depth deep, names_laid flow_laid)
+      × (g.names ≡ slots_at (0 ∷ []) (with_outputs (body_seen lib f) f.outputs)) × (keys_distinct (slot_keys g.names) ≡ true)
+      × ((j : ℕ) (d : TDecl) → slice_get f.outputs j ≡ Some d → find g.names (plain_key d.name) ≡ Some (fl.first_output + j)))
+      (same_inside (sym flow_laid.there ∙ there)) (names flow_laid, grows flow_laid depth deep, names_laid flow_laid, names_differ flow_laid, output_found flow_laid)

@@ -1,5 +1,5 @@
 -- The laws of the growth of plans, each the promise of a function in `laws`.
-use Rattle.std.specs.Prelude.{◌≡◌, ◌≤◌, ℕ, true, List, [], ◌∷◌, Option, Some, length, slice_get}
+use Rattle.std.specs.Prelude.{◌≡◌, ◌≤◌, ℕ, ◌+◌, true, List, [], ◌∷◌, Option, Some, length, slice_get}
 use Rattle.wdl_base.specs.declared.place.Segment.{Segment}
 use Rattle.wdl_value.specs.declared.env.Bind.{Bind}
 use Rattle.wdl_value.specs.Tables.{Row}
@@ -7,12 +7,15 @@ use Rattle.wdl_typed.specs.declared.flow.FlowDef.{FlowDef}
 use Rattle.wdl_typed.specs.declared.flow.Statement.{Statement}
 use Rattle.wdl_typed.specs.declared.flow.Statement.TheVariants as stmt
 use Rattle.wdl_typed.specs.declared.flow.TCall.{TCall}
+use Rattle.wdl_typed.specs.declared.task.TDecl.{TDecl}
 use Rattle.wdl_typed.specs.Bodies.{Library}
+use Rattle.wdl_typed.specs.Declarations.{plain_key}
+use Rattle.wdl_typed.specs.Journal.{keys_distinct}
 use Rattle.wdl_typed.specs.Kept.{is_checked}
 use Rattle.value_net.specs.Nets.{IsTaken, empty}
 use Rattle.net_laws.specs.Cost.{TaskCost}
 use Rattle.net_laws.specs.Growing.{Form, all, whole}
-use Rattle.net_laws.specs.Net.{Given, Work, no_work}
+use Rattle.net_laws.specs.Net.{Given, Work, find, no_work, slot_keys}
 use Rattle.net_laws.specs.Planned.{counted}
 use Rattle.plan_moves.specs.Sheets.{Sheet}
 use Rattle.plan_layout.specs.declared.layout.BodyLayout.{BodyLayout}
@@ -57,4 +60,5 @@ PlansBegin =
     → (fl : FlowLayout) → slice_get layout.flows k ≡ Some fl → (own : BodyLayout) → slice_get layout.bodies fl.body ≡ Some own → (given : List Bind) (depth : ℕ) → 24 ≤ depth
     → (let p : Plot = with_flow f given [] fl own (record { net = empty; instances = [] }) in
     (g : Given) × IsGrowing lib layout site rows depth (whole f given [] g (flow_dones f fl own 0)) p.net p.instances (counted (length f.body) no_work) [] (λ task. 0)
-    × (g.names ≡ slots_at (0 ∷ []) (with_outputs (body_seen lib f) f.outputs)))
+    × (g.names ≡ slots_at (0 ∷ []) (with_outputs (body_seen lib f) f.outputs)) × (keys_distinct (slot_keys g.names) ≡ true)
+    × ((j : ℕ) (d : TDecl) → slice_get f.outputs j ≡ Some d → find g.names (plain_key d.name) ≡ Some (fl.first_output + j)))
