@@ -46,7 +46,7 @@ use Rattle.plan_growth.proofs.Entry.{even_news, even_now, extends, instance_ther
 use Rattle.plan_growth.proofs.Firsts.{dones_within}
 use Rattle.plan_growth.proofs.Inside.{IfLaid}
 use Rattle.plan_growth.proofs.Instances.{Extends, IsEntered, entered_later, instance_owners, owners_count, put}
-use Rattle.plan_growth.proofs.Lists.{get_at, get_left, get_split}
+use Rattle.plan_growth.proofs.Lists.{get_at, get_left, get_split, kept_length}
 use Rattle.plan_growth.proofs.Moving.{Moves}
 use Rattle.plan_growth.proofs.Outer.{all_left, all_right, calls_at, calls_given, copies_added, copy_new, copy_stands, done_given, done_new, end_stands, joint_waits, names_at, names_given, others_owned, outer_length, outer_owners}
 use Rattle.plan_growth.proofs.Runs.{given_marks, given_names, marks_copied, marks_run, run_marks, run_slots, slots_copied, slots_run}
@@ -230,14 +230,7 @@ module _ (lib : Library) (layout : Layout) (site : List ℕ) (rows : List Row) (
   value_kept c o h = joints_behind.values c o (body_behind.values c o h)
 
   longer : length v.values ≤ length b.values
-  longer = by_last (length v.values) refl
-    where
-      by_last : (m : ℕ) → length v.values ≡ m → m ≤ length b.values
-      by_last zero e = omega arith
-      by_last (suc m) e =
-          let h = slice_get-get_or v.values m None (omega (arith, e)) in
-          let inside = slice_get_within b.values m (get_or v.values m None) (value_kept m (get_or v.values m None) h) in
-          omega (arith, inside)
+  longer = kept_length v.values b.values value_kept
 
   entered_now : IsEntered lib b owners_now bases_in place_in [] [] first (length start.net.steps) x.body inner lay.inner.statements
   entered_now =

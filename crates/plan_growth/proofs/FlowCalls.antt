@@ -51,7 +51,7 @@ use Rattle.plan_growth.proofs.Entry.{even_news}
 use Rattle.plan_growth.proofs.Heads.{known_same, needs_set, values_kept}
 use Rattle.plan_growth.proofs.Inside.{CallLaid}
 use Rattle.plan_growth.proofs.Instances.{Extends}
-use Rattle.plan_growth.proofs.Lists.{get_at, get_left, get_split}
+use Rattle.plan_growth.proofs.Lists.{get_at, get_left, get_split, kept_length}
 use Rattle.plan_growth.proofs.Moving.{Moves, is_move, step_now}
 use Rattle.plan_growth.proofs.Outer.{all_left, all_right, copies_added, copy_new, copy_stands, done_given, done_new, end_stands, joint_waits, names_at, names_given, others_owned, outer_length, outer_owners}
 use Rattle.plan_growth.proofs.Runs.{run_slots, slots_run}
@@ -211,14 +211,7 @@ module _ (lib : Library) (layout : Layout) (site : List ℕ) (rows : List Row) (
   value_kept c o h = ap (λ (os : List (Option Value)). slice_get os c) values_same ∙ behind.values c o h
 
   longer : length v.values ≤ length b.values
-  longer = by_last (length v.values) refl
-    where
-      by_last : (m : ℕ) → length v.values ≡ m → m ≤ length b.values
-      by_last zero e = omega arith
-      by_last (suc m) e =
-          let h = slice_get-get_or v.values m None (omega (arith, e)) in
-          let inside = slice_get_within b.values m (get_or v.values m None) (value_kept m (get_or v.values m None) h) in
-          omega (arith, inside)
+  longer = kept_length v.values b.values value_kept
 
   rule_here : (j u : ℕ) (m : New) → u ≡ name_step + j → slice_get joints j ≡ Some m → slice_get rules_now u ≡ Some m.means
   rule_here j u m e h = let size = even_in.rules_too in rule_at rules_in joints j u m (omega (arith, e, size)) h

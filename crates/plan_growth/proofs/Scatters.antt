@@ -45,7 +45,7 @@ use Rattle.plan_growth.proofs.Firsts.{all_within, beyond_within, dones_same, ite
 use Rattle.plan_growth.proofs.Inside.{ScatterLaid}
 use Rattle.plan_growth.proofs.Instances.{Extends, instance_owners, owners_count}
 use Rattle.plan_growth.proofs.Items.{AllItems, AreEntered, are_entered, each_begins, entered, inner, items_later, items_leaves, items_news, items_of, items_owners, items_stand, items_work, leaves_sum, rules_after}
-use Rattle.plan_growth.proofs.Lists.{get_at, get_left, get_split}
+use Rattle.plan_growth.proofs.Lists.{get_at, get_left, get_split, kept_length}
 use Rattle.plan_growth.proofs.Moving.{Moves}
 use Rattle.plan_growth.proofs.Outer.{all_left, all_right, calls_at, calls_given, done_given, done_new, end_new, end_stands, ends_added, gather_new, gather_stands, gathers_added, joint_waits, names_at, names_given, others_owned, outer_length, outer_owners}
 use Rattle.plan_growth.proofs.Runs.{ending_all, gathered_all, marks_run, slots_run}
@@ -219,14 +219,7 @@ module _ (lib : Library) (layout : Layout) (site : List ℕ) (rows : List Row) (
   value_kept c o h = joints_behind.values c o (entry.extends.values c o h)
 
   longer : length v.values ≤ length b.values
-  longer = by_last (length v.values) refl
-    where
-      by_last : (m : ℕ) → length v.values ≡ m → m ≤ length b.values
-      by_last zero e = omega arith
-      by_last (suc m) e =
-          let h = slice_get-get_or v.values m None (omega (arith, e)) in
-          let inside = slice_get_within b.values m (get_or v.values m None) (value_kept m (get_or v.values m None) h) in
-          omega (arith, inside)
+  longer = kept_length v.values b.values value_kept
 
   all_items : AllItems lib layout l.inner lay.inner flow x.body outer path place x.number x.item a b owners_now items_net.instances 0 xs start
   all_items =

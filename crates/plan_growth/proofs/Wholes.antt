@@ -44,7 +44,7 @@ use Rattle.plan_growth.proofs.Entry.{cells_count, even_news, even_now, extends, 
 use Rattle.plan_growth.proofs.Firsts.{dones_within}
 use Rattle.plan_growth.proofs.Inside.{WholeLaid, whole_laid}
 use Rattle.plan_growth.proofs.Instances.{Extends, IsEntered, Kept, entered_later, instance_owners, put}
-use Rattle.plan_growth.proofs.Lists.{get_copy, get_left, get_right}
+use Rattle.plan_growth.proofs.Lists.{get_copy, get_left, get_right, kept_length}
 use Rattle.plan_growth.proofs.Runs.{self_found}
 use Rattle.plan_growth.proofs.Scopes.{behind_count, behind_there, body_scope, inputs_cells, inputs_count, inputs_scope, outputs_cells, outputs_scope}
 use Rattle.plan_growth.proofs.Seen.{slots_keys}
@@ -229,14 +229,7 @@ module _ (lib : Library) (layout : Layout) (site : List ℕ) (rows : List Row) (
   value_kept c o h = let inside = slice_get_within q.net.values c o h in value_other c (λ m lt e. omega (arith, e, inside)) ∙ body_behind.values c o h
 
   pub longer : length q.net.values ≤ length b.values
-  longer = by_last (length q.net.values) refl
-    where
-      by_last : (m : ℕ) → length q.net.values ≡ m → m ≤ length b.values
-      by_last zero e = omega arith
-      by_last (suc m) e =
-          let h = slice_get-get_or q.net.values m None (omega (arith, e)) in
-          let inside = slice_get_within b.values m (get_or q.net.values m None) (value_kept m (get_or q.net.values m None) h) in
-          omega (arith, inside)
+  longer = kept_length q.net.values b.values value_kept
 
   pub entered_now : IsEntered lib b owners_now bases place befores afters base first ss stand lay.body.statements
   entered_now =
