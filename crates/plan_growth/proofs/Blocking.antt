@@ -42,7 +42,7 @@ use Rattle.plan_growth.specs.declared.rule.Rule.TheVariants as rule
 use Rattle.plan_growth.specs.Begun.{IsFree, base_at, given_by, scope_at}
 use Rattle.plan_growth.specs.Blocks.{with_condition, with_nothing, with_scatter}
 use Rattle.plan_growth.specs.Entering.{Plot, Sown, with_absent}
-use Rattle.plan_growth.specs.Growth.{IsGrowing, growth_leaves, sheet_of}
+use Rattle.plan_growth.specs.Growth.{IsGrowing, growth_leaves, sheet_of, AskedCall}
 use Rattle.plan_growth.specs.Keeps.{IsAt, last_base, own_outcome}
 use Rattle.plan_growth.specs.Meaning.{Fits, Means, rule_cells}
 use Rattle.plan_growth.proofs.Heads.{has_head}
@@ -104,7 +104,7 @@ absent_get first (suc n) vs inside j lt = by_case (last j n lt) (absent_get firs
         let same : first + j ≡ first + n = omega (arith, e) in
         ap (slice_get (slice_set (absent_values first n vs) (first + n) (Some kind.Absent))) same ∙ get_set (absent_values first n vs) (first + n) (Some kind.Absent) (omega (arith, low, size))
 
-module _ (lib : Library) (layout : Layout) (site : List ℕ) (rows : List Row) (depth : ℕ) (form : Form) (v : Sown) (is : List Instance) (listed : Work) (asked : List ℕ) (paid : TaskCost → ℕ)
+module _ (lib : Library) (layout : Layout) (site : List ℕ) (rows : List Row) (depth : ℕ) (form : Form) (v : Sown) (is : List Instance) (listed : Work) (asked : List AskedCall) (paid : TaskCost → ℕ)
     (g : IsGrowing lib layout site rows depth form v is listed asked paid) (t : ℕ) (r : Rule) (code : slice_get v.rules t ≡ Some r) (step : Wants) (there : slice_get v.steps t ≡ Some step)
     (fresh : step.is_taken ≡ false) (ready : values.are_set v.values step.needs ≡ true) (i k : ℕ) (same : r ≡ rule.Statement i k) (q : Instance) (body : BodyLayout) (flow : FlowDef) (l : StatementLayout) where
   abbrev rules : List net.Rule

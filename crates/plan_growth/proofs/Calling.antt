@@ -1,4 +1,6 @@
 -- Calls: a plan goes on growing.
+use Rattle.std.proofs.lemmas.Bool.{and_parts}
+use Rattle.plan_growth.proofs.Seen.{named_by}
 use Rattle.std.proofs.Common.{◌≡◌, ℕ, zero, suc, ◌+◌, ◌<◌, ◌≤◌, ◌⊎◌, inl, inr, Bool, true, false, cond, ◌&&◌, List, [], ◌∷◌, ◌++◌, All, map, length, Option, Some, None, Ok, Err, slice_get, arith, sym, ap, ◌∙◌, subst, refl}
 use Rattle.std.specs.List.{list_all}
 use Rattle.std.proofs.lemmas.Option.{slice_get_within}
@@ -30,9 +32,11 @@ use Rattle.net_laws.specs.Net.{Given, Scope, Work, ended_in, flowing_of, known_i
 use Rattle.net_laws.specs.Planned.{call_names, counted}
 use Rattle.net_laws.specs.Works.{faulty}
 use Rattle.net_laws.specs.Rules.{Follows, own_sight}
-use Rattle.net_laws.proofs.Leaves.{call_ready}
+use Rattle.net_laws.proofs.Leaves.{call_ready, call_slots}
+use Rattle.net_laws.proofs.Sets.{marks_set, slots_set}
 use Rattle.plan_moves.specs.Laws.{HasAsked, asked_cost}
 use Rattle.plan_moves.specs.Sheets.{IsMove, needs_in, state_of, taken_in}
+use Rattle.plan_moves.specs.Telling.{CallsTask}
 use Rattle.plan_moves.proofs.Called.{flows as enter_flows}
 use Rattle.plan_moves.proofs.Calls.{calls}
 use Rattle.plan_moves.proofs.Kept.{set_now}
@@ -50,7 +54,7 @@ use Rattle.plan_growth.specs.declared.rule.Rule.TheVariants as rule
 use Rattle.plan_growth.specs.Begun.{IsFree, base_at, given_by, scope_at}
 use Rattle.plan_growth.specs.Blocks.{with_call}
 use Rattle.plan_growth.specs.Entering.{Plot, Sown}
-use Rattle.plan_growth.specs.Growth.{IsGrowing, growth_leaves, growth_spent, sheet_of}
+use Rattle.plan_growth.specs.Growth.{IsGrowing, growth_leaves, growth_spent, sheet_of, AskedCall}
 use Rattle.plan_growth.specs.Keeps.{IsAt, asked_first, last_base, own_binds}
 use Rattle.plan_growth.specs.Meaning.{Fits, Means, rule_cells}
 use Rattle.plan_growth.proofs.Begins.{call_needs}
@@ -73,7 +77,7 @@ first_waits lib site rows n place y call a zero e =
 first_waits lib site rows n place y call a (suc left) e =
     ap (λ (o : Option Answer). with_jobs (request site place 0 a ∷ []) (a.codes ∷ []) (attempted (run_with lib site rows) n place y call a 0 false (attempts (run_with lib site rows) n place y call a left 1) o)) e
 
-module _ (lib : Library) (layout : Layout) (site : List ℕ) (rows : List Row) (depth : ℕ) (form : Form) (v : Sown) (is : List Instance) (listed : Work) (asked_steps : List ℕ) (paid : TaskCost → ℕ)
+module _ (lib : Library) (layout : Layout) (site : List ℕ) (rows : List Row) (depth : ℕ) (form : Form) (v : Sown) (is : List Instance) (listed : Work) (asked_steps : List AskedCall) (paid : TaskCost → ℕ)
     (g : IsGrowing lib layout site rows depth form v is listed asked_steps paid) (t : ℕ) (r : Rule) (code : slice_get v.rules t ≡ Some r) (step : Wants) (there : slice_get v.steps t ≡ Some step)
     (fresh : step.is_taken ≡ false) (ready : values.are_set v.values step.needs ≡ true) (i k : ℕ) (same : r ≡ rule.Statement i k) (q : Instance) (body : BodyLayout) (flow : FlowDef) (l : StatementLayout) (x : TCall)
     (at : IsAt lib layout is i k q body flow l (stmt.Call x)) where
@@ -219,9 +223,10 @@ module _ (lib : Library) (layout : Layout) (site : List ℕ) (rows : List Row) (
         added later cost later_paid tt has_asked.weighs lists (λ task. has_asked.spends task ∙ ap (λ (m : ℕ). growth_spent lib layout site rows task g.growth + m) (sym (cost_is task))) pays
 
     -- the same, and the step is one of a call that was asked
-    pub call_asked : (later : Work) → Lists later added → (later_paid : TaskCost → ℕ) → ((task : TaskCost) → later_paid task ≤ paid task + cost task)
-        → IsGrowing lib layout site rows depth form w is later (asked_steps ++ t ∷ []) later_paid
-    call_asked later lists later_paid pays =
+    pub call_asked : (later : Work) → Lists later added → (later_paid : TaskCost → ℕ) → ((task : TaskCost) → later_paid task ≤ paid task + cost task) → (y : TaskDef) (args : List Bind)
+        → (calls_task : CallsTask lib (sheet_of w rules) x s gv args y) → slots_set (value_at v.values) calls_task.slots ≡ true → marks_set (value_at v.values) calls_task.marks ≡ true
+        → IsGrowing lib layout site rows depth form w is later (asked_steps ++ record { step = t; place = place; task = y; args = args } ∷ []) later_paid
+    call_asked later lists later_paid pays y args calls_task names_set calls_set =
         goes_asked lib layout site rows depth form v is listed asked_steps paid g t w rules owners is [] moves has_asked.grown (λ u z. 0)
         (record {
           leaves = λ u z ne. let e = has_asked.leaves u z in omega (arith, e);
@@ -230,6 +235,7 @@ module _ (lib : Library) (layout : Layout) (site : List ℕ) (rows : List Row) (
           each_one = λ j y e leaf z. absurd (let f : ⊥ = cc in f);
         })
         added later cost later_paid tt has_asked.weighs lists (λ task. has_asked.spends task ∙ ap (λ (m : ℕ). growth_spent lib layout site rows task g.growth + m) (sym (cost_is task))) pays
+        (record { step = t; place = place; task = y; args = args })
         (record {
           call = x;
           scope = s;
@@ -239,6 +245,10 @@ module _ (lib : Library) (layout : Layout) (site : List ℕ) (rows : List Row) (
           taken = ap taken_in step_was;
           once = λ m. let e = has_asked.leaves t m in let o = once m in e ∙ o;
           free = free;
+          place = refl;
+          calls_task = calls_task;
+          names_set = names_set;
+          calls_set = calls_set;
         })
 
   -- ---- faults
@@ -266,12 +276,30 @@ module _ (lib : Library) (layout : Layout) (site : List ℕ) (rows : List Row) (
     task_fails e is_err later lists later_paid pays =
         call_told (faulty (failing_at place e)) (inl (c, y, is_task, task_there)) (λ dp. task_is dp (Err e) is_err ∙ none_given (faulty (failing_at place e))) later lists later_paid pays
 
+    sets : (slots_set (value_at v.values) needed.slots ≡ true) × (marks_set (value_at v.values) needed.marks ≡ true)
+    sets = call_slots (state_of (sheet_of w rules) owners) t s x needed (set_now lib site rows t (sheet_of v rules) owners (sheet_of w rules) owners move)
+
+    abbrev calls_task : CallsTask lib (sheet_of w rules) x s gv args y
+    calls_task =
+        let test = and_parts (args_known (map (known_in (value_at v.values)) needed.slots) x.args) (list_all (has_ended (map (ended_in (value_at v.values)) needed.marks)) x.after) tested in
+        record {
+          slots = needed.slots;
+          marks = needed.marks;
+          needs = needed.needs;
+          met = record { known = test.0; ended = test.1; met = met_too };
+          number = c;
+          is = is_task;
+          found = task_there;
+          named = named_by q.bases h.stand n;
+        }
+
     -- the task is asked, and its first attempt waits
     pub task_asked : (a : Asked) → asks y args ≡ Ok a → answer_at rows place 0 ≡ None → (later : Work) → Lists later (asked_first site place a) → (later_paid : TaskCost → ℕ)
-        → ((task : TaskCost) → later_paid task ≤ paid task + cost task) → IsGrowing lib layout site rows depth form w is later (asked_steps ++ t ∷ []) later_paid
+        → ((task : TaskCost) → later_paid task ≤ paid task + cost task) → IsGrowing lib layout site rows depth form w is later (asked_steps ++ record { step = t; place = place; task = y; args = args } ∷ []) later_paid
     task_asked a is_ok none later lists later_paid pays =
         call_asked (asked_first site place a) (inl (c, y, is_task, task_there))
-        (λ dp. task_is dp (Ok a) is_ok ∙ first_waits lib site rows n place y x.name a a.retries none ∙ none_given (asked_first site place a)) later lists later_paid pays
+        (λ dp. task_is dp (Ok a) is_ok ∙ first_waits lib site rows n place y x.name a a.retries none ∙ none_given (asked_first site place a)) later lists later_paid pays y args
+        calls_task sets.0 sets.1
 
   -- ---- calls of workflows
 

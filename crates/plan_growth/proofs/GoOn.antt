@@ -16,7 +16,7 @@ use Rattle.plan_layout.specs.declared.layout.StatementLayout.{StatementLayout}
 use Rattle.plan_growth.specs.declared.instance.Instance.{Instance}
 use Rattle.plan_growth.specs.declared.rule.Rule.TheVariants as rule
 use Rattle.plan_growth.specs.Entering.{Sown}
-use Rattle.plan_growth.specs.Growth.{IsGrowing}
+use Rattle.plan_growth.specs.Growth.{IsGrowing, AskedCall}
 use Rattle.plan_growth.specs.Keeps.{BlocksGoOn, CallsGoOn, DeclarationsGoOn, IsAt, JointsGoOn}
 use Rattle.plan_growth.specs.Laws.{PlansBegin, PlansGoOn}
 use Rattle.plan_growth.proofs.Blocking.{if_fails, if_off, if_on, scatter_fails, scatter_goes}
@@ -25,7 +25,7 @@ use Rattle.plan_growth.proofs.Goes.{as_listed}
 use Rattle.plan_growth.proofs.Keeping.{copies_goes, copies_one, decl_goes, ends_goes, gathers_goes, input_goes, output_goes}
 use Rattle.plan_growth.proofs.Started.{plan_starts}
 
-module _ (lib : Library) (layout : Layout) (site : List ℕ) (rows : List Row) (depth : ℕ) (form : Form) (v : Sown) (is : List Instance) (listed : Work) (asked : List ℕ) (paid : TaskCost → ℕ)
+module _ (lib : Library) (layout : Layout) (site : List ℕ) (rows : List Row) (depth : ℕ) (form : Form) (v : Sown) (is : List Instance) (listed : Work) (asked : List AskedCall) (paid : TaskCost → ℕ)
     (g : IsGrowing lib layout site rows depth form v is listed asked paid) (t : ℕ) (w : Sown) (taken : IsTaken v t w) where
   -- lists with nothing more
   relist : (net_now : Sown) → IsGrowing lib layout site rows depth form net_now is listed asked paid → (later : Work) → ((weight : Work → ℕ) → IsWeight weight → weight later ≡ weight listed + weight no_work) → (later_paid : TaskCost → ℕ)

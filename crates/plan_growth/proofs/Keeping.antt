@@ -51,7 +51,7 @@ use Rattle.plan_growth.specs.declared.rule.Rule.{Rule}
 use Rattle.plan_growth.specs.declared.rule.Rule.TheVariants as rule
 use Rattle.plan_growth.specs.Begun.{IsFree, base_at, given_by, given_of, scope_at}
 use Rattle.plan_growth.specs.Entering.{Sown, cells_of}
-use Rattle.plan_growth.specs.Growth.{IsGrowing, sheet_of}
+use Rattle.plan_growth.specs.Growth.{IsGrowing, sheet_of, AskedCall}
 use Rattle.plan_growth.specs.Keeps.{IsAt, IsInputAt, IsOutputAt, last_base, net_told, own_outcome, work_told}
 use Rattle.plan_growth.specs.Meaning.{AreThere, Fits, Means, MeansDeclared, MeansStatement, rule_cells}
 use Rattle.plan_growth.proofs.Heads.{needs_are, needs_set, same_some, values_kept}
@@ -106,7 +106,7 @@ same_told : (o : Outcome Value) (place : List Segment) (name : List ℕ) → tol
 same_told (Ok x) place name = refl
 same_told (Err c) place name = refl
 
-module _ (lib : Library) (layout : Layout) (site : List ℕ) (rows : List Row) (depth : ℕ) (form : Form) (v : Sown) (is : List Instance) (listed : Work) (asked : List ℕ) (paid : TaskCost → ℕ)
+module _ (lib : Library) (layout : Layout) (site : List ℕ) (rows : List Row) (depth : ℕ) (form : Form) (v : Sown) (is : List Instance) (listed : Work) (asked : List AskedCall) (paid : TaskCost → ℕ)
     (g : IsGrowing lib layout site rows depth form v is listed asked paid) (t : ℕ) (r : Rule) (code : slice_get v.rules t ≡ Some r) (step : Wants) (there : slice_get v.steps t ≡ Some step)
     (fresh : step.is_taken ≡ false) (ready : values.are_set v.values step.needs ≡ true) where
   abbrev rules : List net.Rule

@@ -1,3 +1,4 @@
+pub mod Askers
 pub mod Adding
 pub mod Alike
 pub mod Begins

@@ -30,7 +30,7 @@ use Rattle.plan_growth.specs.declared.instance.Instance.{Instance}
 use Rattle.plan_growth.specs.declared.rule.Rule.{Rule}
 use Rattle.plan_growth.specs.Begun.{IsFree}
 use Rattle.plan_growth.specs.Entering.{Sown}
-use Rattle.plan_growth.specs.Growth.{IsEven, IsGrowing, growth_leaves, is_leaf, sheet_of}
+use Rattle.plan_growth.specs.Growth.{IsEven, IsGrowing, growth_leaves, is_leaf, sheet_of, AskedCall}
 use Rattle.plan_growth.specs.News.{Stands}
 use Rattle.plan_growth.proofs.Goes.{goes_on}
 use Rattle.plan_growth.proofs.Heads.{known_same, set_same, values_kept}
@@ -122,7 +122,7 @@ tells_by vs b name e s c slots needs set kept o is cell =
 
 -- ---- a plan goes on growing, with no other step
 
-module _ (lib : Library) (layout : Layout) (site : List ℕ) (rows : List Row) (depth : ℕ) (form : Form) (v : Sown) (is : List Instance) (listed : Work) (asked : List ℕ) (paid : TaskCost → ℕ)
+module _ (lib : Library) (layout : Layout) (site : List ℕ) (rows : List Row) (depth : ℕ) (form : Form) (v : Sown) (is : List Instance) (listed : Work) (asked : List AskedCall) (paid : TaskCost → ℕ)
     (g : IsGrowing lib layout site rows depth form v is listed asked paid) where
   -- a step that is left, with what it is to do
   pub record StepAt (t : ℕ) (r : Rule) (step : Wants) : Type 0 where

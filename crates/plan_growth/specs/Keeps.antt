@@ -44,7 +44,7 @@ use Rattle.plan_growth.specs.declared.instance.Instance.{Instance}
 use Rattle.plan_growth.specs.declared.rule.Rule.TheVariants as rule
 use Rattle.plan_growth.specs.Blocks.{with_call, with_condition, with_nothing, with_scatter}
 use Rattle.plan_growth.specs.Entering.{Plot, Sown}
-use Rattle.plan_growth.specs.Growth.{IsGrowing}
+use Rattle.plan_growth.specs.Growth.{IsGrowing, AskedCall}
 use Rattle.plan_growth.specs.Meaning.{IsInstance}
 
 -- what an expression comes to over the names that a step needs
@@ -91,10 +91,10 @@ pub record IsOutputAt (lib : Library) (layout : Layout) (is : List Instance) (i 
   pub output : slice_get flow.outputs k ≡ Some x
   pub needs_there : slice_get fl.outputs k ≡ Some needs
 
-module _ (lib : Library) (layout : Layout) (site : List ℕ) (rows : List Row) (depth : ℕ) (form : Form) (v : Sown) (is : List Instance) (listed : Work) (asked : List ℕ) (paid : TaskCost → ℕ) (t : ℕ) (w : Sown)
+module _ (lib : Library) (layout : Layout) (site : List ℕ) (rows : List Row) (depth : ℕ) (form : Form) (v : Sown) (is : List Instance) (listed : Work) (asked : List AskedCall) (paid : TaskCost → ℕ) (t : ℕ) (w : Sown)
     (step : Wants) where
   -- The plan goes on growing at this net, with so much work more, and that many expressions more at most.
-  abbrev pub GoesOn : Sown → List Instance → List ℕ → Work → (TaskCost → ℕ) → Type 0
+  abbrev pub GoesOn : Sown → List Instance → List AskedCall → Work → (TaskCost → ℕ) → Type 0
   GoesOn net js now_asked added cost =
       (later : Work) → ((weight : Work → ℕ) → IsWeight weight → weight later ≡ weight listed + weight added) → (later_paid : TaskCost → ℕ) → ((task : TaskCost) → later_paid task ≤ paid task + cost task)
       → IsGrowing lib layout site rows depth form net js later now_asked later_paid
@@ -152,7 +152,7 @@ module _ (lib : Library) (layout : Layout) (site : List ℕ) (rows : List Row) (
     pub task_fails : (c : ℕ) → x.target ≡ target.Task c → (y : TaskDef) → slice_get lib.tasks c ≡ Some y → (args : List Bind) → args_met (own_binds v q.bases l.needs) x.args ≡ Ok args → (e : Failing) → asks y args ≡ Err e
         → GoesOn w is asked (faulty (failing_at (q.place ++ segment.Call x.name ∷ []) e)) (call_cost q l x)
     pub task : (c : ℕ) → x.target ≡ target.Task c → (y : TaskDef) → slice_get lib.tasks c ≡ Some y → (args : List Bind) → args_met (own_binds v q.bases l.needs) x.args ≡ Ok args → (a : Asked) → asks y args ≡ Ok a
-        → answer_at rows (q.place ++ segment.Call x.name ∷ []) 0 ≡ None → GoesOn w is (asked ++ t ∷ []) (asked_first site (q.place ++ segment.Call x.name ∷ []) a) (call_cost q l x)
+        → answer_at rows (q.place ++ segment.Call x.name ∷ []) 0 ≡ None → GoesOn w is (asked ++ record { step = t; place = q.place ++ segment.Call x.name ∷ []; task = y; args = args } ∷ []) (asked_first site (q.place ++ segment.Call x.name ∷ []) a) (call_cost q l x)
     pub workflow : (c : ℕ) → x.target ≡ target.Flow c → (f : FlowDef) → slice_get lib.flows c ≡ Some f → (fl : FlowLayout) → slice_get layout.flows c ≡ Some fl → (own : BodyLayout) → slice_get layout.bodies fl.body ≡ Some own
         → FlowSees lib f → (args : List Bind) → args_met (own_binds v q.bases l.needs) x.args ≡ Ok args
         → PlotGoesOn (with_call f args (q.place ++ segment.Call x.name ∷ []) fl own l (last_base q.bases) entered) (counted (length f.body) no_work) (λ task. length x.args)

@@ -30,7 +30,7 @@ use Rattle.plan_growth.specs.Begun.{AllSit, HasBegun, all_given, base_at, hits, 
 use Rattle.plan_growth.specs.declared.instance.Instance.{Instance}
 use Rattle.plan_growth.specs.declared.rule.Rule.TheVariants as rule
 use Rattle.plan_growth.specs.Entering.{Plot, Sown, dones_at, flow_dones, with_flow}
-use Rattle.plan_growth.specs.Growth.{IsGrowing}
+use Rattle.plan_growth.specs.Growth.{IsGrowing, AskedCall}
 use Rattle.plan_growth.specs.Keeps.{BlocksGoOn, CallsGoOn, DeclarationsGoOn, IsAt, JointsGoOn}
 
 -- The statements of a body that was just entered have begun to grow, at every depth.
@@ -42,14 +42,14 @@ BodiesBegin =
 
 -- Each kind of step keeps a plan growing.
 pub record PlansGoOn : Type 0 where
-  pub joints : (lib : Library) (layout : Layout) (site : List ℕ) (rows : List Row) (depth : ℕ) (form : Form) (v : Sown) (is : List Instance) (listed : Work) (asked : List ℕ) (paid : TaskCost → ℕ)
+  pub joints : (lib : Library) (layout : Layout) (site : List ℕ) (rows : List Row) (depth : ℕ) (form : Form) (v : Sown) (is : List Instance) (listed : Work) (asked : List AskedCall) (paid : TaskCost → ℕ)
       → IsGrowing lib layout site rows depth form v is listed asked paid → (t : ℕ) (w : Sown) (taken : IsTaken v t w) → JointsGoOn lib layout site rows depth form v is listed asked paid t w taken.step
-  pub declarations : (lib : Library) (layout : Layout) (site : List ℕ) (rows : List Row) (depth : ℕ) (form : Form) (v : Sown) (is : List Instance) (listed : Work) (asked : List ℕ) (paid : TaskCost → ℕ)
+  pub declarations : (lib : Library) (layout : Layout) (site : List ℕ) (rows : List Row) (depth : ℕ) (form : Form) (v : Sown) (is : List Instance) (listed : Work) (asked : List AskedCall) (paid : TaskCost → ℕ)
       → IsGrowing lib layout site rows depth form v is listed asked paid → (t : ℕ) (w : Sown) (taken : IsTaken v t w) → DeclarationsGoOn lib layout site rows depth form v is listed asked paid t w taken.step
-  pub blocks : (lib : Library) (layout : Layout) (site : List ℕ) (rows : List Row) (depth : ℕ) (form : Form) (v : Sown) (is : List Instance) (listed : Work) (asked : List ℕ) (paid : TaskCost → ℕ)
+  pub blocks : (lib : Library) (layout : Layout) (site : List ℕ) (rows : List Row) (depth : ℕ) (form : Form) (v : Sown) (is : List Instance) (listed : Work) (asked : List AskedCall) (paid : TaskCost → ℕ)
       → IsGrowing lib layout site rows depth form v is listed asked paid → (t : ℕ) (w : Sown) (taken : IsTaken v t w) (i k : ℕ) (code : slice_get v.rules t ≡ Some (rule.Statement i k)) (q : Instance) (body : BodyLayout) (flow : FlowDef)
       (l : StatementLayout) → BlocksGoOn lib layout site rows depth form v is listed asked paid t w taken.step i k code q body flow l
-  pub calls : (lib : Library) (layout : Layout) (site : List ℕ) (rows : List Row) (depth : ℕ) (form : Form) (v : Sown) (is : List Instance) (listed : Work) (asked : List ℕ) (paid : TaskCost → ℕ)
+  pub calls : (lib : Library) (layout : Layout) (site : List ℕ) (rows : List Row) (depth : ℕ) (form : Form) (v : Sown) (is : List Instance) (listed : Work) (asked : List AskedCall) (paid : TaskCost → ℕ)
       → IsGrowing lib layout site rows depth form v is listed asked paid → (t : ℕ) (w : Sown) (taken : IsTaken v t w) (i k : ℕ) (code : slice_get v.rules t ≡ Some (rule.Statement i k)) (q : Instance) (body : BodyLayout) (flow : FlowDef)
       (l : StatementLayout) (x : TCall) (at : IsAt lib layout is i k q body flow l (stmt.Call x)) → CallsGoOn lib layout site rows depth form v is listed asked paid t w taken.step i k code q body flow l x at
 
