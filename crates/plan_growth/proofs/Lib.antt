@@ -5,6 +5,7 @@ pub mod Begins
 pub mod Blocking
 pub mod Calling
 pub mod Conditions
+pub mod Ended
 pub mod Entry
 pub mod Firsts
 pub mod FlowCalls

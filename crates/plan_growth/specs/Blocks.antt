@@ -1,5 +1,5 @@
 -- What a step that enters a block or a workflow makes of a net and of the instances.
-use Rattle.std.specs.Prelude.{ℕ, ◌+◌, List, length}
+use Rattle.std.specs.Prelude.{ℕ, ◌+◌, List, [], ◌∷◌, length}
 use Rattle.wdl_base.specs.declared.place.Segment.{Segment}
 use Rattle.wdl_value.specs.declared.env.Bind.{Bind}
 use Rattle.wdl_value.specs.declared.value.Value.{Value}
@@ -49,3 +49,14 @@ with_call f args place layout body l base p =
     (with_step
     (with_copies (length p.net.values + layout.first_output) (base + l.first_name) l.names (with_flow f args place layout body p).net)
     (rule.Ends (base + l.done)) (flow_dones f layout body (length p.net.values)))
+
+-- ---- answers
+
+-- these outputs in the cells from the first on
+abbrev pub with_outs : ℕ → List Bind → Sown → Sown
+with_outs first [] net = net
+with_outs first (b ∷ bs) net = with_value (with_outs (first + 1) bs net) first b.value
+
+-- the outputs of a call that has ended, and its own cell
+abbrev pub with_ended : ℕ → ℕ → List Bind → Sown → Sown
+with_ended first done outs net = with_value (with_outs first outs net) done v.Absent
