@@ -159,13 +159,9 @@ $ run --workers 1 w.wdl
 
 #[test]
 fn answers_end_a_run(rt: HostRuntime) -> Result<(), Fail> {
-    assert_eq!(rt; first_mistake(&rt, rt.alloc(), ANSWERS)?.as_str(), "");
-    Ok(())
-}
-
-#[test]
-fn a_job_has_its_attempts(rt: HostRuntime) -> Result<(), Fail> {
-    assert_eq!(rt; first_mistake(&rt, rt.alloc(), ATTEMPTS)?.as_str(), "");
+    let alloc = rt.alloc();
+    assert_eq!(rt; first_mistake(&rt, alloc, ANSWERS)?.as_str(), "");
+    assert_eq!(rt; first_mistake(&rt, alloc, ATTEMPTS)?.as_str(), "");
     Ok(())
 }
 

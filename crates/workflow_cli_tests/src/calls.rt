@@ -146,18 +146,9 @@ $ run --workers 1 --inputs i.json w.wdl
 
 #[test]
 fn calls_run_in_the_order_of_their_needs(rt: HostRuntime) -> Result<(), Fail> {
-    assert_eq!(rt; first_mistake(&rt, rt.alloc(), CALLS)?.as_str(), "");
-    Ok(())
-}
-
-#[test]
-fn calls_in_blocks_run_for_each_item(rt: HostRuntime) -> Result<(), Fail> {
-    assert_eq!(rt; first_mistake(&rt, rt.alloc(), BLOCKS)?.as_str(), "");
-    Ok(())
-}
-
-#[test]
-fn files_are_laid_and_read(rt: HostRuntime) -> Result<(), Fail> {
-    assert_eq!(rt; first_mistake(&rt, rt.alloc(), FILES)?.as_str(), "");
+    let alloc = rt.alloc();
+    assert_eq!(rt; first_mistake(&rt, alloc, CALLS)?.as_str(), "");
+    assert_eq!(rt; first_mistake(&rt, alloc, BLOCKS)?.as_str(), "");
+    assert_eq!(rt; first_mistake(&rt, alloc, FILES)?.as_str(), "");
     Ok(())
 }
