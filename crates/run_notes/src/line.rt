@@ -9,7 +9,9 @@ use wdl_value::NoMemory;
 #[derive(Clone, Copy)]
 pub(crate) enum Event {
     /// It was put on the desk.
-    Started { attempt: Attempt },
+    Started {
+        attempt: Attempt,
+    },
     /// Its command ended after this time, where the clock could be read. There is an attempt where the status is no success.
     Ended {
         status: u8,

@@ -195,7 +195,7 @@ impl<'s, N: Sink, C: Clock + Drop> RunNotes<'s, N, C> {
     }
 
     /// Writes the summary. `root` is the directory of the jobs.
-    pub fn summarize(&mut self, alloc: Global, root: &Text) {
+    fn summarize(&mut self, alloc: Global, root: &Text) {
         let took = self.since(self.began);
         self.clear();
         let mut note = Note::new(alloc);
