@@ -13,7 +13,7 @@ notes 10000
 > /tmp/wdl-run/say echo hi
 > # [0 done, 1 running] say: started
 > # [1 done, 0 running] say: status 0
-> # 1 jobs done, 0 failed
+> # 1 job done, 0 failed
 > # the files of each job are below /tmp/wdl-run
 
 say
