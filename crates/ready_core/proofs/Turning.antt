@@ -131,9 +131,9 @@ first_shows : (w : List Fault) → is_some (first_fault w) ≡ not (is_empty w)
 first_shows [] = refl
 first_shows (x ∷ xs) = refl
 
-pub seen_turn : (c : Checked) (f : Flowing) (taken : List TakenJob) (s : Flow) (t : Turn) → IsSeen c f s → length s.codes ≡ length s.jobs → IsTurnOf s taken t → IsFreshTurn c f taken t
+pub seen_turn : (c : Checked) (f : Flowing) (taken : List TakenJob) (s : Flow) (t : Turn) → IsSeen c f s → length s.terms ≡ length s.jobs → IsTurnOf s taken t → IsFreshTurn c f taken t
 seen_turn c f taken s t is even h =
-    let jobs : paired s.jobs (map successes_of s.codes) ≡ jobs_of f = ap (λ l. paired l (map successes_of s.codes)) is.jobs ∙ ap (paired f.jobs) is.codes in
+    let jobs : paired s.jobs (map successes_of s.terms) ≡ jobs_of f = ap (λ l. paired l (map successes_of s.terms)) is.jobs ∙ ap (paired f.jobs) is.codes in
     let fault : t.fault ≡ first_fault f.faults = h.fault ∙ ap first_fault is.faults in
     record {
       turn =
@@ -141,10 +141,10 @@ seen_turn c f taken s t is even h =
             ready =
                 h.ready
                 ∙ ap reverse
-                (ap (λ (o : Option Fault). unless_fault o (left_over taken (paired s.jobs (map successes_of s.codes)))) fault
+                (ap (λ (o : Option Fault). unless_fault o (left_over taken (paired s.jobs (map successes_of s.terms)))) fault
                 ∙ ap (λ l. unless_fault (first_fault f.faults) (left_over taken l)) jobs
                 ∙ ready_same f taken is.few f.faults refl);
-            even = λ k. ap length (sym is.codes) ∙ length-map s.codes successes_of ∙ even ∙ ap length is.jobs;
+            even = λ k. ap length (sym is.codes) ∙ length-map s.terms successes_of ∙ even ∙ ap length is.jobs;
             fault = subst (IsFaultOf f) (sym fault) (first_of_all f f.faults refl);
             many = h.many ∙ sym is.few;
             outcome = h.outcome ∙ is.outputs ∙ sym (ap (λ b. cond b None (outputs_if_clean c f)) is.few);
@@ -170,7 +170,7 @@ past_turn c f taken t many none h =
     by_test true b k = refl
     by_test false b k = ap (λ x. cond x [] (left_over taken (jobs_of f))) k
 
-pub seen_turns : (c : Checked) (f : Flowing) (taken : List TakenJob) (s : Flow) (r : Result Turn NoMemory) → IsSeen c f s → length s.codes ≡ length s.jobs → IfOk r (IsTurnOf s taken)
+pub seen_turns : (c : Checked) (f : Flowing) (taken : List TakenJob) (s : Flow) (r : Result Turn NoMemory) → IsSeen c f s → length s.terms ≡ length s.jobs → IfOk r (IsTurnOf s taken)
     → IfOk r (IsFreshTurn c f taken)
 seen_turns c f taken s (Ok t) is even h = seen_turn c f taken s t is even h
 seen_turns c f taken s (Err e) is even h = tt

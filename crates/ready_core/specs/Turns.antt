@@ -45,7 +45,7 @@ pub record IsFreshTurn (c : Checked) (f : Flowing) (taken : List TakenJob) (t : 
 pub record IsSeen (c : Checked) (f : Flowing) (seen : Flow) : Type 0 where
   pub few : too_many f ≡ false
   pub jobs : seen.jobs ≡ f.jobs
-  pub codes : map successes_of seen.codes ≡ f.codes
+  pub codes : map successes_of seen.terms ≡ f.codes
   pub faults : seen.faults ≡ f.faults
   pub outputs : seen.outputs ≡ outputs_if_clean c f
 
@@ -69,7 +69,7 @@ unless_fault None jobs = jobs
 
 -- what a flow within its limits comes to
 pub record IsTurnOf (s : Flow) (taken : List TakenJob) (t : Turn) : Type 0 where
-  pub ready : t.ready.items ≡ reverse (unless_fault t.fault (left_over taken (paired s.jobs (map successes_of s.codes))))
+  pub ready : t.ready.items ≡ reverse (unless_fault t.fault (left_over taken (paired s.jobs (map successes_of s.terms))))
   pub fault : t.fault ≡ first_fault s.faults
   pub many : t.many ≡ false
   pub outcome : t.outcome ≡ s.outputs

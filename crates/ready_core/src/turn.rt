@@ -11,8 +11,9 @@ use crate::pending::Pending;
 use crate::taken::Taken;
 use std::alloc::Global;
 use std::sync::ledger::Ledger;
+use wdl_flow::Terms;
 use wdl_plain::{Flow, PlainFault, flow_now};
-use wdl_typed::{Checked, Success};
+use wdl_typed::Checked;
 use wdl_value::{Entry, Env, Fault, Items, NoMemory, Request, Steps, Text};
 
 /// What a run is of.
@@ -37,16 +38,16 @@ pub struct Turn {
 fn offer<'a>(
     alloc: Global,
     request: Request,
-    codes: Success,
+    terms: Terms,
     taken: &Taken<'a>,
     ready: &mut Vec<Pending>,
 ) -> Result<(), NoMemory>
-    ensures offered { OnOk result (ready.new.items ≡ ready.old.items ++ turns.offered taken.now (record { request = request; codes = successes_of codes })) }
+    ensures offered { OnOk result (ready.new.items ≡ ready.old.items ++ turns.offered taken.now (record { request = request; codes = successes_of terms })) }
 {
     if taken.has(&request) {
         return Ok(());
     }
-    let pending = Pending::new(alloc, request, codes)?;
+    let pending = Pending::new(alloc, request, terms)?;
     ready.push(pending)?;
     Ok(())
 }
@@ -55,18 +56,18 @@ fn offer<'a>(
 fn ready_among<'a>(
     alloc: Global,
     mut jobs: Items<Request>,
-    mut codes: Items<Success>,
+    mut terms: Items<Terms>,
     taken: &Taken<'a>,
 ) -> Result<Vec<Pending>, NoMemory>
-    requires paired { length codes ≡ length jobs }
-    ensures ready { IfOk result (λ r. r.items ≡ reverse (spec.left_over taken.now (spec.paired jobs (map successes_of codes)))) }
+    requires paired { length terms ≡ length jobs }
+    ensures ready { IfOk result (λ r. r.items ≡ reverse (spec.left_over taken.now (spec.paired jobs (map successes_of terms)))) }
 {
     let mut ready = Vec::new(alloc);
     while let Some(request) = jobs.pop() {
-        let Some(codes) = codes.pop() else {
+        let Some(terms) = terms.pop() else {
             unreachable!();
         };
-        offer(alloc, request, codes, taken, &mut ready)?;
+        offer(alloc, request, terms, taken, &mut ready)?;
     }
     Ok(ready)
 }
@@ -75,14 +76,14 @@ fn ready_among<'a>(
 fn ready_of(
     alloc: Global,
     jobs: Items<Request>,
-    codes: Items<Success>,
+    terms: Items<Terms>,
     taken: &[Job],
 ) -> Result<Vec<Pending>, NoMemory>
-    requires paired { length codes ≡ length jobs }
-    ensures ready { IfOk result (λ r. r.items ≡ reverse (spec.left_over taken.now (spec.paired jobs (map successes_of codes)))) }
+    requires paired { length terms ≡ length jobs }
+    ensures ready { IfOk result (λ r. r.items ≡ reverse (spec.left_over taken.now (spec.paired jobs (map successes_of terms)))) }
 {
     let taken = Taken::new(alloc, taken)?;
-    ready_among(alloc, jobs, codes, &taken)
+    ready_among(alloc, jobs, terms, &taken)
 }
 
 /// A flow past its limits.
@@ -114,33 +115,33 @@ fn ready_unless(
     alloc: Global,
     fault: &Option<Fault>,
     jobs: Items<Request>,
-    codes: Items<Success>,
+    terms: Items<Terms>,
     taken: &[Job],
 ) -> Result<Vec<Pending>, NoMemory>
-    requires paired { length codes ≡ length jobs }
-    ensures ready { IfOk result (λ r. r.items ≡ reverse (turns.unless_fault fault.now (spec.left_over taken.now (spec.paired jobs (map successes_of codes))))) }
+    requires paired { length terms ≡ length jobs }
+    ensures ready { IfOk result (λ r. r.items ≡ reverse (turns.unless_fault fault.now (spec.left_over taken.now (spec.paired jobs (map successes_of terms))))) }
 {
     match fault {
         Some(_) => Ok(Vec::new(alloc)),
-        None => ready_of(alloc, jobs, codes, taken),
+        None => ready_of(alloc, jobs, terms, taken),
     }
 }
 
 /// What a flow within its limits comes to.
 fn turn_of(alloc: Global, flow: Flow, taken: &[Job]) -> Result<Turn, NoMemory>
-    requires paired { length flow.codes ≡ length flow.jobs }
+    requires paired { length flow.terms ≡ length flow.jobs }
     ensures turn { IfOk result (turns.IsTurnOf flow taken.now) }
 {
     let Flow {
         known: _,
         jobs,
-        codes,
+        terms,
         faults,
         waits: _,
         outputs,
     } = flow;
     let fault = first_of(faults);
-    let ready = ready_unless(alloc, &fault, jobs, codes, taken)?;
+    let ready = ready_unless(alloc, &fault, jobs, terms, taken)?;
     Ok(Turn {
         ready,
         fault,
@@ -160,7 +161,7 @@ fn flow_over<S: Ledger>(
     requires main { IsSome over.now.checked.main }
     requires fit { (k : ℕ) (main : FlowDef) → over.now.checked.main ≡ Some k → slice_get over.now.checked.flows k ≡ Some main → inputs_fit over.now.checked.structs main.inputs over.now.inputs ≡ true }
     ensures seen { turns.Sees over.now.checked (flow_after over.now.checked over.now.inputs over.now.site journal.now) result }
-    ensures paired { IfOk result (λ f. length f.codes ≡ length f.jobs) }
+    ensures paired { IfOk result (λ f. length f.terms ≡ length f.jobs) }
 {
     flow_now(
         alloc,

@@ -8,9 +8,9 @@ pub loop-request-preserved : goal.loop-request-preserved
 loop-request-preserved c =
     let l = c.loop-request in
     let jobs = c.pop.new.self in
-    let codes = c.pop-in-Some.new.self in (
-      omega (arith, l.invariant.0, ap length c.in-Some.ensures, ap length c.in-Some-pop.ensures, length-append jobs (c.in-Some.request ∷ []), length-append codes (c.in-Some-pop.codes ∷ [])),
-      offers c.args.taken.now (reverse (left_over c.args.taken.now (paired c.args.jobs (map successes_of c.args.codes)))) l.ready.items l.jobs jobs l.codes codes c.in-Some.request c.in-Some-pop.codes
+    let terms = c.pop-in-Some.new.self in (
+      omega (arith, l.invariant.0, ap length c.in-Some.ensures, ap length c.in-Some-pop.ensures, length-append jobs (c.in-Some.request ∷ []), length-append terms (c.in-Some-pop.terms ∷ [])),
+      offers c.args.taken.now (reverse (left_over c.args.taken.now (paired c.args.jobs (map successes_of c.args.terms)))) l.ready.items l.jobs jobs l.terms terms c.in-Some.request c.in-Some-pop.terms
           c.in-Some.ensures c.in-Some-pop.ensures l.invariant.0 l.invariant.1
-          ∙ ap (λ ready. ready ++ reverse (left_over c.args.taken.now (paired jobs (map successes_of codes)))) (sym c.in_ok-offer.ensures.offered),
+          ∙ ap (λ ready. ready ++ reverse (left_over c.args.taken.now (paired jobs (map successes_of terms)))) (sym c.in_ok-offer.ensures.offered),
     )
