@@ -13,9 +13,11 @@ use Rattle.wdl_typed.specs.declared.flow.TCall.{TCall}
 use Rattle.wdl_typed.specs.declared.flow.Target.{Target}
 use Rattle.wdl_typed.specs.declared.flow.Target.TheVariants as target
 use Rattle.wdl_typed.specs.declared.task.TaskDef.{TaskDef}
+use Rattle.wdl_typed.specs.Bodies.{Library}
 use Rattle.wdl_typed.specs.Flow.{Callee, Flowing, Run, Sight, all_values, args_known, args_met, call_of, called, env_of, has_ended, missing, with_args}
 use Rattle.wdl_typed.specs.KnownTypes.{is_some}
 use Rattle.wdl_typed.specs.Requests.{Failing, Tried}
+use Rattle.net_laws.specs.Cost.{CalleeCost, TaskCost, called_cost, met_cost}
 use Rattle.net_laws.specs.Net.{Cells, Given, Scope}
 use Rattle.net_laws.specs.Planned.{call_names}
 use Rattle.net_laws.specs.Growing.{Rule, copies, declares, does, ends, gathers}
@@ -40,6 +42,18 @@ plain_same r callee other x y plain =
         ap (λ (g : Target). called r callee (call_names r.library x) (y.place ++ segment.Call x.name ∷ []) x args g) h.2
         ∙ sym (ap (λ (g : Target). called r other (call_names r.library x) (y.place ++ segment.Call x.name ∷ []) x args g) h.2)
     by_args (Ok args) (inr h) = let e : Ok args ≡ Err h.0 = h.1 in absurd (apart e)
+
+-- What such a call costs does not depend on other workflows.
+pub price_same : (lib : Library) (task : TaskCost) (price other : CalleeCost) (place : List Segment) (x : TCall) (o : Tried (List Bind))
+    → ((k : ℕ) × (t : TaskDef) × (x.target ≡ target.Task k) × (slice_get lib.tasks k ≡ Some t)) ⊎ ((e : Failing) × (o ≡ Err e))
+    → met_cost (called_cost lib task price place x.target) o ≡ met_cost (called_cost lib task other place x.target) o
+price_same lib task price other place x (Err e) h = refl
+price_same lib task price other place x (Ok args) (inl h) =
+    ap (λ (g : Target). called_cost lib task price place g args) h.2 ∙ sym (ap (λ (g : Target). called_cost lib task other place g args) h.2)
+price_same lib task price other place x (Ok args) (inr h) = absurd (not_both h.1)
+  where
+    not_both : {A B : Type 0} {a : A} {b : B} → Ok a ≡ Err b → ⊥
+    not_both e = cc
 
 -- Cells whose values make a list are set.
 pub listed : (cells other : Cells) → ((c : ℕ) → is_some (cells c) ≡ true → other c ≡ cells c) → (cs : List ℕ) (xs : List Value) → all_values (map cells cs) ≡ Some xs → map other cs ≡ map cells cs

@@ -113,7 +113,7 @@ module _ (lib : Library) (site : List ℕ) (table : List Row) (desc : ℕ → Ru
   outside_keys : (depth : ℕ) (xs : List Statement) (g : Given) → IsOutside lib site table desc st xs g → keys_distinct (names_in run (callee depth) xs).keys ≡ true
   outside_keys depth xs g o = ap (λ (n : Names). keys_distinct n.keys) (given_same lib site table (callee depth) xs) ∙ o.keys
 
-  outside_missing : (depth t : ℕ) (xs : List Statement) (g : Given) (d : ℕ) → IsOutside lib site table desc st xs g → KeepsCells lib site table desc st t g d → missing (names_in run (callee depth) xs) ≡ flowing_of cells g no_work
+  pub outside_missing : (depth t : ℕ) (xs : List Statement) (g : Given) (d : ℕ) → IsOutside lib site table desc st xs g → KeepsCells lib site table desc st t g d → missing (names_in run (callee depth) xs) ≡ flowing_of cells g no_work
   outside_missing depth t xs g d o k =
       ap missing (given_same lib site table (callee depth) xs) ∙ missing_is cells (body_given lib xs) g o.named (kept_unset st t (map slot_cell g.names) k.names) (kept_unset st t (map mark_cell g.calls) k.calls)
 

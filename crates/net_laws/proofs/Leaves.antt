@@ -3,22 +3,20 @@ use Rattle.std.proofs.Common.{◌≡◌, ℕ, Bool, true, false, ◌&&◌, ◌�
 use Rattle.std.specs.List.{list_all}
 use Rattle.std.proofs.lemmas.Bool.{and_cases, and_from, and_left, and_parts, and_right, both_ways, false≢true}
 use Rattle.std.proofs.lemmas.List.Folds.{list_all-append, list_all-map}
-use Rattle.wdl_base.specs.declared.name.Key.{Key}
 use Rattle.wdl_value.specs.declared.value.Value.{Value}
 use Rattle.wdl_value.specs.Tables.{Row}
 use Rattle.wdl_typed.specs.declared.expr.TExpr.{TExpr}
-use Rattle.wdl_typed.specs.declared.expr.TField.{TField}
 use Rattle.wdl_typed.specs.declared.flow.TCall.{TCall}
 use Rattle.wdl_typed.specs.Bodies.{Library}
 use Rattle.wdl_typed.specs.Flow.{Sight, all_known, args_known, declaration, has_ended, is_empty}
 use Rattle.wdl_typed.specs.KnownTypes.{is_some}
-use Rattle.wdl_typed.specs.Scope.{is_among, names_of}
-use Rattle.net_laws.specs.Net.{Mark, Scope, Slot, Work, both_works, ended_in, known_in, slot_keys}
+use Rattle.wdl_typed.specs.Scope.{names_of}
+use Rattle.net_laws.specs.Net.{Mark, Scope, Slot, Work, both_works, ended_in, known_in}
 use Rattle.net_laws.specs.Rules.{Follows, arg_keys}
 use Rattle.net_laws.specs.Growing.{AllStuck, CallNeeded, Declared, Keeps, NamesNeeded, Rule, State, are_set, is_set, mark_cell, only, slot_cell}
 use Rattle.net_laws.specs.Works.{told_work}
 use Rattle.net_laws.proofs.Kept.{stuck_args, stuck_declaration}
-use Rattle.net_laws.proofs.Sets.{AllKnown, Lacks, all_ended_set, all_known_set, lacks, lacks_mark, marks_resolved_set, marks_set, not_all_ended, resolved_set, slots_set}
+use Rattle.net_laws.proofs.Sets.{AllKnown, Lacks, all_ended_set, all_known_set, args_known_set, lacks, lacks_mark, marks_resolved_set, marks_set, not_all_ended, resolved_set, slots_set}
 use Rattle.net_laws.proofs.Settles.{clean, declaration_settles}
 
 -- ---- bools
@@ -66,8 +64,11 @@ module _ (st : State) where
     pub needs_lack : are_set st (st.needs t) ≡ false → Lacks st.cells s.names n.slots (names_of e)
     needs_lack h = lacks st.cells s.names n.slots (names_of e) n.needs.resolved n.uses (slots_are n.slots false (ap (are_set st) (sym n.cells) ∙ h))
 
+    pub needs_slots : are_set st (st.needs t) ≡ true → slots_set st.cells n.slots ≡ true
+    needs_slots h = slots_are n.slots true (ap (are_set st) (sym n.cells) ∙ h)
+
     pub needs_known : are_set st (st.needs t) ≡ true → all_known (map (known_in st.cells) n.slots) e ≡ true
-    needs_known h = all_known_set st.cells n.slots (slots_are n.slots true (ap (are_set st) (sym n.cells) ∙ h)) (names_of e) n.needs.all
+    needs_known h = all_known_set st.cells n.slots (needs_slots h) (names_of e) n.needs.all
 
     -- Where all that is seen is known, no step misses a need.
     pub needs_absurd : are_set st (st.needs t) ≡ false → AllKnown st.cells s → ⊥
@@ -84,12 +85,8 @@ module _ (st : State) where
     split : (b : Bool) → are_set st (st.needs t) ≡ b → are_set st ks && are_set st ms ≡ b
     split b h = sym (list_all-append (is_set st) ks ms) ∙ ap (are_set st) (sym n.cells) ∙ h
 
-    args_set : (as_ : List (TField TExpr)) → slots_set st.cells n.slots ≡ true → list_all (λ (k : Key). is_among k (slot_keys n.slots)) (arg_keys as_) ≡ true → args_known (map (known_in st.cells) n.slots) as_ ≡ true
-    args_set [] h i = refl
-    args_set (a ∷ as_) h i =
-        let p = and_parts (list_all (λ (k : Key). is_among k (slot_keys n.slots)) (names_of a.value)) (list_all (λ (k : Key). is_among k (slot_keys n.slots)) (arg_keys as_))
-        (sym (list_all-append (λ (k : Key). is_among k (slot_keys n.slots)) (names_of a.value) (arg_keys as_)) ∙ i) in
-        and_from (all_known (map (known_in st.cells) n.slots) a.value) (args_known (map (known_in st.cells) n.slots) as_) (all_known_set st.cells n.slots h (names_of a.value) p.0) (args_set as_ h p.1)
+    pub call_slots : are_set st (st.needs t) ≡ true → (slots_set st.cells n.slots ≡ true) × (marks_set st.cells n.marks ≡ true)
+    call_slots h = let p = and_parts (are_set st ks) (are_set st ms) (split true h) in (slots_are n.slots true p.0, marks_are n.marks true p.1)
 
     abbrev pub test : Bool
     test = args_known (map (known_in st.cells) n.slots) x.args && list_all (has_ended (map (ended_in st.cells) n.marks)) x.after
@@ -98,7 +95,7 @@ module _ (st : State) where
     call_ready h =
         let p = and_parts (are_set st ks) (are_set st ms) (split true h) in
         and_from (args_known (map (known_in st.cells) n.slots) x.args) (list_all (has_ended (map (ended_in st.cells) n.marks)) x.after)
-        (args_set x.args (slots_are n.slots true p.0) n.needs.names.all) (all_ended_set st.cells n.marks (marks_are n.marks true p.1) x.after n.needs.after)
+        (args_known_set st.cells n.slots (slots_are n.slots true p.0) x.args n.needs.names.all) (all_ended_set st.cells n.marks (marks_are n.marks true p.1) x.after n.needs.after)
 
     pub call_not_ready : are_set st (st.needs t) ≡ false → test ≡ false
     call_not_ready h = by_case (and_cases (are_set st ks) (are_set st ms) (split false h))

@@ -14,4 +14,12 @@ pub mod Leaves
 pub mod Finished
 pub mod Spent
 pub mod Calls
+pub mod Callable
+pub mod Even
+pub mod Places
+pub mod Asking
 pub mod Moves
+pub mod Giving
+pub mod Further
+pub mod Joined
+pub mod Beneath

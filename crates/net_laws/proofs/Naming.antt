@@ -36,10 +36,10 @@ module _ (lib : Library) (site : List ℕ) (table : List Row) (callee : Callee) 
   abbrev none : Callee
   none k given place = nothing
 
-  abbrev name_of : Statement → Names
+  abbrev pub name_of : Statement → Names
   name_of st = (part_of bare none st).names
 
-  abbrev Holds : Statement → Type 0
+  abbrev pub Holds : Statement → Type 0
   Holds st = (part_of here callee st).names ≡ name_of st
 
   abbrev Both : Type 0
@@ -62,7 +62,7 @@ module _ (lib : Library) (site : List ℕ) (table : List Row) (callee : Callee) 
   layer_same (layer.Scatter b) = ap all_given (lists_same b.body)
   layer_same (layer.If b) = ap all_given (lists_same b.body)
 
-  name_same : (st : Statement) → Holds st
+  pub name_same : (st : Statement) → Holds st
   name_same = ind-Statement Holds (λ x y is. subst (λ (z : Statement-F Statement). Holds (roll-Statement z)) is
       (ap names_of_part (fold-roll-Statement Part (statement_step here callee) (plain y))
       ∙ layer_same y

@@ -7,12 +7,15 @@ use Rattle.std.proofs.lemmas.List.Folds.{list_all-append}
 use Rattle.std.proofs.lemmas.Slice.Eq.{bytes_eq-Decides}
 use Rattle.wdl_base.specs.declared.name.Key.{Key}
 use Rattle.wdl_value.specs.declared.value.Value.{Value}
-use Rattle.wdl_typed.specs.Flow.{Ended, Flowing, Known, Names, bound_by, each_call, each_key, env_of, has_ended, is_known, missing}
+use Rattle.wdl_typed.specs.declared.expr.TExpr.{TExpr}
+use Rattle.wdl_typed.specs.declared.expr.TField.{TField}
+use Rattle.wdl_typed.specs.Flow.{Ended, Flowing, Known, Names, all_known, args_known, bound_by, each_call, each_key, env_of, has_ended, is_known, missing}
 use Rattle.wdl_typed.specs.KnownTypes.{is_some}
 use Rattle.wdl_typed.specs.Lists.{has_name}
-use Rattle.wdl_typed.specs.Scope.{is_among, lookup, same_key}
+use Rattle.wdl_typed.specs.Scope.{is_among, lookup, names_of, same_key}
 use Rattle.flow_laws.proofs.Keys.{key_itself}
 use Rattle.net_laws.specs.Net.{Cells, Given, Mark, MarksResolved, Resolved, Scope, Slot, beyond, ended_in, find, find_call, flowing_of, known_in, mark_calls, no_work, slot_keys}
+use Rattle.net_laws.specs.Rules.{arg_keys}
 use Rattle.net_laws.specs.Growing.{AreAfter, AreUsed, IsNamed, mark_cell, slot_cell}
 use Rattle.net_laws.proofs.Lookups.{ended_at, ended_needed, value_at}
 
@@ -108,6 +111,13 @@ module _ (cells : Cells) where
   all_known_set ns h (k ∷ keys) i =
       let p = and_parts (is_among k (slot_keys ns)) (list_all (λ (j : Key). is_among j (slot_keys ns)) keys) i in
       and_from (is_known (map (known_in cells) ns) k) (list_all (is_known (map (known_in cells) ns)) keys) (known_at ns h k p.0) (all_known_set ns h keys p.1)
+
+  pub args_known_set : (ns : List Slot) → slots_set ns ≡ true → (as_ : List (TField TExpr)) → list_all (λ (k : Key). is_among k (slot_keys ns)) (arg_keys as_) ≡ true → args_known (map (known_in cells) ns) as_ ≡ true
+  args_known_set ns h [] i = refl
+  args_known_set ns h (a ∷ as_) i =
+      let p = and_parts (list_all (λ (k : Key). is_among k (slot_keys ns)) (names_of a.value)) (list_all (λ (k : Key). is_among k (slot_keys ns)) (arg_keys as_))
+      (sym (list_all-append (λ (k : Key). is_among k (slot_keys ns)) (names_of a.value) (arg_keys as_)) ∙ i) in
+      and_from (all_known (map (known_in cells) ns) a.value) (args_known (map (known_in cells) ns) as_) (all_known_set ns h (names_of a.value) p.0) (args_known_set ns h as_ p.1)
 
   ended_among : (ms : List Mark) → marks_set ms ≡ true → (call : List ℕ) → has_name call (mark_calls ms) ≡ true → has_ended (map (ended_in cells) ms) call ≡ true
   ended_among [] h call i = absurd (false≢true i)

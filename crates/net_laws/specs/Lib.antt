@@ -5,4 +5,6 @@ pub mod Planned
 pub mod Laws
 pub mod Growing
 pub mod Works
+pub mod Roots
+pub mod Askers
 pub mod Moving

@@ -60,6 +60,9 @@ module _ (lib : Library) (site : List ℕ) (table : List Row) (desc : ℕ → Ru
       if args_known (map (known_in st.cells) ns) x.args && list_all (has_ended (map (ended_in st.cells) ms)) x.after
       then length x.args + met_cost (called_cost lib task price (s.place ++ segment.Call x.name ∷ []) x.target) (args_met (env_of (map (known_in st.cells) ns)) x.args) else 0
 
+  abbrev pub asked_count : TaskCost → ℕ → Scope → TCall → List Slot → List Mark → ℕ
+  asked_count task depth s x ns ms = call_count task (flow_cost (run_with lib site table) task depth) s x ns ms
+
   -- what the taken steps evaluate: a step whose expression was evaluated counts once
   abbrev pub evaluated : TaskCost → {depth : ℕ} {f : Form} → Growing lib site table desc st depth f → ℕ
   evaluated task (none_left depth s) = 0
@@ -69,7 +72,7 @@ module _ (lib : Library) (site : List ℕ) (table : List Row) (desc : ℕ → Ru
   evaluated task (left_scatter depth x s g d t left n outside k) = 0
   evaluated task (left_if depth x s g d t left n outside k) = 0
   evaluated task (told_decl depth x s c t w taken n set own follows) = 1
-  evaluated task (told_call depth x s g d t w taken n set is ends own plain follows) = call_count task (flow_cost (run_with lib site table) task depth) s x n.slots n.marks
+  evaluated task (told_call depth x s g d t w taken n set is ends own plain follows) = asked_count task depth s x n.slots n.marks
   evaluated task (run_call depth x s g h d t ds taken n set k is f found args met names ends distinct p copied ended) = length x.args + evaluated task p
   evaluated task (failed_scatter depth x s g d t c taken n set e outside k) = 1
   evaluated task (each_scatter depth x s g d t y qs taken n set e outside p names calls ended) = 1 + evaluated task p

@@ -11,20 +11,24 @@ use Rattle.wdl_typed.specs.Flow.{Sight, declaration}
 use Rattle.wdl_typed.specs.Scope.{names_of}
 use Rattle.value_net.specs.Nets.{value_at}
 use Rattle.net_laws.specs.Growing.{Form, NamesNeeded, Rule, copies, declares, does, ends, gathers, only, told_decl}
-use Rattle.net_laws.specs.Moving.{Turn, TurnLeaves, TurnWeighs, hit}
+use Rattle.net_laws.specs.Askers.{askers}
+use Rattle.net_laws.specs.Moving.{Turn, TurnLeaves, TurnSpends, TurnWeighs, hit}
+use Rattle.net_laws.specs.Cost.{TaskCost}
 use Rattle.net_laws.specs.Net.{Given, Scope, Work, ended_in, known_in}
 use Rattle.net_laws.specs.Rules.{Follows}
 use Rattle.net_laws.proofs.Local.{declaration_same}
 use Rattle.net_laws.proofs.Lookups.{agree}
-use Rattle.net_laws.proofs.Moves.{leaves, moved, weighed}
+use Rattle.net_laws.specs.Roots.{IsRoot}
+use Rattle.net_laws.proofs.Callable.{root_callable}
+use Rattle.net_laws.proofs.Moves.{leaves, moved, spends, weighed}
 use Rattle.net_laws.proofs.Shown.{shows_declaration}
 use Rattle.plan_moves.specs.Laws.{DeclarationsMove, DefaultsMove, HasMoved, IsOnce, Tells}
-use Rattle.plan_moves.specs.Sheets.{Grown, IsMove, Sheet, rules_of, state_of}
-use Rattle.plan_moves.proofs.Kept.{done_now, grows, hit_other, names_now, not_done, plus_zero, set_now, spares, zero_plus}
+use Rattle.plan_moves.specs.Sheets.{Grown, Holds, IsMove, Sheet, rules_of, state_of}
+use Rattle.plan_moves.proofs.Kept.{done_now, grows, hit_other, names_now, not_done_at, plus_zero, set_now, spares, zero_plus, rows_same}
 use Rattle.plan_moves.proofs.Apart.{call_kind, if_kind, kind, layer_kind, scatter_kind}
 use Rattle.plan_moves.proofs.Turns.{same_kind, same_some, turn}
 
-module _ (lib : Library) (site : List ℕ) (rows : List Row) (t : ℕ) (a : Sheet) (mine : List ℕ) (b : Sheet) (theirs : List ℕ) (m : IsMove t a mine b theirs) (w : Work) where
+module _ (lib : Library) (site : List ℕ) (rows : List Row) (t : ℕ) (a : Sheet) (mine : List ℕ) (b : Sheet) (theirs : List ℕ) (m : IsMove t a mine b theirs) (holds : Holds t mine theirs) (w : Work) where
   -- ---- what the rule tells
 
   abbrev Layer : Statement-F Statement → Scope → Given → ℕ → Type 0
@@ -90,7 +94,7 @@ module _ (lib : Library) (site : List ℕ) (rows : List Row) (t : ℕ) (a : Shee
     turned =
         turn lib site rows t a mine b theirs m r is
         (λ z depth x s c left n k.
-        told_decl depth x s c t w (done_now lib site rows t a mine b theirs m (does (stmt.Decl x) s (only x.name c) c) left.rule) (names_now lib site rows t a mine b theirs m s x.value n) (set_now lib site rows t a mine b theirs m) (m.owners c t k.0)
+        told_decl depth x s c t w (done_now lib site rows t a mine b theirs m (does (stmt.Decl x) s (only x.name c) c) left.rule) (names_now lib site rows t a mine b theirs m s x.value n) (set_now lib site rows t a mine b theirs m) (holds c k.0)
         (follows_now x.name x.value s c (back x s (only x.name c) c (told_of (does (stmt.Decl x) s (only x.name c) c) left.rule)) n))
         (λ e. absurd (apart 1 e (λ z. omega (arith, z)) (λ z. omega (arith, z)))) (λ e. absurd (apart 2 e (λ z. omega (arith, z)) (λ z. omega (arith, z))))
         (λ e. absurd (apart 3 e (λ z. omega (arith, z)) (λ z. omega (arith, z))))
@@ -100,7 +104,7 @@ module _ (lib : Library) (site : List ℕ) (rows : List Row) (t : ℕ) (a : Shee
           inr (record {
             taken = done_now lib site rows t a mine b theirs m (declares name e s c) left.rule;
             set = set_now lib site rows t a mine b theirs m;
-            own = m.owners c t k.0;
+            own = holds c k.0;
             work = w;
             follows = follows_now name e s c (told_of (declares name e s c) left.rule) n;
           }),
@@ -112,39 +116,55 @@ module _ (lib : Library) (site : List ℕ) (rows : List Row) (t : ℕ) (a : Shee
     adds weight =
         record {
           decl = λ depth x s c left n k. plus_zero (weight w);
-          call = λ depth x s g d left n q at k. absurd (other (does (stmt.Call x) s g d) 1 left.rule (call_kind x s g d) (λ z. omega (arith, z)) (λ z. omega (arith, z)));
+          call = λ depth x s g d left n q at k runs. absurd (other (does (stmt.Call x) s g d) 1 left.rule (call_kind x s g d) (λ z. omega (arith, z)) (λ z. omega (arith, z)));
           scatter = λ depth x s g d left n q k. absurd (other (does (stmt.Scatter x) s g d) 2 left.rule (scatter_kind x s g d) (λ z. omega (arith, z)) (λ z. omega (arith, z)));
           condition = λ depth x s g d left n q k. absurd (other (does (stmt.If x) s g d) 3 left.rule (if_kind x s g d) (λ z. omega (arith, z)) (λ z. omega (arith, z)));
           declared = λ name e s c left n k. plus_zero (weight w);
-          told = λ depth x s g d v q. absurd (not_done lib site rows t a mine b theirs m q.done.done);
+          told = λ u e depth x s g d v q. absurd (not_done_at lib site rows t a mine b theirs m u e q.done.done);
         }
 
     keeps : (v k : ℕ) → (v ≡ t → ⊥) → TurnLeaves lib site rows rows (rules_of a) (rules_of b) (state_of a mine) (state_of b theirs) t turned v k 0 0
     keeps v k ne =
         record {
           decl = λ depth x s c left n q. zero_plus (hit v k t) (hit_other v k t ne);
-          call = λ depth x s g d left n q at k_. absurd (other (does (stmt.Call x) s g d) 1 left.rule (call_kind x s g d) (λ z. omega (arith, z)) (λ z. omega (arith, z)));
+          call = λ depth x s g d left n q at k_ runs. absurd (other (does (stmt.Call x) s g d) 1 left.rule (call_kind x s g d) (λ z. omega (arith, z)) (λ z. omega (arith, z)));
           scatter = λ depth x s g d left n q k_. absurd (other (does (stmt.Scatter x) s g d) 2 left.rule (scatter_kind x s g d) (λ z. omega (arith, z)) (λ z. omega (arith, z)));
           condition = λ depth x s g d left n q k_. absurd (other (does (stmt.If x) s g d) 3 left.rule (if_kind x s g d) (λ z. omega (arith, z)) (λ z. omega (arith, z)));
           declared = λ name e s c left n q. zero_plus (hit v k t) (hit_other v k t ne);
-          told = λ depth x s g d v_ q. absurd (not_done lib site rows t a mine b theirs m q.done.done);
+          told = λ u e depth x s g d v_ q. absurd (not_done_at lib site rows t a mine b theirs m u e q.done.done);
         }
 
-    pub told : (depth : ℕ) (f : Form) (p : Grown lib site rows a mine depth f) → IsOnce lib site rows t a mine b theirs p → HasMoved lib site rows t a mine b theirs w depth f p
-    told depth f p once =
+    costs : (task : TaskCost) → TurnSpends lib site rows rows (rules_of a) (rules_of b) (state_of a mine) (state_of b theirs) t turned task 0 1
+    costs task =
         record {
-          grown = moved lib site rows rows (rules_of a) (rules_of b) (state_of a mine) (state_of b theirs) t (grows lib site rows t a mine b theirs m) (spares lib site rows t a mine b theirs m) turned p;
+          decl = λ depth x s c left n k. refl;
+          call = λ depth x s g d left n q at k runs. absurd (other (does (stmt.Call x) s g d) 1 left.rule (call_kind x s g d) (λ z. omega (arith, z)) (λ z. omega (arith, z)));
+          scatter = λ depth x s g d left n q k. absurd (other (does (stmt.Scatter x) s g d) 2 left.rule (scatter_kind x s g d) (λ z. omega (arith, z)) (λ z. omega (arith, z)));
+          condition = λ depth x s g d left n q k. absurd (other (does (stmt.If x) s g d) 3 left.rule (if_kind x s g d) (λ z. omega (arith, z)) (λ z. omega (arith, z)));
+          declared = λ name e s c left n k. refl;
+          told = λ u e depth x s g d v q. absurd (not_done_at lib site rows t a mine b theirs m u e q.done.done);
+        }
+
+    pub told : (depth : ℕ) (f : Form) (root : IsRoot lib depth f) (p : Grown lib site rows a mine depth f) → IsOnce lib site rows t a mine b theirs p → HasMoved lib site rows t a mine b theirs w 1 depth f p
+    told depth f root p once =
+        record {
+          grown = moved lib site rows rows (rules_of a) (rules_of b) (state_of a mine) (state_of b theirs) t (grows lib site rows t a mine b theirs m) (spares lib site rows t a mine b theirs m) turned p (root_callable lib depth f root) (rows_same lib site rows t a mine b theirs m (askers lib site rows (rules_of a) (state_of a mine) p));
           weighs = λ weight i.
-              let e = weighed lib site rows rows (rules_of a) (rules_of b) (state_of a mine) (state_of b theirs) t (grows lib site rows t a mine b theirs m) (spares lib site rows t a mine b theirs m) turned weight i 0 (weight w) (adds weight) p in
+              let e = weighed lib site rows rows (rules_of a) (rules_of b) (state_of a mine) (state_of b theirs) t (grows lib site rows t a mine b theirs m) (spares lib site rows t a mine b theirs m) turned weight i 0 (weight w) (adds weight) p (root_callable lib depth f root) (rows_same lib site rows t a mine b theirs m (askers lib site rows (rules_of a) (state_of a mine) p)) in
               let none = once 0 in
               let all = once (weight w) in
               omega (arith, e, none, all);
-          leaves = λ v k n. let e = leaves lib site rows rows (rules_of a) (rules_of b) (state_of a mine) (state_of b theirs) t (grows lib site rows t a mine b theirs m) (spares lib site rows t a mine b theirs m) turned v k 0 0 (keeps v k n) p in omega (arith, e);
+          leaves = λ v k n. let e = leaves lib site rows rows (rules_of a) (rules_of b) (state_of a mine) (state_of b theirs) t (grows lib site rows t a mine b theirs m) (spares lib site rows t a mine b theirs m) turned v k 0 0 (keeps v k n) p (root_callable lib depth f root) (rows_same lib site rows t a mine b theirs m (askers lib site rows (rules_of a) (state_of a mine) p)) in omega (arith, e);
+          spends = λ task.
+              let e = spends lib site rows rows (rules_of a) (rules_of b) (state_of a mine) (state_of b theirs) t (grows lib site rows t a mine b theirs m) (spares lib site rows t a mine b theirs m) turned task 0 1 (costs task) p (root_callable lib depth f root) (rows_same lib site rows t a mine b theirs m (askers lib site rows (rules_of a) (state_of a mine) p)) in
+              let none = once 0 in
+              let all = once 1 in
+              omega (arith, e, none, all);
         }
 
 pub declarations : DeclarationsMove
-declarations lib site rows t a mine b theirs m x s c w is h depth f p once =
-    told lib site rows t a mine b theirs m w (does (stmt.Decl x) s (only x.name c) c) is (into lib site rows t a mine b theirs m w x s (only x.name c) c h) depth f p once
+declarations lib site rows t a mine b theirs m holds x s c w is h depth f root p once =
+    told lib site rows t a mine b theirs m holds w (does (stmt.Decl x) s (only x.name c) c) is (into lib site rows t a mine b theirs m holds w x s (only x.name c) c h) depth f root p once
 
 pub defaults : DefaultsMove
-defaults lib site rows t a mine b theirs m name e s c w is h depth f p once = told lib site rows t a mine b theirs m w (declares name e s c) is h depth f p once
+defaults lib site rows t a mine b theirs m holds name e s c w is h depth f root p once = told lib site rows t a mine b theirs m holds w (declares name e s c) is h depth f root p once

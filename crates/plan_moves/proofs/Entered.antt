@@ -8,17 +8,21 @@ use Rattle.wdl_typed.specs.declared.flow.TIf.{TIf}
 use Rattle.wdl_typed.specs.declared.flow.TScatter.{TScatter}
 use Rattle.wdl_typed.specs.Bodies.{Library}
 use Rattle.net_laws.specs.Growing.{Form, Rule, copies, declares, does, each_scatter, ends, gathers, only, true_if}
-use Rattle.net_laws.specs.Moving.{IsWeight, Turn, TurnLeaves, TurnWeighs, hit}
+use Rattle.net_laws.specs.Askers.{askers}
+use Rattle.net_laws.specs.Moving.{IsWeight, Turn, TurnLeaves, TurnSpends, TurnWeighs, hit}
+use Rattle.net_laws.specs.Cost.{TaskCost}
 use Rattle.net_laws.specs.Net.{Given, Scope, Work}
-use Rattle.net_laws.proofs.Moves.{leaves, moved, weighed}
+use Rattle.net_laws.specs.Roots.{IsRoot}
+use Rattle.net_laws.proofs.Callable.{root_callable}
+use Rattle.net_laws.proofs.Moves.{leaves, moved, spends, weighed}
 use Rattle.plan_moves.specs.Laws.{BlocksEnter, EntersIf, EntersScatter, HasEntered, IsOnce}
 use Rattle.plan_moves.specs.Sheets.{Grown, IsMove, Sheet, rules_of, state_of}
 use Rattle.plan_moves.proofs.Apart.{call_kind, decl_kind, kind, layer_kind}
-use Rattle.plan_moves.proofs.Kept.{done_now, grows, head_now, hit_other, names_now, not_done, plus_zero, set_now, spares}
+use Rattle.plan_moves.proofs.Kept.{done_now, grows, head_now, hit_other, names_now, no_less, not_done_at, plus_zero, set_now, spares, rows_same}
 use Rattle.plan_moves.proofs.Turns.{same_kind, same_some, turn}
 
-no_less : (n l k : ℕ) → n ≡ l → k ≡ 0 → n + 0 ≡ k + l
-no_less n l k e z = omega (arith, e, z)
+head_alone : (n : ℕ) → n ≡ 0 → (1 + n) + 0 ≡ 1
+head_alone n e = omega (arith, e)
 
 module _ (lib : Library) (site : List ℕ) (rows : List Row) (t : ℕ) (a : Sheet) (mine : List ℕ) (b : Sheet) (theirs : List ℕ) (m : IsMove t a mine b theirs) (w : Work) (new : ℕ → ℕ → ℕ) where
   -- ---- what the rule tells
@@ -93,45 +97,61 @@ module _ (lib : Library) (site : List ℕ) (rows : List Row) (t : ℕ) (a : Shee
     adds weight i =
         record {
           decl = λ depth x s c left n k. absurd (other (does (stmt.Decl x) s (only x.name c) c) 0 left.rule (decl_kind x s (only x.name c) c) (λ z. omega (arith, z)) (λ z. omega (arith, z)));
-          call = λ depth x s g d left n q at k. absurd (other (does (stmt.Call x) s g d) 1 left.rule (call_kind x s g d) (λ z. omega (arith, z)) (λ z. omega (arith, z)));
+          call = λ depth x s g d left n q at k runs. absurd (other (does (stmt.Call x) s g d) 1 left.rule (call_kind x s g d) (λ z. omega (arith, z)) (λ z. omega (arith, z)));
           scatter = λ depth x s g d left n out k. plus_zero _ ∙ (of_scatter x s g d left.rule).work depth weight i;
           condition = λ depth x s g d left n out k. plus_zero _ ∙ (of_if x s g d left.rule).work depth weight i;
           declared = λ name e s c left n k. absurd (other (declares name e s c) 4 left.rule refl (λ z. omega (arith, z)) (λ z. omega (arith, z)));
-          told = λ depth x s g d v q. absurd (not_done lib site rows t a mine b theirs m q.done.done);
+          told = λ u e depth x s g d v q. absurd (not_done_at lib site rows t a mine b theirs m u e q.done.done);
         }
 
     keeps : (v k : ℕ) → (v ≡ t → ⊥) → TurnLeaves lib site rows rows (rules_of a) (rules_of b) (state_of a mine) (state_of b theirs) t turned v k 0 (new v k)
     keeps v k ne =
         record {
           decl = λ depth x s c left n q. absurd (other (does (stmt.Decl x) s (only x.name c) c) 0 left.rule (decl_kind x s (only x.name c) c) (λ z. omega (arith, z)) (λ z. omega (arith, z)));
-          call = λ depth x s g d left n q at k_. absurd (other (does (stmt.Call x) s g d) 1 left.rule (call_kind x s g d) (λ z. omega (arith, z)) (λ z. omega (arith, z)));
+          call = λ depth x s g d left n q at k_ runs. absurd (other (does (stmt.Call x) s g d) 1 left.rule (call_kind x s g d) (λ z. omega (arith, z)) (λ z. omega (arith, z)));
           scatter = λ depth x s g d left n q k_. no_less _ (new v k) (hit v k t) ((of_scatter x s g d left.rule).leaves depth v k) (hit_other v k t ne);
           condition = λ depth x s g d left n q k_. no_less _ (new v k) (hit v k t) ((of_if x s g d left.rule).leaves depth v k) (hit_other v k t ne);
           declared = λ name e s c left n q. absurd (other (declares name e s c) 4 left.rule refl (λ z. omega (arith, z)) (λ z. omega (arith, z)));
-          told = λ depth x s g d v_ q. absurd (not_done lib site rows t a mine b theirs m q.done.done);
+          told = λ u e depth x s g d v_ q. absurd (not_done_at lib site rows t a mine b theirs m u e q.done.done);
         }
 
-    pub entered : (depth : ℕ) (f : Form) (p : Grown lib site rows a mine depth f) → IsOnce lib site rows t a mine b theirs p → HasEntered lib site rows t a mine b theirs w new depth f p
-    entered depth f p once =
+    costs : (task : TaskCost) → TurnSpends lib site rows rows (rules_of a) (rules_of b) (state_of a mine) (state_of b theirs) t turned task 0 1
+    costs task =
         record {
-          grown = moved lib site rows rows (rules_of a) (rules_of b) (state_of a mine) (state_of b theirs) t (grows lib site rows t a mine b theirs m) (spares lib site rows t a mine b theirs m) turned p;
+          decl = λ depth x s c left n k. absurd (other (does (stmt.Decl x) s (only x.name c) c) 0 left.rule (decl_kind x s (only x.name c) c) (λ z. omega (arith, z)) (λ z. omega (arith, z)));
+          call = λ depth x s g d left n q at k runs. absurd (other (does (stmt.Call x) s g d) 1 left.rule (call_kind x s g d) (λ z. omega (arith, z)) (λ z. omega (arith, z)));
+          scatter = λ depth x s g d left n out k. head_alone _ ((of_scatter x s g d left.rule).spends depth task);
+          condition = λ depth x s g d left n out k. head_alone _ ((of_if x s g d left.rule).spends depth task);
+          declared = λ name e s c left n k. absurd (other (declares name e s c) 4 left.rule refl (λ z. omega (arith, z)) (λ z. omega (arith, z)));
+          told = λ u e depth x s g d v q. absurd (not_done_at lib site rows t a mine b theirs m u e q.done.done);
+        }
+
+    pub entered : (depth : ℕ) (f : Form) (root : IsRoot lib depth f) (p : Grown lib site rows a mine depth f) → IsOnce lib site rows t a mine b theirs p → HasEntered lib site rows t a mine b theirs w new 1 depth f p
+    entered depth f root p once =
+        record {
+          grown = moved lib site rows rows (rules_of a) (rules_of b) (state_of a mine) (state_of b theirs) t (grows lib site rows t a mine b theirs m) (spares lib site rows t a mine b theirs m) turned p (root_callable lib depth f root) (rows_same lib site rows t a mine b theirs m (askers lib site rows (rules_of a) (state_of a mine) p));
           weighs = λ weight i.
-              let e = weighed lib site rows rows (rules_of a) (rules_of b) (state_of a mine) (state_of b theirs) t (grows lib site rows t a mine b theirs m) (spares lib site rows t a mine b theirs m) turned weight i 0 (weight w) (adds weight i) p in
+              let e = weighed lib site rows rows (rules_of a) (rules_of b) (state_of a mine) (state_of b theirs) t (grows lib site rows t a mine b theirs m) (spares lib site rows t a mine b theirs m) turned weight i 0 (weight w) (adds weight i) p (root_callable lib depth f root) (rows_same lib site rows t a mine b theirs m (askers lib site rows (rules_of a) (state_of a mine) p)) in
               let none = once 0 in
               let all = once (weight w) in
               omega (arith, e, none, all);
           leaves = λ v k n.
-              let e = leaves lib site rows rows (rules_of a) (rules_of b) (state_of a mine) (state_of b theirs) t (grows lib site rows t a mine b theirs m) (spares lib site rows t a mine b theirs m) turned v k 0 (new v k) (keeps v k n) p in
+              let e = leaves lib site rows rows (rules_of a) (rules_of b) (state_of a mine) (state_of b theirs) t (grows lib site rows t a mine b theirs m) (spares lib site rows t a mine b theirs m) turned v k 0 (new v k) (keeps v k n) p (root_callable lib depth f root) (rows_same lib site rows t a mine b theirs m (askers lib site rows (rules_of a) (state_of a mine) p)) in
               let none = once 0 in
               let all = once (new v k) in
+              omega (arith, e, none, all);
+          spends = λ task.
+              let e = spends lib site rows rows (rules_of a) (rules_of b) (state_of a mine) (state_of b theirs) t (grows lib site rows t a mine b theirs m) (spares lib site rows t a mine b theirs m) turned task 0 1 (costs task) p (root_callable lib depth f root) (rows_same lib site rows t a mine b theirs m (askers lib site rows (rules_of a) (state_of a mine) p)) in
+              let none = once 0 in
+              let all = once 1 in
               omega (arith, e, none, all);
         }
 
 pub enters : BlocksEnter
 enters =
     record {
-      scatter = λ lib site rows t a mine b theirs m x s g d w new is h depth f p once.
-          entered lib site rows t a mine b theirs m w new (does (stmt.Scatter x) s g d) is (into_scatter lib site rows t a mine b theirs m w new x s g d h) depth f p once;
-      condition = λ lib site rows t a mine b theirs m x s g d w new is h depth f p once.
-          entered lib site rows t a mine b theirs m w new (does (stmt.If x) s g d) is (into_if lib site rows t a mine b theirs m w new x s g d h) depth f p once;
+      scatter = λ lib site rows t a mine b theirs m x s g d w new is h depth f root p once.
+          entered lib site rows t a mine b theirs m w new (does (stmt.Scatter x) s g d) is (into_scatter lib site rows t a mine b theirs m w new x s g d h) depth f root p once;
+      condition = λ lib site rows t a mine b theirs m x s g d w new is h depth f root p once.
+          entered lib site rows t a mine b theirs m w new (does (stmt.If x) s g d) is (into_if lib site rows t a mine b theirs m w new x s g d h) depth f root p once;
     }

@@ -4,12 +4,16 @@ use Rattle.wdl_value.specs.Tables.{Row}
 use Rattle.wdl_typed.specs.declared.flow.Statement.TheVariants as stmt
 use Rattle.wdl_typed.specs.Bodies.{Library}
 use Rattle.net_laws.specs.Growing.{Copied, Ending, Form, Gathered, Rule, copies, declares, does, ends, gathers, only}
-use Rattle.net_laws.specs.Moving.{Turn, TurnLeaves, TurnWeighs}
+use Rattle.net_laws.specs.Askers.{askers}
+use Rattle.net_laws.specs.Moving.{Turn, TurnLeaves, TurnSpends, TurnWeighs}
+use Rattle.net_laws.specs.Cost.{TaskCost}
 use Rattle.net_laws.specs.Net.{Work, no_work}
-use Rattle.net_laws.proofs.Moves.{leaves, moved, weighed}
+use Rattle.net_laws.specs.Roots.{IsRoot}
+use Rattle.net_laws.proofs.Callable.{root_callable}
+use Rattle.net_laws.proofs.Moves.{leaves, moved, spends, weighed}
 use Rattle.plan_moves.specs.Laws.{HasMoved, Joins, JointsMove}
 use Rattle.plan_moves.specs.Sheets.{Grown, IsMove, Sheet, rules_of, state_of}
-use Rattle.plan_moves.proofs.Kept.{grows, not_done, spares}
+use Rattle.plan_moves.proofs.Kept.{grows, not_done_at, spares, rows_same}
 use Rattle.plan_moves.proofs.Apart.{call_kind, decl_kind, if_kind, kind, scatter_kind}
 use Rattle.plan_moves.proofs.Turns.{same_kind, same_some, turn}
 
@@ -55,34 +59,46 @@ module _ (lib : Library) (site : List ℕ) (rows : List Row) (t : ℕ) (a : Shee
     adds weight =
         record {
           decl = λ depth x s c left n k. absurd (other (does (stmt.Decl x) s (only x.name c) c) 0 left.rule (decl_kind x s (only x.name c) c) (omega arith));
-          call = λ depth x s g d left n q at k. absurd (other (does (stmt.Call x) s g d) 1 left.rule (call_kind x s g d) (omega arith));
+          call = λ depth x s g d left n q at k runs. absurd (other (does (stmt.Call x) s g d) 1 left.rule (call_kind x s g d) (omega arith));
           scatter = λ depth x s g d left n q k. absurd (other (does (stmt.Scatter x) s g d) 2 left.rule (scatter_kind x s g d) (omega arith));
           condition = λ depth x s g d left n q k. absurd (other (does (stmt.If x) s g d) 3 left.rule (if_kind x s g d) (omega arith));
           declared = λ name e s c left n k. absurd (other (declares name e s c) 4 left.rule refl (omega arith));
-          told = λ depth x s g d w q. absurd (not_done lib site rows t a mine b theirs m q.done.done);
+          told = λ u e depth x s g d w q. absurd (not_done_at lib site rows t a mine b theirs m u e q.done.done);
         }
 
     keeps : (v k : ℕ) → TurnLeaves lib site rows rows (rules_of a) (rules_of b) (state_of a mine) (state_of b theirs) t turned v k 0 0
     keeps v k =
         record {
           decl = λ depth x s c left n q. absurd (other (does (stmt.Decl x) s (only x.name c) c) 0 left.rule (decl_kind x s (only x.name c) c) (omega arith));
-          call = λ depth x s g d left n is_ at q. absurd (other (does (stmt.Call x) s g d) 1 left.rule (call_kind x s g d) (omega arith));
+          call = λ depth x s g d left n is_ at q runs. absurd (other (does (stmt.Call x) s g d) 1 left.rule (call_kind x s g d) (omega arith));
           scatter = λ depth x s g d left n o q. absurd (other (does (stmt.Scatter x) s g d) 2 left.rule (scatter_kind x s g d) (omega arith));
           condition = λ depth x s g d left n o q. absurd (other (does (stmt.If x) s g d) 3 left.rule (if_kind x s g d) (omega arith));
           declared = λ name e s c left n q. absurd (other (declares name e s c) 4 left.rule refl (omega arith));
-          told = λ depth x s g d w q. absurd (not_done lib site rows t a mine b theirs m q.done.done);
+          told = λ u e depth x s g d w q. absurd (not_done_at lib site rows t a mine b theirs m u e q.done.done);
         }
 
-    pub joined : (depth : ℕ) (f : Form) (p : Grown lib site rows a mine depth f) → HasMoved lib site rows t a mine b theirs no_work depth f p
-    joined depth f p =
+    costs : (task : TaskCost) → TurnSpends lib site rows rows (rules_of a) (rules_of b) (state_of a mine) (state_of b theirs) t turned task 0 0
+    costs task =
         record {
-          grown = moved lib site rows rows (rules_of a) (rules_of b) (state_of a mine) (state_of b theirs) t (grows lib site rows t a mine b theirs m) (spares lib site rows t a mine b theirs m) turned p;
+          decl = λ depth x s c left n q. absurd (other (does (stmt.Decl x) s (only x.name c) c) 0 left.rule (decl_kind x s (only x.name c) c) (omega arith));
+          call = λ depth x s g d left n is_ at q runs. absurd (other (does (stmt.Call x) s g d) 1 left.rule (call_kind x s g d) (omega arith));
+          scatter = λ depth x s g d left n o q. absurd (other (does (stmt.Scatter x) s g d) 2 left.rule (scatter_kind x s g d) (omega arith));
+          condition = λ depth x s g d left n o q. absurd (other (does (stmt.If x) s g d) 3 left.rule (if_kind x s g d) (omega arith));
+          declared = λ name e s c left n q. absurd (other (declares name e s c) 4 left.rule refl (omega arith));
+          told = λ u e depth x s g d w q. absurd (not_done_at lib site rows t a mine b theirs m u e q.done.done);
+        }
+
+    pub joined : (depth : ℕ) (f : Form) (root : IsRoot lib depth f) (p : Grown lib site rows a mine depth f) → HasMoved lib site rows t a mine b theirs no_work 0 depth f p
+    joined depth f root p =
+        record {
+          grown = moved lib site rows rows (rules_of a) (rules_of b) (state_of a mine) (state_of b theirs) t (grows lib site rows t a mine b theirs m) (spares lib site rows t a mine b theirs m) turned p (root_callable lib depth f root) (rows_same lib site rows t a mine b theirs m (askers lib site rows (rules_of a) (state_of a mine) p));
           weighs = λ weight i.
-              let e = weighed lib site rows rows (rules_of a) (rules_of b) (state_of a mine) (state_of b theirs) t (grows lib site rows t a mine b theirs m) (spares lib site rows t a mine b theirs m) turned weight i 0 0 (adds weight) p in
+              let e = weighed lib site rows rows (rules_of a) (rules_of b) (state_of a mine) (state_of b theirs) t (grows lib site rows t a mine b theirs m) (spares lib site rows t a mine b theirs m) turned weight i 0 0 (adds weight) p (root_callable lib depth f root) (rows_same lib site rows t a mine b theirs m (askers lib site rows (rules_of a) (state_of a mine) p)) in
               let z = i.nothing in
               omega (arith, e, z);
-          leaves = λ v k n. let e = leaves lib site rows rows (rules_of a) (rules_of b) (state_of a mine) (state_of b theirs) t (grows lib site rows t a mine b theirs m) (spares lib site rows t a mine b theirs m) turned v k 0 0 (keeps v k) p in omega (arith, e);
+          leaves = λ v k n. let e = leaves lib site rows rows (rules_of a) (rules_of b) (state_of a mine) (state_of b theirs) t (grows lib site rows t a mine b theirs m) (spares lib site rows t a mine b theirs m) turned v k 0 0 (keeps v k) p (root_callable lib depth f root) (rows_same lib site rows t a mine b theirs m (askers lib site rows (rules_of a) (state_of a mine) p)) in omega (arith, e);
+          spends = λ task. let e = spends lib site rows rows (rules_of a) (rules_of b) (state_of a mine) (state_of b theirs) t (grows lib site rows t a mine b theirs m) (spares lib site rows t a mine b theirs m) turned task 0 0 (costs task) p (root_callable lib depth f root) (rows_same lib site rows t a mine b theirs m (askers lib site rows (rules_of a) (state_of a mine) p)) in omega (arith, e);
         }
 
 pub joints : JointsMove
-joints lib site rows t a mine b theirs m r is h depth f p = joined lib site rows t a mine b theirs m r is h depth f p
+joints lib site rows t a mine b theirs m r is h depth f root p = joined lib site rows t a mine b theirs m r is h depth f root p

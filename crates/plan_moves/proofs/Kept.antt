@@ -14,7 +14,8 @@ use Rattle.net_laws.specs.Net.{Cells, Scope}
 use Rattle.net_laws.specs.Rules.{head}
 use Rattle.net_laws.proofs.Shown.{head_same, on_head}
 use Rattle.plan_moves.specs.Laws.{HasHead}
-use Rattle.net_laws.specs.Moving.{Grows, Untouched, hit}
+use Rattle.net_laws.specs.Askers.{Asker}
+use Rattle.net_laws.specs.Moving.{Grows, OthersAnswered, Untouched, hit}
 use Rattle.plan_moves.specs.Sheets.{IsMove, Sheet, needs_in, rules_of, state_of, taken_in}
 
 pub plus_zero : (n : ℕ) → n + 0 ≡ n
@@ -22,6 +23,9 @@ plus_zero n = omega arith
 
 pub zero_plus : (n : ℕ) → n ≡ 0 → 0 + 0 ≡ n + 0
 zero_plus n e = omega (arith, e)
+
+pub no_less : (n l k : ℕ) → n ≡ l → k ≡ 0 → n + 0 ≡ k + l
+no_less n l k e z = omega (arith, e, z)
 
 -- Another step has no leaf of this one.
 pub hit_other : (v k t : ℕ) → (v ≡ t → ⊥) → hit v k t ≡ 0
@@ -32,7 +36,7 @@ as_head cells None = refl
 as_head cells (Some r) = refl
 
 -- Lists of one length have elements at the same places.
-there_too : {A B : Type 0} (xs : List A) (ys : List B) (i : ℕ) (x : A) → length xs ≡ length ys → slice_get xs i ≡ Some x → (y : B) × (slice_get ys i ≡ Some y)
+pub there_too : {A B : Type 0} (xs : List A) (ys : List B) (i : ℕ) (x : A) → length xs ≡ length ys → slice_get xs i ≡ Some x → (y : B) × (slice_get ys i ≡ Some y)
 there_too [] ys i x same e = absurd (let f : ⊥ = cc in f)
 there_too (z ∷ xs) [] i x same e = absurd (omega (arith, same))
 there_too (z ∷ xs) (y ∷ ys) zero x same e = (y, refl)
@@ -57,6 +61,9 @@ module _ (lib : Library) (site : List ℕ) (rows : List Row) (t : ℕ) (a : Shee
   pub not_done : taken_in (slice_get a.steps t) ≡ true → ⊥
   not_done h = true≢false (sym h ∙ ap taken_in m.there ∙ m.fresh)
 
+  pub not_done_at : (u : ℕ) → u ≡ t → taken_in (slice_get a.steps u) ≡ true → ⊥
+  not_done_at u e h = not_done (ap (λ (n : ℕ). taken_in (slice_get a.steps n)) (sym e) ∙ h)
+
   done_same : (u : ℕ) → taken_in (slice_get a.steps u) ≡ true → slice_get b.steps u ≡ slice_get a.steps u
   done_same u h =
       let w = some_in (slice_get a.steps u) h in
@@ -79,12 +86,15 @@ module _ (lib : Library) (site : List ℕ) (rows : List Row) (t : ℕ) (a : Shee
   pub spares : (u : ℕ) → (u ≡ t → ⊥) → Untouched lib site rows rows (rules_of a) (rules_of b) (state_of a mine) (state_of b theirs) u
   spares u n =
       record {
-        owner = λ c h. m.owners c u h;
+        owner = λ c h. m.owners c u h n;
         cells = λ c h. m.others c u h n;
         left = λ r d. record { rule = m.rules u r d.rule; left = ap taken_in (left_same u r n d.rule) ∙ d.left };
         needs = λ r d. ap needs_in (left_same u r n d.rule);
-        rows_same = λ x s g d q attempt. refl;
       }
+
+  -- The rows are the same.
+  pub rows_same : (qs : List Asker) → OthersAnswered lib site rows rows (rules_of a) (rules_of b) (state_of a mine) (state_of b theirs) t qs
+  rows_same qs q c n attempt = refl
 
   -- ---- the step itself
 

@@ -1,9 +1,13 @@
 pub mod Apart
 pub mod Kept
 pub mod Turns
+pub mod Needed
 pub mod Joints
 pub mod Declarations
 pub mod Calls
 pub mod Passed
 pub mod Arrivals
 pub mod Entered
+pub mod Called
+pub mod Attempts
+pub mod Telling

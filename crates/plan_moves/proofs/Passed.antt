@@ -10,20 +10,24 @@ use Rattle.wdl_typed.specs.declared.flow.TScatter.{TScatter}
 use Rattle.wdl_typed.specs.Bodies.{Library}
 use Rattle.wdl_typed.specs.Flow.{fault_at}
 use Rattle.net_laws.specs.Growing.{Form, HasCells, IsLeft, IsOutside, Keeps, KeepsCells, NamesNeeded, Rule, copies, declares, does, ends, failed_if, failed_scatter, false_if, gathers, one, only}
-use Rattle.net_laws.specs.Moving.{Turn, TurnLeaves, TurnWeighs, at_step, hit}
+use Rattle.net_laws.specs.Askers.{askers}
+use Rattle.net_laws.specs.Moving.{Turn, TurnLeaves, TurnSpends, TurnWeighs, at_step, hit}
+use Rattle.net_laws.specs.Cost.{TaskCost}
 use Rattle.net_laws.specs.Net.{Given, Scope, Work, no_work}
-use Rattle.net_laws.specs.Works.{faulty, work_of}
-use Rattle.net_laws.proofs.Moves.{leaves, moved, weighed}
+use Rattle.net_laws.specs.Works.{evaluated, faulty, work_of}
+use Rattle.net_laws.specs.Roots.{IsRoot}
+use Rattle.net_laws.proofs.Callable.{root_callable}
+use Rattle.net_laws.proofs.Moves.{leaves, moved, spends, weighed}
 use Rattle.plan_moves.specs.Laws.{BlocksPass, FailsIf, FailsScatter, HasMoved, IsFalse, IsOnce, IsStill}
-use Rattle.plan_moves.specs.Sheets.{Grown, IsMove, Sheet, rules_of, state_of}
-use Rattle.plan_moves.proofs.Kept.{done_now, grows, head_now, hit_other, names_now, not_done, plus_zero, set_now, spares, zero_plus}
+use Rattle.plan_moves.specs.Sheets.{Grown, Holds, IsMove, Sheet, rules_of, state_of}
+use Rattle.plan_moves.proofs.Kept.{done_now, grows, head_now, hit_other, names_now, not_done_at, plus_zero, set_now, spares, zero_plus, rows_same}
 use Rattle.plan_moves.proofs.Apart.{call_kind, decl_kind, kind, layer_kind}
 use Rattle.plan_moves.proofs.Turns.{New, same_kind, same_some, turn}
 
 weigh : (weight : Work → ℕ) (v w : Work) → w ≡ v → weight v + 0 ≡ weight w
 weigh weight v w e = plus_zero (weight v) ∙ ap weight (sym e)
 
-module _ (lib : Library) (site : List ℕ) (rows : List Row) (t : ℕ) (a : Sheet) (mine : List ℕ) (b : Sheet) (theirs : List ℕ) (m : IsMove t a mine b theirs) (w : Work) where
+module _ (lib : Library) (site : List ℕ) (rows : List Row) (t : ℕ) (a : Sheet) (mine : List ℕ) (b : Sheet) (theirs : List ℕ) (m : IsMove t a mine b theirs) (holds : Holds t mine theirs) (w : Work) where
   -- ---- what the rule tells
 
   abbrev OfIfs : TIf Statement → Scope → Given → ℕ → Type 0
@@ -54,10 +58,10 @@ module _ (lib : Library) (site : List ℕ) (rows : List Row) (t : ℕ) (a : Shee
   still_kept g d still k = record { names = λ i e l. one_ _ (k.names i e l); calls = λ i e l. one_ _ (k.calls i e l); done = one_ d k.done }
     where
       one_ : (c : ℕ) → Keeps (state_of a mine) t c → Keeps (state_of b theirs) t c
-      one_ c q = (m.owners c t q.0, still c q.0 ∙ q.1)
+      one_ c q = (holds c q.0, still c q.0 ∙ q.1)
 
   own_now : (g : Given) (d : ℕ) → KeepsCells lib site rows (rules_of a) (state_of a mine) t g d → HasCells lib site rows (rules_of b) (state_of b theirs) t g d
-  own_now g d k = record { names = λ i e l. m.owners _ t (k.names i e l).0; calls = λ i e l. m.owners _ t (k.calls i e l).0; done = m.owners d t k.done.0 }
+  own_now g d k = record { names = λ i e l. holds _ (k.names i e l).0; calls = λ i e l. holds _ (k.calls i e l).0; done = holds d k.done.0 }
 
   abbrev if_told : (depth : ℕ) (x : TIf Statement) (s : Scope) (g : Given) (d : ℕ) → IsLeft lib site rows (rules_of a) (state_of a mine) t (does (stmt.If x) s g d) → NamesNeeded (state_of a mine) t s x.cond
       → IsOutside lib site rows (rules_of a) (state_of a mine) x.body g → KeepsCells lib site rows (rules_of a) (state_of a mine) t g d → OfIfs x s g d → New lib site rows t a mine b theirs depth (one (stmt.If x) s g d)
@@ -73,6 +77,12 @@ module _ (lib : Library) (site : List ℕ) (rows : List Row) (t : ℕ) (a : Shee
       → weight (work_of lib site rows (rules_of b) (state_of b theirs) (if_told depth x s g d left n out k h)) + 0 ≡ weight w
   if_weighs weight depth x s g d left n out k (inl h) = weigh weight (faulty (fault_at (s.place ++ segment.If x.number ∷ []) (codes "if") h.code)) w h.work
   if_weighs weight depth x s g d left n out k (inr h) = weigh weight no_work w h.work
+
+  if_costs : (task : TaskCost) (depth : ℕ) (x : TIf Statement) (s : Scope) (g : Given) (d : ℕ) (left : IsLeft lib site rows (rules_of a) (state_of a mine) t (does (stmt.If x) s g d)) (n : NamesNeeded (state_of a mine) t s x.cond)
+      (out : IsOutside lib site rows (rules_of a) (state_of a mine) x.body g) (k : KeepsCells lib site rows (rules_of a) (state_of a mine) t g d) (h : OfIfs x s g d)
+      → evaluated lib site rows (rules_of b) (state_of b theirs) task (if_told depth x s g d left n out k h) + 0 ≡ 1
+  if_costs task depth x s g d left n out k (inl h) = refl
+  if_costs task depth x s g d left n out k (inr h) = refl
 
   if_leaves : (v k : ℕ) → (v ≡ t → ⊥) → (depth : ℕ) (x : TIf Statement) (s : Scope) (g : Given) (d : ℕ) (left : IsLeft lib site rows (rules_of a) (state_of a mine) t (does (stmt.If x) s g d)) (n : NamesNeeded (state_of a mine) t s x.cond)
       (out : IsOutside lib site rows (rules_of a) (state_of a mine) x.body g) (q : KeepsCells lib site rows (rules_of a) (state_of a mine) t g d) (h : OfIfs x s g d)
@@ -128,43 +138,59 @@ module _ (lib : Library) (site : List ℕ) (rows : List Row) (t : ℕ) (a : Shee
     adds weight =
         record {
           decl = λ depth x s c left n k. absurd (other (does (stmt.Decl x) s (only x.name c) c) 0 left.rule (decl_kind x s (only x.name c) c) (λ z. omega (arith, z)) (λ z. omega (arith, z)));
-          call = λ depth x s g d left n q at k. absurd (other (does (stmt.Call x) s g d) 1 left.rule (call_kind x s g d) (λ z. omega (arith, z)) (λ z. omega (arith, z)));
+          call = λ depth x s g d left n q at k runs. absurd (other (does (stmt.Call x) s g d) 1 left.rule (call_kind x s g d) (λ z. omega (arith, z)) (λ z. omega (arith, z)));
           scatter = λ depth x s g d left n q k. weigh weight (faulty (fault_at (s.place ++ segment.Scatter x.number ∷ []) x.item (of_scatter x s g d left.rule).code)) w (of_scatter x s g d left.rule).work;
           condition = λ depth x s g d left n q k. if_weighs weight depth x s g d left n q k (of_if x s g d left.rule);
           declared = λ name e s c left n k. absurd (other (declares name e s c) 4 left.rule refl (λ z. omega (arith, z)) (λ z. omega (arith, z)));
-          told = λ depth x s g d v q. absurd (not_done lib site rows t a mine b theirs m q.done.done);
+          told = λ u e depth x s g d v q. absurd (not_done_at lib site rows t a mine b theirs m u e q.done.done);
         }
 
     keeps : (v k : ℕ) → (v ≡ t → ⊥) → TurnLeaves lib site rows rows (rules_of a) (rules_of b) (state_of a mine) (state_of b theirs) t turned v k 0 0
     keeps v k ne =
         record {
           decl = λ depth x s c left n q. absurd (other (does (stmt.Decl x) s (only x.name c) c) 0 left.rule (decl_kind x s (only x.name c) c) (λ z. omega (arith, z)) (λ z. omega (arith, z)));
-          call = λ depth x s g d left n q at k_. absurd (other (does (stmt.Call x) s g d) 1 left.rule (call_kind x s g d) (λ z. omega (arith, z)) (λ z. omega (arith, z)));
+          call = λ depth x s g d left n q at k_ runs. absurd (other (does (stmt.Call x) s g d) 1 left.rule (call_kind x s g d) (λ z. omega (arith, z)) (λ z. omega (arith, z)));
           scatter = λ depth x s g d left n q k_. zero_plus (hit v k t) (hit_other v k t ne);
           condition = λ depth x s g d left n q k_. if_leaves v k ne depth x s g d left n q k_ (of_if x s g d left.rule);
           declared = λ name e s c left n q. absurd (other (declares name e s c) 4 left.rule refl (λ z. omega (arith, z)) (λ z. omega (arith, z)));
-          told = λ depth x s g d v_ q. absurd (not_done lib site rows t a mine b theirs m q.done.done);
+          told = λ u e depth x s g d v_ q. absurd (not_done_at lib site rows t a mine b theirs m u e q.done.done);
         }
 
-    pub passed : (depth : ℕ) (f : Form) (p : Grown lib site rows a mine depth f) → IsOnce lib site rows t a mine b theirs p → HasMoved lib site rows t a mine b theirs w depth f p
-    passed depth f p once =
+    costs : (task : TaskCost) → TurnSpends lib site rows rows (rules_of a) (rules_of b) (state_of a mine) (state_of b theirs) t turned task 0 1
+    costs task =
         record {
-          grown = moved lib site rows rows (rules_of a) (rules_of b) (state_of a mine) (state_of b theirs) t (grows lib site rows t a mine b theirs m) (spares lib site rows t a mine b theirs m) turned p;
+          decl = λ depth x s c left n k. absurd (other (does (stmt.Decl x) s (only x.name c) c) 0 left.rule (decl_kind x s (only x.name c) c) (λ z. omega (arith, z)) (λ z. omega (arith, z)));
+          call = λ depth x s g d left n q at k runs. absurd (other (does (stmt.Call x) s g d) 1 left.rule (call_kind x s g d) (λ z. omega (arith, z)) (λ z. omega (arith, z)));
+          scatter = λ depth x s g d left n q k. refl;
+          condition = λ depth x s g d left n q k. if_costs task depth x s g d left n q k (of_if x s g d left.rule);
+          declared = λ name e s c left n k. absurd (other (declares name e s c) 4 left.rule refl (λ z. omega (arith, z)) (λ z. omega (arith, z)));
+          told = λ u e depth x s g d v q. absurd (not_done_at lib site rows t a mine b theirs m u e q.done.done);
+        }
+
+    pub passed : (depth : ℕ) (f : Form) (root : IsRoot lib depth f) (p : Grown lib site rows a mine depth f) → IsOnce lib site rows t a mine b theirs p → HasMoved lib site rows t a mine b theirs w 1 depth f p
+    passed depth f root p once =
+        record {
+          grown = moved lib site rows rows (rules_of a) (rules_of b) (state_of a mine) (state_of b theirs) t (grows lib site rows t a mine b theirs m) (spares lib site rows t a mine b theirs m) turned p (root_callable lib depth f root) (rows_same lib site rows t a mine b theirs m (askers lib site rows (rules_of a) (state_of a mine) p));
           weighs = λ weight i.
-              let e = weighed lib site rows rows (rules_of a) (rules_of b) (state_of a mine) (state_of b theirs) t (grows lib site rows t a mine b theirs m) (spares lib site rows t a mine b theirs m) turned weight i 0 (weight w) (adds weight) p in
+              let e = weighed lib site rows rows (rules_of a) (rules_of b) (state_of a mine) (state_of b theirs) t (grows lib site rows t a mine b theirs m) (spares lib site rows t a mine b theirs m) turned weight i 0 (weight w) (adds weight) p (root_callable lib depth f root) (rows_same lib site rows t a mine b theirs m (askers lib site rows (rules_of a) (state_of a mine) p)) in
               let none = once 0 in
               let all = once (weight w) in
               omega (arith, e, none, all);
-          leaves = λ v k n. let e = leaves lib site rows rows (rules_of a) (rules_of b) (state_of a mine) (state_of b theirs) t (grows lib site rows t a mine b theirs m) (spares lib site rows t a mine b theirs m) turned v k 0 0 (keeps v k n) p in omega (arith, e);
+          leaves = λ v k n. let e = leaves lib site rows rows (rules_of a) (rules_of b) (state_of a mine) (state_of b theirs) t (grows lib site rows t a mine b theirs m) (spares lib site rows t a mine b theirs m) turned v k 0 0 (keeps v k n) p (root_callable lib depth f root) (rows_same lib site rows t a mine b theirs m (askers lib site rows (rules_of a) (state_of a mine) p)) in omega (arith, e);
+          spends = λ task.
+              let e = spends lib site rows rows (rules_of a) (rules_of b) (state_of a mine) (state_of b theirs) t (grows lib site rows t a mine b theirs m) (spares lib site rows t a mine b theirs m) turned task 0 1 (costs task) p (root_callable lib depth f root) (rows_same lib site rows t a mine b theirs m (askers lib site rows (rules_of a) (state_of a mine) p)) in
+              let none = once 0 in
+              let all = once 1 in
+              omega (arith, e, none, all);
         }
 
 pub blocks : BlocksPass
 blocks =
     record {
-      scatter = λ lib site rows t a mine b theirs m x s g d w is h depth f p once.
-          passed lib site rows t a mine b theirs m w (does (stmt.Scatter x) s g d) is (into_scatter lib site rows t a mine b theirs m w x s g d h) depth f p once;
-      condition = λ lib site rows t a mine b theirs m x s g d w is h depth f p once.
-          passed lib site rows t a mine b theirs m w (does (stmt.If x) s g d) is (into_if lib site rows t a mine b theirs m w x s g d (inl h)) depth f p once;
-      off = λ lib site rows t a mine b theirs m x s g d w is h depth f p once.
-          passed lib site rows t a mine b theirs m w (does (stmt.If x) s g d) is (into_if lib site rows t a mine b theirs m w x s g d (inr h)) depth f p once;
+      scatter = λ lib site rows t a mine b theirs m holds x s g d w is h depth f root p once.
+          passed lib site rows t a mine b theirs m holds w (does (stmt.Scatter x) s g d) is (into_scatter lib site rows t a mine b theirs m holds w x s g d h) depth f root p once;
+      condition = λ lib site rows t a mine b theirs m holds x s g d w is h depth f root p once.
+          passed lib site rows t a mine b theirs m holds w (does (stmt.If x) s g d) is (into_if lib site rows t a mine b theirs m holds w x s g d (inl h)) depth f root p once;
+      off = λ lib site rows t a mine b theirs m holds x s g d w is h depth f root p once.
+          passed lib site rows t a mine b theirs m holds w (does (stmt.If x) s g d) is (into_if lib site rows t a mine b theirs m holds w x s g d (inr h)) depth f root p once;
     }

@@ -13,8 +13,9 @@ use Rattle.net_laws.specs.Growing.{CallNeeded, Copied, Declared, Ending, EndsAt,
 use Rattle.net_laws.specs.Moving.{Turn}
 use Rattle.net_laws.specs.Net.{Given, Scope}
 use Rattle.net_laws.specs.Planned.{call_names}
+use Rattle.net_laws.specs.Roots.{IsCallable}
 use Rattle.plan_moves.specs.Sheets.{IsMove, Sheet, rules_of, state_of}
-use Rattle.plan_moves.proofs.Kept.{not_done}
+use Rattle.plan_moves.proofs.Kept.{not_done, not_done_at}
 use Rattle.plan_moves.proofs.Apart.{call_kind, decl_kind, if_kind, kind, scatter_kind}
 
 pub same_some : {A : Type 0} {x y : A} → Some x ≡ Some y → x ≡ y
@@ -39,7 +40,7 @@ module _ (lib : Library) (site : List ℕ) (rows : List Row) (t : ℕ) (a : Shee
   abbrev pub OfCall : Type 0
   OfCall =
       (depth : ℕ) (x : TCall) (s : Scope) (g : Given) (d : ℕ) → Left (does (stmt.Call x) s g d) → CallNeeded (state_of a mine) t s x → IsNamed (call_names lib x) g → EndsAt x g d → Kept g d
-      → New depth (one (stmt.Call x) s g d)
+      → IsCallable lib depth (one (stmt.Call x) s g d) → New depth (one (stmt.Call x) s g d)
 
   abbrev pub OfScatter : Type 0
   OfScatter =
@@ -80,6 +81,6 @@ module _ (lib : Library) (site : List ℕ) (rows : List Row) (t : ℕ) (a : Shee
         gathered = λ parts c w. gathered (same_kind r (gathers parts c) 5 is w.left.rule refl) parts c w;
         ending = λ parts c w. ending (same_kind r (ends parts c) 6 is w.left.rule refl) parts c w;
         copied = λ from c w. copied (same_kind r (copies from c) 7 is w.left.rule refl) from c w;
-        told = λ depth x s g d w q. absurd (not_done lib site rows t a mine b theirs m q.done.done);
+        told = λ u e depth x s g d w q. absurd (not_done_at lib site rows t a mine b theirs m u e q.done.done);
         only_call = λ q h. absurd (not_done lib site rows t a mine b theirs m h.done);
       }

@@ -1,16 +1,13 @@
 -- A net as the laws see it: its cells, its steps with what each is to do, and of each cell the step that may set it.
-use Rattle.std.specs.Prelude.{◌≡◌, ℕ, Bool, true, false, List, [], ◌∷◌, ◌++◌, Option, Some, None, length, slice_get}
-use Rattle.wdl_base.specs.declared.place.Segment.TheVariants as segment
+use Rattle.std.specs.Prelude.{◌≡◌, ℕ, Bool, true, false, List, [], Option, Some, None, length, slice_get}
+use Rattle.wdl_base.specs.declared.place.Segment.{Segment}
 use Rattle.wdl_value.specs.declared.value.Value.{Value}
 use Rattle.wdl_value.specs.Tables.{Row, answer_at}
-use Rattle.wdl_typed.specs.declared.flow.Statement.TheVariants as stmt
-use Rattle.wdl_typed.specs.declared.flow.TCall.{TCall}
 use Rattle.wdl_typed.specs.Bodies.{Library}
 use Rattle.step_net.specs.Views.{Wants}
 use Rattle.value_net.specs.Nets.{View, value_at}
-use Rattle.net_laws.specs.Growing.{Form, Growing, Rule, State, are_set, does}
+use Rattle.net_laws.specs.Growing.{Form, Growing, Rule, State, are_set}
 use Rattle.net_laws.specs.Laws.{ruled}
-use Rattle.net_laws.specs.Net.{Given, Scope}
 
 abbrev pub Sheet : Type 0
 Sheet = View Value Rule
@@ -34,7 +31,7 @@ rules_of v = ruled (slice_get v.rules)
 abbrev pub Grown : Library → List ℕ → List Row → Sheet → List ℕ → ℕ → Form → Type 0
 Grown lib site rows v owners depth f = Growing lib site rows (rules_of v) (state_of v owners) depth f
 
--- A move takes a step that is ready. It may set cells that this step owns, and add cells and steps behind the others.
+-- A move takes a step that is ready. It may set cells that this step owns or give them to others, and add cells and steps behind the others.
 pub record IsMove (t : ℕ) (a : Sheet) (mine : List ℕ) (b : Sheet) (theirs : List ℕ) : Type 0 where
   pub pairs : length a.rules ≡ length a.steps
   pub step : Wants
@@ -44,17 +41,19 @@ pub record IsMove (t : ℕ) (a : Sheet) (mine : List ℕ) (b : Sheet) (theirs : 
   pub taken : slice_get b.steps t ≡ Some (record { needs = step.needs; is_taken = true })
   pub steps : (u : ℕ) (w : Wants) → (u ≡ t → ⊥) → slice_get a.steps u ≡ Some w → slice_get b.steps u ≡ Some w
   pub rules : (u : ℕ) (r : Rule) → slice_get a.rules u ≡ Some r → slice_get b.rules u ≡ Some r
-  pub owners : (c u : ℕ) → slice_get mine c ≡ Some u → slice_get theirs c ≡ Some u
+  pub owners : (c u : ℕ) → slice_get mine c ≡ Some u → (u ≡ t → ⊥) → slice_get theirs c ≡ Some u
   pub others : (c u : ℕ) → slice_get mine c ≡ Some u → (u ≡ t → ⊥) → value_at b.values c ≡ value_at a.values c
   pub kept : (c : ℕ) (x : Value) → value_at a.values c ≡ Some x → value_at b.values c ≡ Some x
 
--- An answer arrives at the place of a call that was asked, so that the rows are others. It sets cells of that call alone, and no other call has
--- that place.
-pub record IsArrival (rows later : List Row) (t : ℕ) (a : Sheet) (mine : List ℕ) (b : Sheet) : Type 0 where
+-- The cells of the step stay its own.
+abbrev pub Holds : ℕ → List ℕ → List ℕ → Type 0
+Holds t mine theirs = (c : ℕ) → slice_get mine c ≡ Some t → slice_get theirs c ≡ Some t
+
+-- An answer arrives at the place of a call that was asked: the rows answer the same at each other place. It sets cells of that call alone.
+pub record IsArrival (rows later : List Row) (place : List Segment) (t : ℕ) (a : Sheet) (mine : List ℕ) (b : Sheet) : Type 0 where
   pub taken : taken_in (slice_get a.steps t) ≡ true
   pub rules : b.rules ≡ a.rules
   pub steps : b.steps ≡ a.steps
   pub others : (c u : ℕ) → slice_get mine c ≡ Some u → (u ≡ t → ⊥) → value_at b.values c ≡ value_at a.values c
   pub kept : (c : ℕ) (x : Value) → value_at a.values c ≡ Some x → value_at b.values c ≡ Some x
-  pub apart : (u : ℕ) (x : TCall) (s : Scope) (g : Given) (d : ℕ) → (u ≡ t → ⊥) → slice_get a.rules u ≡ Some (does (stmt.Call x) s g d) → taken_in (slice_get a.steps u) ≡ true → (attempt : ℕ)
-      → answer_at rows (s.place ++ segment.Call x.name ∷ []) attempt ≡ answer_at later (s.place ++ segment.Call x.name ∷ []) attempt
+  pub elsewhere : (other : List Segment) → (other ≡ place → ⊥) → (attempt : ℕ) → answer_at rows other attempt ≡ answer_at later other attempt

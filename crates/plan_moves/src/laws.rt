@@ -1,6 +1,7 @@
 //! Laws of the definitions, which say nothing of code.
 
-ghost use Rattle.plan_moves.specs.Laws.{AnswersArrive, BlocksEnter, BlocksPass, CallsMove, DeclarationsMove, DefaultsMove, JointsMove};
+ghost use Rattle.plan_moves.specs.Laws.{AnswersArrive, BlocksEnter, BlocksPass, CallsMove, DeclarationsMove, DefaultsMove, FlowsEnter, JointsMove};
+ghost use Rattle.plan_moves.specs.Telling.{CallsTell, RowsArrive};
 
 /// A step of a joint that sets its cell to what the rule says of the cells that it needs: the net goes on growing, and its work is as
 /// it was.
@@ -41,4 +42,22 @@ pub fn answers_arrive()
 /// goes on growing, with their work more and their leaves more.
 pub fn blocks_enter()
     ensures { BlocksEnter }
+{}
+
+/// A step of a call of a workflow whose arguments are there, whose instance has grown as far as it may, with joints for its outputs:
+/// the net goes on growing, with its work more and its leaves more.
+pub fn flows_enter()
+    ensures { FlowsEnter }
+{}
+
+/// What a call tells over a table: an argument failed, its task asked nothing, an attempt waits, or the last one that was answered
+/// gives its outputs or a fault.
+pub fn calls_tell()
+    ensures { CallsTell }
+{}
+
+/// One row more answers the attempt that waits at its place, so that the next one waits where it was refused; elsewhere nothing
+/// changes.
+pub fn rows_arrive()
+    ensures { RowsArrive }
 {}

@@ -4,6 +4,6 @@
 mod laws;
 
 pub use laws::{
-    answers_arrive, blocks_enter, blocks_pass, calls_move, declarations_move, defaults_move,
-    joints_move,
+    answers_arrive, blocks_enter, blocks_pass, calls_move, calls_tell, declarations_move,
+    defaults_move, flows_enter, joints_move, rows_arrive,
 };

@@ -1,0 +1,13 @@
+-- The names that statements give out, as the code finds them.
+use Rattle.std.proofs.Common.{◌≡◌, [], sym, ap, ◌∙◌, List}
+use Rattle.wdl_typed.specs.declared.flow.Statement.{Statement}
+use Rattle.wdl_typed.specs.Bodies.{Library}
+use Rattle.wdl_typed.specs.Flow.{Names, nothing}
+use Rattle.flow_laws.specs.Laws.{run_with}
+use Rattle.wdl_flow.specs.Given.{all_names, both, none}
+use Rattle.wdl_flow.proofs.GivenNames.{bodies_same}
+use Rattle.net_laws.specs.Growing.{body_given}
+
+pub given_is : (lib : Library) (ss : List Statement) (old new : Names) → old ≡ none → new ≡ both old (all_names lib.tasks lib.flows ss) → new ≡ body_given lib ss
+given_is lib ss old new e h =
+    h ∙ ap (λ (n : Names). both n (all_names lib.tasks lib.flows ss)) e ∙ sym (bodies_same (run_with lib [] []) (λ k given place. nothing) ss)

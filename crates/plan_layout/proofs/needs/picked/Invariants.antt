@@ -1,0 +1,6 @@
+use Rattle.std.proofs.Common.{◌≡◌, [], drop}
+use Rattle.plan_layout.specs.Spots.{picks}
+use Rattle.plan_layout.proofs.needs.picked.Given as goal
+
+abbrev pub invariant-loop-key : goal.invariant-loop-key
+invariant-loop-key l = picks l.seen l.needs (drop l.key-index l.keys) ≡ picks l.seen [] l.keys

@@ -1,0 +1,9 @@
+pub mod Cells
+pub mod Laid
+pub mod Laws
+pub mod Paths
+pub mod Referring
+pub mod Sees
+pub mod SpotMarks
+pub mod Spots
+pub mod Steps

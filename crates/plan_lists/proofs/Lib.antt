@@ -1,0 +1,4 @@
+pub mod Weights
+pub mod Steps
+pub mod Counting
+pub mod Ends
