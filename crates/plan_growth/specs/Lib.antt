@@ -1,0 +1,7 @@
+pub mod Begun
+pub mod Blocks
+pub mod Entering
+pub mod Growth
+pub mod Laws
+pub mod Meaning
+pub mod News

@@ -1,0 +1,10 @@
+//! What the steps of a plan mean, what entering a body makes of it, and that each step keeps the plan in step with its flow.
+#![tactic(auto)]
+
+mod instance;
+mod laws;
+mod rule;
+
+pub use instance::Instance;
+pub use laws::bodies_begin;
+pub use rule::Rule;
