@@ -1,6 +1,7 @@
 -- What the calls of a plan do.
 use Rattle.std.specs.Prelude.{◌≡◌, ℕ, ◌+◌, Bool, true, List, [], ◌∷◌, ◌++◌, cond, count_by, length}
 use Rattle.std.specs.List.{list_any}
+use Rattle.wdl_base.specs.declared.answer.Answer.{Answer}
 use Rattle.wdl_base.specs.declared.entry.Entry.{Entry}
 use Rattle.wdl_base.specs.declared.place.Segment.{Segment}
 use Rattle.wdl_value.specs.declared.env.Bind.{Bind}
@@ -21,16 +22,16 @@ pub record IsOfSame (a b : PlanState) : Type 0 where
   pub site : b.site ≡ a.site
 
 -- a plan of these before any answer
-pub record IsNew (c : Checked) (given : List Bind) (site : List ℕ) (p : PlanState) : Type 0 where
+pub record IsNew (c : Checked) (given : List Bind) (root : List ℕ) (p : PlanState) : Type 0 where
   pub checked : p.checked ≡ c
   pub inputs : p.inputs ≡ given
-  pub site : p.site ≡ site
+  pub site : p.site ≡ root
   pub told : IsTold p []
 
 -- What was given comes back where the flow is past its limits; nothing is said of want of memory.
 abbrev pub GivesBack : Checked → List Bind → List ℕ → Unplanned → Type 0
-GivesBack c given site (unplanned.TooMany u) =
-    (u.checked ≡ c) × (u.inputs ≡ given) × (u.site ≡ site) × (too_many (flow_with c given site []) ≡ true)
+GivesBack c given site (unplanned.TooMany checked inputs root) =
+    (checked ≡ c) × (inputs ≡ given) × (root ≡ site) × (too_many (flow_with c given site []) ≡ true)
 GivesBack c given site unplanned.NoMemory = Unit {0}
 
 -- an attempt of that number waits at that place
@@ -52,7 +53,7 @@ pub record Arrives (a : PlanState) (r : Row) (b : PlanState) : Type 0 where
   pub told : IsTold b (a.rows ++ r ∷ [])
   pub answers : Answers a.ready b.ready r.place r.attempt
 
-abbrev pub row : List Segment → ℕ → _ → Row
+abbrev pub row : List Segment → ℕ → Answer → Row
 row place attempt answer = record { place = place; attempt = attempt; answer = answer }
 
 -- the journal is fed for what the plan is of

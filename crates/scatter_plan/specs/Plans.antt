@@ -13,7 +13,7 @@ use Rattle.wdl_typed.specs.Requests.{Successes}
 use Rattle.wdl_typed.specs.Statuses.{successes_of}
 use Rattle.wdl_task.specs.declared.request.Prepared.{Prepared}
 use Rattle.wdl_task.specs.Counts.{prepare_count}
-use Rattle.net_laws.specs.Cost.{whole_cost}
+use Rattle.scatter_plan.specs.Cost.{whole_cost}
 
 -- what a plan is of, the answers that arrived, what it shows of the flow over them, how many evaluations it paid for, and whether it
 -- is spent
@@ -97,7 +97,7 @@ pub record IsOfFlow (p : PlanState) : Type 0 where
   pub paid : p.paid ≤ cost_with p.checked p.inputs p.site p.rows
 
 -- It was told of these answers and no others.
-pub record IsTold (p : PlanState) (rows : List Row) : Type 0 where
+pub record IsTold (p : PlanState) (answers : List Row) : Type 0 where
   pub kept : p.spent ≡ false
-  pub rows : p.rows ≡ rows
+  pub rows : p.rows ≡ answers
   pub shows : IsOfFlow p

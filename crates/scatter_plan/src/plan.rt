@@ -39,10 +39,10 @@ impl Model for Plan {
     ghost Value = { PlanState };
 
     ghost use Rattle.std.specs.Coded.{codes};
-    ghost use Rattle.wdl_typed.specs.contracts.checked.Checked as checked;
+    ghost use Rattle.wdl_typed.specs.contracts.checked.Checked as form;
     ghost use Rattle.wdl_value.specs.contracts.env.Bind as bind;
 
-    ghost coded = { Prim.hlevel (codes, checked.the_row.coded, bind.the_row.coded) };
+    ghost coded = { Prim.hlevel (codes, form.the_row.coded, bind.the_row.coded) };
 
     ghost view = { λ p. record { checked = p.checked; inputs = p.inputs; site = p.site; rows = []; ready = p.ready.items; faults = p.faults.items; outputs = p.outputs; paid = 0; spent = p.spent } };
 }
