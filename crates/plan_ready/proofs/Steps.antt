@@ -17,7 +17,7 @@ use Rattle.wdl_typed.specs.declared.flow.TScatter.{TScatter}
 use Rattle.wdl_typed.specs.declared.flow.Target.TheVariants as target
 use Rattle.wdl_typed.specs.declared.task.TDecl.{TDecl}
 use Rattle.wdl_typed.specs.declared.task.TInput.{TInput}
-use Rattle.wdl_typed.specs.Bodies.{Library}
+use Rattle.wdl_typed.specs.Bodies.{Library, Signature, call_by, signature}
 use Rattle.wdl_typed.specs.Declarations.{plain_key}
 use Rattle.wdl_typed.specs.Flow.{Ended, Flowing, Known, Run, Sight, args_known, beginning, declaration, env_of, flow, input_of, inputs, item_sight, run_of_part, seeing, statements}
 use Rattle.wdl_typed.specs.Journal.{keys_distinct}
@@ -27,7 +27,8 @@ use Rattle.wdl_task.specs.Readiness.{are_given}
 use Rattle.wdl_plain.specs.Readiness.{AreDeclsReady, AreInputsReady, IsBodyReady, IsDeclReady, IsDefaultReady, IsFlowReady, IsStatementReady}
 use Rattle.wdl_plain.proofs.BlockReady.{if_body_ready, if_cond_ready, scatter_items_ready, scatter_over_ready}
 use Rattle.wdl_plain.proofs.FlowReady.{flow_body_ready, flow_inputs_ready, flow_outputs_ready}
-use Rattle.wdl_plain.proofs.Ready.{call_args_ready, callee_is_ready, decl_is_ready, first_ready, rest_ready}
+use Rattle.wdl_plain.proofs.GivenKeys.{some_inside}
+use Rattle.wdl_plain.proofs.Ready.{call_args_ready, callee_is_ready, decl_is_ready, first_ready, rest_ready, statement_typed}
 use Rattle.flow_laws.specs.Laws.{run_with}
 use Rattle.flow_laws.proofs.Agree.{Agree}
 use Rattle.flow_laws.proofs.Checked.{each_passes, kept}
@@ -115,9 +116,16 @@ module _ (lib : Library) (site : List ℕ) (rows : List Row) (desc : ℕ → Rul
   layer_leaf : (u : ℕ) (x : Statement) (y : Statement-F Statement) (s : Scope) (g : Given) (d : ℕ) → out-Statement x ≡ y → desc u (does x s g d) → u ≡ t → IsLayerReady lib st.cells y s → Goal
   layer_leaf u x y s g d e h i j = at_leaf u (does x s g d) h i (subst (λ (z : Statement-F Statement). IsLayerReady lib st.cells z s) (sym e) j)
 
+  call_there : (levels : ℕ) (x : TCall) (s : Sight) → IsStatementReady lib levels (stmt.Call x) s → (g : Signature) × (signature lib x.target ≡ Some g)
+  call_there levels x s b =
+      let h = statement_typed lib levels (stmt.Call x) s b (layer.Call x) (stmt.outs-Call x) in
+      let p = some_inside (signature lib x.target) (call_by lib.structs x b.seen) h.0 h.1 in
+      (p.0, p.1)
+
   call_ready_at : (x : TCall) (s : Scope) → keys_distinct (slot_keys s.names) ≡ true → OneAt (stmt.Call x) s → IsCallReady lib st.cells s x
   call_ready_at x s distinct at =
       record {
+        there = call_there at.levels x (sight s.place at.names at.calls) at.ready;
         args = λ slots marks needs set.
             args_near (env_of (map (known_in st.cells) slots)) (env_of at.names) x.args (near slots marks needs set)
             (call_args_ready lib at.levels x (sight s.place at.names at.calls) at.ready (known slots marks needs set));

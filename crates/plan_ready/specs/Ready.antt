@@ -11,7 +11,7 @@ use Rattle.wdl_typed.specs.declared.flow.Statement.TheOpen as layer
 use Rattle.wdl_typed.specs.declared.flow.TCall.{TCall}
 use Rattle.wdl_typed.specs.declared.flow.Target.TheVariants as target
 use Rattle.wdl_typed.specs.declared.task.TaskDef.{TaskDef}
-use Rattle.wdl_typed.specs.Bodies.{Library}
+use Rattle.wdl_typed.specs.Bodies.{Library, Signature, signature}
 use Rattle.wdl_typed.specs.Declarations.{task_typed}
 use Rattle.wdl_typed.specs.Flow.{args_met, env_of}
 use Rattle.wdl_typed.specs.Kept.{is_checked}
@@ -35,8 +35,10 @@ module _ (lib : Library) (cells : Cells) where
   abbrev pub IsExprReady : Scope → TExpr → Type 0
   IsExprReady s e = (slots : List Slot) → Needs s (names_of e) slots → are_known slots → IsReady e (env_of (map (known_in cells) slots))
 
-  -- So may the arguments of a call; and where it is a task's, the task is well typed, and they are its inputs.
+  -- So may the arguments of a call, whose task or workflow is there; and where it is a task's, the task is well typed, and they are its
+  -- inputs.
   pub record IsCallReady (s : Scope) (x : TCall) : Type 0 where
+    pub there : (g : Signature) × (signature lib x.target ≡ Some g)
     pub args : (slots : List Slot) (marks : List Mark) → CallNeeds s x slots marks → are_known slots → AreArgsReady (env_of (map (known_in cells) slots)) x.args
     pub tasks : (slots : List Slot) (marks : List Mark) → CallNeeds s x slots marks → are_known slots → (args : List Bind) → args_met (env_of (map (known_in cells) slots)) x.args ≡ Ok args → (k : ℕ) (task : TaskDef)
         → x.target ≡ target.Task k → slice_get lib.tasks k ≡ Some task → (task_typed lib.structs task ≡ true) × (are_given lib.structs task.inputs args ≡ true)
