@@ -1,0 +1,4 @@
+pub mod Callers
+pub mod Apart
+pub mod Statements
+pub mod Steps
