@@ -1,8 +1,7 @@
 -- Steps that are added behind the others.
-use Rattle.std.proofs.Common.{◌≡◌, ℕ, zero, suc, ◌+◌, ◌<◌, ◌≤◌, ◌⊎◌, inl, inr, Bool, true, nat_eq, cond, List, [], ◌∷◌, ◌++◌, map, append_assoc, append-nil, length, Option, Some, None, slice_get, arith, sym, ap, ◌∙◌, subst, refl}
+use Rattle.std.proofs.Common.{◌≡◌, ℕ, zero, suc, ◌+◌, ◌<◌, ◌≤◌, ◌⊎◌, inl, inr, Bool, cond, List, [], ◌∷◌, ◌++◌, map, append_assoc, length, Some, slice_get, arith, sym, ap, ◌∙◌, subst, refl}
 use Rattle.std.proofs.lemmas.Bool.{eq-eqb, ne_eqb}
-use Rattle.std.proofs.lemmas.List.{length-append, length-map, map-append}
-use Rattle.std.proofs.lemmas.Option.{slice_get_within}
+use Rattle.std.proofs.lemmas.List.{length-append, map-append}
 use Rattle.wdl_typed.specs.Bodies.{Library}
 use Rattle.step_net.specs.Views.{Wants}
 use Rattle.value_net.specs.Nets.{view_of, with_step}
@@ -15,7 +14,7 @@ use Rattle.plan_growth.specs.declared.rule.Rule.{Rule}
 use Rattle.plan_growth.specs.Begun.{hits}
 use Rattle.plan_growth.specs.Entering.{Sown}
 use Rattle.plan_growth.specs.News.{AllStand, New, Stands, new_code, new_means, new_wants, with_news}
-use Rattle.plan_growth.proofs.Lists.{get_at, get_left, get_right, get_split}
+use Rattle.plan_growth.proofs.Lists.{get_at, get_left, get_split}
 
 -- ---- one list of steps behind another
 

@@ -1,9 +1,7 @@
 -- The statements of a body that was just entered have begun to grow.
-use Rattle.std.proofs.Common.{◌≡◌, ℕ, ◌+◌, true, List, [], ◌∷◌, ◌++◌, All, map, append-nil, length, get_or, Option, Some, None, slice_get, arith, sym, ap, ◌∙◌, subst, refl}
+use Rattle.std.proofs.Common.{◌≡◌, ℕ, ◌+◌, List, [], ◌∷◌, ◌++◌, All, map, append-nil, length, get_or, arith, sym, ap, ◌∙◌, subst, refl}
 use Rattle.std.proofs.lemmas.List.{map-append}
-use Rattle.wdl_base.specs.declared.name.Key.{Key}
 use Rattle.wdl_base.specs.declared.place.Segment.{Segment}
-use Rattle.wdl_value.specs.declared.value.Value.{Value}
 use Rattle.wdl_value.specs.Tables.{Row}
 use Rattle.wdl_typed.specs.declared.expr.TExpr.{TExpr}
 use Rattle.wdl_typed.specs.declared.flow.Statement.{Statement, Statement-F, out-Statement}
@@ -17,16 +15,16 @@ use Rattle.wdl_typed.specs.Bodies.{Library}
 use Rattle.wdl_typed.specs.Flow.{Names}
 use Rattle.wdl_typed.specs.Journal.{keys_distinct}
 use Rattle.wdl_typed.specs.Scope.{names_of}
-use Rattle.value_net.specs.Nets.{joined, value_at}
-use Rattle.net_laws.specs.Growing.{CallNeeded, Form, IsLeft, IsOutside, Keeps, KeepsCells, NamesNeeded, Rule, State, all, body_given, does, left_call, left_decl, left_if, left_scatter, mark_cell, next, none_left, nothing_given, one, only, slot_cell}
+use Rattle.value_net.specs.Nets.{joined}
+use Rattle.net_laws.specs.Growing.{CallNeeded, Form, IsLeft, IsOutside, Keeps, KeepsCells, NamesNeeded, State, all, body_given, does, left_call, left_decl, left_if, left_scatter, mark_cell, next, none_left, one, only, slot_cell}
 use Rattle.net_laws.specs.Moving as even
 use Rattle.net_laws.specs.Moving.{IsWeight, at_step, hit}
-use Rattle.net_laws.specs.Net.{Given, Mark, Scope, Slot, Work, beyond, both_given, both_works, no_work}
+use Rattle.net_laws.specs.Net.{Given, Mark, Scope, Slot, Work, beyond, both_works, no_work}
 use Rattle.net_laws.specs.Planned.{call_names}
 use Rattle.net_laws.specs.Rules.{arg_keys}
 use Rattle.net_laws.specs.Works.{evaluated, work_of}
 use Rattle.net_laws.proofs.Even.{work_even}
-use Rattle.plan_moves.specs.Sheets.{Grown, Sheet, needs_in, rules_of, state_of, taken_in}
+use Rattle.plan_moves.specs.Sheets.{Sheet, needs_in, rules_of, state_of, taken_in}
 use Rattle.plan_layout.specs.declared.layout.BodyLayout.{BodyLayout}
 use Rattle.plan_layout.specs.declared.layout.Need.{Need}
 use Rattle.plan_layout.specs.declared.layout.StatementLayout.{StatementLayout}
@@ -239,7 +237,7 @@ module _ (lib : Library) (site : List ℕ) (rows : List Row) (b : Sheet) (owners
   follows_on x xs a l ls sees p q t h depth =
       let first = p t depth h.0 in
       let rest =
-          subst (λ (z : Scope). Begins depth (all xs z (all_given lib bases (behind_one lib x a) xs) (dones_at (base_at bases a) ls)) (λ v k. hits v k (t + 1) xs)) (scope_behind x a) (q (t + 1) h.1 depth) in
+      subst (λ (z : Scope). Begins depth (all xs z (all_given lib bases (behind_one lib x a) xs) (dones_at (base_at bases a) ls)) (λ v k. hits v k (t + 1) xs)) (scope_behind x a) (q (t + 1) h.1 depth) in
       record {
         grown = next depth x xs (scoped a) (given_of lib bases a x) (all_given lib bases (behind_one lib x a) xs) (base_at bases a + l.done) (dones_at (base_at bases a) ls) first.grown rest.grown;
         weighs = λ weight is. none_both weight is (work_of lib site rows (rules_of b) st first.grown) (work_of lib site rows (rules_of b) st rest.grown) (work_even lib site rows (rules_of b) st first.grown) (first.weighs weight is) (rest.weighs weight is);

@@ -1,8 +1,7 @@
 -- A condition that is true and entered.
-use Rattle.std.proofs.Common.{◌≡◌, ℕ, zero, suc, ◌+◌, ◌<◌, ◌≤◌, ◌⊎◌, inl, inr, true, false, List, [], ◌∷◌, ◌++◌, All, map, append_assoc, length, get_or, Option, Some, None, Ok, slice_get, slice_set, arith, sym, ap, ◌∙◌, subst, refl}
+use Rattle.std.proofs.Common.{◌≡◌, ℕ, zero, suc, ◌+◌, ◌<◌, ◌≤◌, ◌⊎◌, inl, inr, true, false, List, [], ◌∷◌, ◌++◌, All, map, length, get_or, Option, Some, None, Ok, slice_get, arith, sym, ap, ◌∙◌, subst, refl}
 use Rattle.std.proofs.lemmas.Bool.{false≢true}
-use Rattle.std.proofs.lemmas.List.{get_or_push, length-append, length-map, length-set, map-append}
-use Rattle.std.proofs.lemmas.List.Elements.{All-append, All-cons, All-nil}
+use Rattle.std.proofs.lemmas.List.{get_or_push, length-append, length-map, length-set}
 use Rattle.std.proofs.lemmas.Option.{slice_get-get_or, slice_get_within}
 use Rattle.wdl_base.specs.declared.place.Segment.{Segment}
 use Rattle.wdl_base.specs.declared.place.Segment.TheVariants as segment
@@ -10,12 +9,11 @@ use Rattle.wdl_value.specs.declared.value.Value.{Value}
 use Rattle.wdl_value.specs.Parts.{bool_in}
 use Rattle.wdl_value.specs.Tables.{Row}
 use Rattle.wdl_typed.specs.declared.flow.FlowDef.{FlowDef}
-use Rattle.wdl_typed.specs.declared.flow.Statement.{Statement, Statement-F, out-Statement}
+use Rattle.wdl_typed.specs.declared.flow.Statement.{Statement}
 use Rattle.wdl_typed.specs.declared.flow.Statement.TheVariants as stmt
 use Rattle.wdl_typed.specs.declared.flow.TIf.{TIf}
 use Rattle.wdl_typed.specs.Bodies.{Library}
 use Rattle.wdl_typed.specs.Flow.{Names}
-use Rattle.wdl_typed.specs.Journal.{keys_distinct}
 use Rattle.step_net.specs.Views.{Wants}
 use Rattle.value_net.specs.Nets as values
 use Rattle.value_net.specs.Nets.{with_cells, with_step, with_taken}
@@ -27,7 +25,6 @@ use Rattle.net_laws.specs.Planned.{counted}
 use Rattle.net_laws.specs.Works.{work_of}
 use Rattle.plan_moves.specs.Laws.{EntersIf, HasHead}
 use Rattle.plan_moves.specs.Sheets.{Sheet, rules_of, state_of}
-use Rattle.plan_layout.specs.declared.layout.BodyLayout.{BodyLayout}
 use Rattle.plan_layout.specs.declared.layout.Layout.{Layout}
 use Rattle.plan_layout.specs.declared.layout.StatementLayout.{StatementLayout}
 use Rattle.plan_layout.specs.Cells.{marks_at, slots_at}
@@ -35,9 +32,7 @@ use Rattle.plan_layout.specs.Laid as laid
 use Rattle.plan_layout.specs.Laid.{Laid, Stand, beginning}
 use Rattle.plan_layout.specs.Paths.{body_at}
 use Rattle.plan_layout.specs.Sees.{Sees}
-use Rattle.plan_layout.specs.Spots.{plain_keys, spots_from}
 use Rattle.plan_growth.specs.declared.instance.Instance.{Instance}
-use Rattle.plan_growth.specs.declared.rule.Rule.{Rule}
 use Rattle.plan_growth.specs.declared.rule.Rule.TheVariants as rule
 use Rattle.plan_growth.specs.Begun.{AllSit, HasBegun, IsFree, all_given, base_at, given_by, hits, scope_at}
 use Rattle.plan_growth.specs.Blocks.{with_copied}
@@ -50,8 +45,8 @@ use Rattle.plan_growth.proofs.Begins.{bodies_begin}
 use Rattle.plan_growth.proofs.Entry.{even_news, even_now, extends, instance_there, instances_kept, is_entered, net_is}
 use Rattle.plan_growth.proofs.Firsts.{dones_within}
 use Rattle.plan_growth.proofs.Inside.{IfLaid}
-use Rattle.plan_growth.proofs.Instances.{Extends, IsEntered, Kept, entered_later, instance_owners, owners_count, put}
-use Rattle.plan_growth.proofs.Lists.{get_at, get_left, get_right, get_split}
+use Rattle.plan_growth.proofs.Instances.{Extends, IsEntered, entered_later, instance_owners, owners_count, put}
+use Rattle.plan_growth.proofs.Lists.{get_at, get_left, get_split, kept_length}
 use Rattle.plan_growth.proofs.Moving.{Moves}
 use Rattle.plan_growth.proofs.Outer.{all_left, all_right, calls_at, calls_given, copies_added, copy_new, copy_stands, done_given, done_new, end_stands, joint_waits, names_at, names_given, others_owned, outer_length, outer_owners}
 use Rattle.plan_growth.proofs.Runs.{given_marks, given_names, marks_copied, marks_run, run_marks, run_slots, slots_copied, slots_run}
@@ -117,7 +112,7 @@ module _ (lib : Library) (layout : Layout) (site : List ℕ) (rows : List Row) (
   abbrev bases_in : List ℕ
   bases_in = outer ++ first ∷ []
 
-  abbrev body_net : Plot
+  abbrev pub body_net : Plot
   body_net = with_instance l.inner outer place_in lay.inner start
 
   abbrev name_step : ℕ
@@ -151,7 +146,7 @@ module _ (lib : Library) (layout : Layout) (site : List ℕ) (rows : List Row) (
   abbrev owners_in : List ℕ
   owners_in = instance_owners lib [] [] (length start.net.steps) x.body
 
-  abbrev owners_now : List ℕ
+  abbrev pub owners_now : List ℕ
   owners_now = owners_out ++ owners_in
 
   body_is : body_net.net ≡ with_news (with_cells start.net lay.inner.cells) news_in
@@ -189,7 +184,7 @@ module _ (lib : Library) (layout : Layout) (site : List ℕ) (rows : List Row) (
   abbrev joints : List New
   joints = (copying ++ calling) ++ ending ∷ []
 
-  abbrev last_net : Sown
+  abbrev pub last_net : Sown
   last_net = with_copied first lay.inner l base body_net.net
 
   copied_net : with_copies (first + lay.inner.first_name) (base + l.first_name) l.names body_net.net ≡ with_news body_net.net copying
@@ -210,10 +205,10 @@ module _ (lib : Library) (layout : Layout) (site : List ℕ) (rows : List Row) (
   joined_net : last_net ≡ with_news body_net.net joints
   joined_net = ap (λ (u : Sown). with_step u (rule.Ends (base + l.done)) (dones_at first lay.inner.statements)) called_net ∙ news_last body_net.net (copying ++ calling) ending
 
-  abbrev rules_now : List net.Rule
+  abbrev pub rules_now : List net.Rule
   rules_now = rules_in ++ map new_means joints
 
-  abbrev b : Sheet
+  abbrev pub b : Sheet
   b = sheet_of last_net rules_now
 
   values_same : last_net.values ≡ body_net.net.values
@@ -235,14 +230,7 @@ module _ (lib : Library) (layout : Layout) (site : List ℕ) (rows : List Row) (
   value_kept c o h = joints_behind.values c o (body_behind.values c o h)
 
   longer : length v.values ≤ length b.values
-  longer = by_last (length v.values) refl
-    where
-      by_last : (m : ℕ) → length v.values ≡ m → m ≤ length b.values
-      by_last zero e = omega arith
-      by_last (suc m) e =
-          let h = slice_get-get_or v.values m None (omega (arith, e)) in
-          let inside = slice_get_within b.values m (get_or v.values m None) (value_kept m (get_or v.values m None) h) in
-          omega (arith, inside)
+  longer = kept_length v.values b.values value_kept
 
   entered_now : IsEntered lib b owners_now bases_in place_in [] [] first (length start.net.steps) x.body inner lay.inner.statements
   entered_now =
@@ -283,24 +271,27 @@ module _ (lib : Library) (layout : Layout) (site : List ℕ) (rows : List Row) (
 
   -- their cells
   name_free : (j : ℕ) → j < length n.keys → IsFree b owners_now (name_step + j) (base + a.next_name + j)
-  name_free j lt =
-      (ap (slice_get owners_now) (omega arith)
-      ∙ get_left owners_out owners_in (base + (a.next_name + j)) (name_step + j)
-      (names_given (sheet_of v rules) owners t base a.next_name (length n.keys) a.next_call (length n.calls) l.done own_names own_calls own_done fits.0 low name_step call_step done_step j lt),
-      ap (slice_get b.values) (omega arith) ∙ value_kept (base + (a.next_name + j)) None (own_names j lt).1)
+  name_free j lt = (
+    ap (slice_get owners_now) (omega arith)
+        ∙ get_left owners_out owners_in (base + (a.next_name + j)) (name_step + j)
+        (names_given (sheet_of v rules) owners t base a.next_name (length n.keys) a.next_call (length n.calls) l.done own_names own_calls own_done fits.0 low name_step call_step done_step j lt),
+    ap (slice_get b.values) (omega arith) ∙ value_kept (base + (a.next_name + j)) None (own_names j lt).1,
+  )
 
   call_free : (j : ℕ) → j < length n.calls → IsFree b owners_now (call_step + j) (base + a.next_call + j)
-  call_free j lt =
-      (ap (slice_get owners_now) (omega arith)
-      ∙ get_left owners_out owners_in (base + (a.next_call + j)) (call_step + j)
-      (calls_given (sheet_of v rules) owners t base a.next_name (length n.keys) a.next_call (length n.calls) l.done own_names own_calls own_done fits.0 low name_step call_step done_step j lt),
-      ap (slice_get b.values) (omega arith) ∙ value_kept (base + (a.next_call + j)) None (own_calls j lt).1)
+  call_free j lt = (
+    ap (slice_get owners_now) (omega arith)
+        ∙ get_left owners_out owners_in (base + (a.next_call + j)) (call_step + j)
+        (calls_given (sheet_of v rules) owners t base a.next_name (length n.keys) a.next_call (length n.calls) l.done own_names own_calls own_done fits.0 low name_step call_step done_step j lt),
+    ap (slice_get b.values) (omega arith) ∙ value_kept (base + (a.next_call + j)) None (own_calls j lt).1,
+  )
 
   done_free : IsFree b owners_now done_step (base + l.done)
-  done_free =
-      (get_left owners_out owners_in (base + l.done) done_step
-      (done_given (sheet_of v rules) owners t base a.next_name (length n.keys) a.next_call (length n.calls) l.done own_names own_calls own_done fits.0 low name_step call_step done_step),
-      value_kept (base + l.done) None own_done.1)
+  done_free = (
+    get_left owners_out owners_in (base + l.done) done_step
+        (done_given (sheet_of v rules) owners t base a.next_name (length n.keys) a.next_call (length n.calls) l.done own_names own_calls own_done fits.0 low name_step call_step done_step),
+    value_kept (base + l.done) None own_done.1,
+  )
 
   -- ---- what is copied and ends
 
@@ -310,22 +301,24 @@ module _ (lib : Library) (layout : Layout) (site : List ℕ) (rows : List Row) (
   name_copied : (i m d : ℕ) → m ≡ first + lay.inner.first_name + i → d ≡ base + a.next_name + i → i < length n.keys → Copies m d
   name_copied i m d e f lt =
       subst (λ (p : ℕ). Copies p d) (sym e)
-      (subst (λ (c : ℕ). Copies (first + lay.inner.first_name + i) c) (sym f)
-      (name_step + i,
-      inl
-      (joint_waits lib site rows b owners_now (name_step + i) (copies (first + lay.inner.first_name + i) (base + a.next_name + i)) ((first + lay.inner.first_name + i) ∷ []) (base + a.next_name + i)
-      (rule_here i (name_step + i) (copy_new (first + lay.inner.first_name) (base + a.next_name) i) refl (copy_there i lt))
-      (step_here i (name_step + i) (copy_new (first + lay.inner.first_name) (base + a.next_name) i) refl (copy_there i lt)) (name_free i lt))))
+      (subst (λ (c : ℕ). Copies (first + lay.inner.first_name + i) c) (sym f) (
+        name_step + i,
+        inl
+            (joint_waits lib site rows b owners_now (name_step + i) (copies (first + lay.inner.first_name + i) (base + a.next_name + i)) ((first + lay.inner.first_name + i) ∷ []) (base + a.next_name + i)
+            (rule_here i (name_step + i) (copy_new (first + lay.inner.first_name) (base + a.next_name) i) refl (copy_there i lt))
+            (step_here i (name_step + i) (copy_new (first + lay.inner.first_name) (base + a.next_name) i) refl (copy_there i lt)) (name_free i lt)),
+      ))
 
   call_copied : (i m d : ℕ) → m ≡ first + lay.inner.first_call + i → d ≡ base + a.next_call + i → i < length n.calls → Copies m d
   call_copied i m d e f lt =
       subst (λ (p : ℕ). Copies p d) (sym e)
-      (subst (λ (c : ℕ). Copies (first + lay.inner.first_call + i) c) (sym f)
-      (call_step + i,
-      inl
-      (joint_waits lib site rows b owners_now (call_step + i) (copies (first + lay.inner.first_call + i) (base + a.next_call + i)) ((first + lay.inner.first_call + i) ∷ []) (base + a.next_call + i)
-      (rule_here (length n.keys + i) (call_step + i) (copy_new (first + lay.inner.first_call) (base + a.next_call) i) (omega arith) (call_there i lt))
-      (step_here (length n.keys + i) (call_step + i) (copy_new (first + lay.inner.first_call) (base + a.next_call) i) (omega arith) (call_there i lt)) (call_free i lt))))
+      (subst (λ (c : ℕ). Copies (first + lay.inner.first_call + i) c) (sym f) (
+        call_step + i,
+        inl
+            (joint_waits lib site rows b owners_now (call_step + i) (copies (first + lay.inner.first_call + i) (base + a.next_call + i)) ((first + lay.inner.first_call + i) ∷ []) (base + a.next_call + i)
+            (rule_here (length n.keys + i) (call_step + i) (copy_new (first + lay.inner.first_call) (base + a.next_call) i) (omega arith) (call_there i lt))
+            (step_here (length n.keys + i) (call_step + i) (copy_new (first + lay.inner.first_call) (base + a.next_call) i) (omega arith) (call_there i lt)) (call_free i lt)),
+      ))
 
   abbrev given_in : Given
   given_in = all_given lib bases_in inner x.body
@@ -357,11 +350,12 @@ module _ (lib : Library) (layout : Layout) (site : List ℕ) (rows : List Row) (
       (marks_copied lib site rows (rules_of b) (state_of b owners_now) (first + lay.inner.first_call) (base + a.next_call) n.calls call_copied))
 
   all_ended : Ending lib site rows (rules_of b) (state_of b owners_now) (dones_at first lay.inner.statements) (base + l.done)
-  all_ended =
-      (done_step,
-      inl
-      (joint_waits lib site rows b owners_now done_step (ends (dones_at first lay.inner.statements) (base + l.done)) (dones_at first lay.inner.statements) (base + l.done)
-      (rule_here (length n.keys + length n.calls) done_step ending (omega arith) ending_there) (step_here (length n.keys + length n.calls) done_step ending (omega arith) ending_there) done_free))
+  all_ended = (
+    done_step,
+    inl
+        (joint_waits lib site rows b owners_now done_step (ends (dones_at first lay.inner.statements) (base + l.done)) (dones_at first lay.inner.statements) (base + l.done)
+        (rule_here (length n.keys + length n.calls) done_step ending (omega arith) ending_there) (step_here (length n.keys + length n.calls) done_step ending (omega arith) ending_there) done_free),
+  )
 
   -- ---- what holds of the steps that were added
 
@@ -424,10 +418,11 @@ module _ (lib : Library) (layout : Layout) (site : List ℕ) (rows : List Row) (
         flow_there = ap (slice_get lib.flows) lay.body.runs.flow_is ∙ flow_there;
       })
       inner_laid (length start.net.steps) 0 all_sits (there_more outer (first ∷ []) (length v.values) (length b.values) longer a.names names_there)
-      (there_more outer (first ∷ []) (length v.values) (length b.values) longer a.calls calls_there) (omega (arith, at, deep))
-      (λ j z e.
-      ap (λ (ys : List Statement). slice_get ys (0 + j)) (ap (body_at flow.body) lay.body.runs.path_is ∙ lay.body.runs.there) ∙ ap (slice_get x.body) (omega arith) ∙ e,
-      λ j z e. ap (slice_get lay.inner.statements) (omega arith) ∙ e) (omega arith, omega arith)
+      (there_more outer (first ∷ []) (length v.values) (length b.values) longer a.calls calls_there) (omega (arith, at, deep)) (
+        λ j z e.
+            ap (λ (ys : List Statement). slice_get ys (0 + j)) (ap (body_at flow.body) lay.body.runs.path_is ∙ lay.body.runs.there) ∙ ap (slice_get x.body) (omega arith) ∙ e,
+        λ j z e. ap (slice_get lay.inner.statements) (omega arith) ∙ e,
+      ) (omega arith, omega arith)
 
   pub news_stand : Here (length v.steps) news
   news_stand = subst (λ (u : ℕ). Here u news) starts (stand_both lib layout body_net.instances b owners_now (length start.net.steps) name_step news_in joints long body_stand joints_stand)

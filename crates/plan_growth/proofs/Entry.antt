@@ -1,5 +1,5 @@
 -- What entering a body makes of a net: an instance behind all that was there.
-use Rattle.std.proofs.Common.{◌≡◌, ℕ, zero, suc, ◌+◌, ◌<◌, ◌≤◌, List, [], ◌∷◌, ◌++◌, map, length, get_or, replicate, Option, Some, None, slice_get, slice_set, arith, sym, ap, ◌∙◌, subst, refl}
+use Rattle.std.proofs.Common.{◌≡◌, ℕ, ◌+◌, ◌<◌, ◌≤◌, List, [], ◌∷◌, ◌++◌, map, length, replicate, Option, Some, None, slice_get, arith, sym, ap, ◌∙◌, subst}
 use Rattle.std.proofs.lemmas.List.{get_or_push, length-append, length-map, length-replicate, length-set}
 use Rattle.std.proofs.lemmas.Option.{slice_get_within}
 use Rattle.wdl_base.specs.declared.place.Segment.{Segment}
@@ -7,25 +7,22 @@ use Rattle.wdl_value.specs.declared.value.Value.{Value}
 use Rattle.wdl_typed.specs.declared.flow.Statement.{Statement}
 use Rattle.wdl_typed.specs.Bodies.{Library}
 use Rattle.step_net.specs.Views.{Wants}
-use Rattle.value_net.specs.Nets.{view_of, with_cells, with_value}
+use Rattle.value_net.specs.Nets.{view_of, with_cells}
 use Rattle.net_laws.specs.Growing as net
 use Rattle.net_laws.specs.Growing.{body_given}
 use Rattle.plan_moves.specs.Sheets.{Sheet}
 use Rattle.plan_layout.specs.declared.layout.BodyLayout.{BodyLayout}
 use Rattle.plan_layout.specs.declared.layout.Need.{Need}
-use Rattle.plan_layout.specs.declared.layout.StatementLayout.{StatementLayout}
 use Rattle.plan_layout.specs.Laid as laid
 use Rattle.plan_layout.specs.Laid.{Laid, Stand, beginning, behind_all}
 use Rattle.plan_layout.specs.Sees.{Sees}
-use Rattle.plan_growth.specs.declared.instance.Instance.{Instance}
-use Rattle.plan_growth.specs.declared.rule.Rule.{Rule}
 use Rattle.plan_growth.specs.Begun.{base_at}
-use Rattle.plan_growth.specs.Entering.{Plot, Sown, with_instance, with_item, with_net}
+use Rattle.plan_growth.specs.Entering.{Plot, Sown, with_instance, with_item}
 use Rattle.plan_growth.specs.Growth.{IsEven, sheet_of}
 use Rattle.plan_growth.specs.News.{New, new_code, new_means, new_wants, statement_news, with_news}
-use Rattle.plan_growth.proofs.Instances.{Extends, IsEntered, Kept, entered_owners, entered_sheet, enters, enters_behind, instance_owners, owners_count}
+use Rattle.plan_growth.proofs.Instances.{Extends, IsEntered, Kept, entered_sheet, enters, enters_behind, instance_owners, owners_count}
 use Rattle.plan_growth.proofs.Lists.{get_left, get_right, get_set, get_unset}
-use Rattle.plan_growth.proofs.Sitting.{body_rules, call_owners, done_owners, name_owners, wants_of}
+use Rattle.plan_growth.proofs.Sitting.{body_rules, call_owners, done_owners, name_owners}
 use Rattle.plan_growth.proofs.Standing.{news_rules, news_steps, statements_added}
 
 pub even_news : (v : Sown) (rules : List net.Rule) (owners : List ℕ) (ns : List New) → IsEven v rules owners → IsEven (with_news v ns) (rules ++ map new_means ns) owners

@@ -1,9 +1,8 @@
 -- The first cells of a scatter's items, and what the items give out.
-use Rattle.std.proofs.Common.{◌≡◌, ℕ, zero, suc, ◌+◌, ◌<◌, ◌≤◌, true, List, [], ◌∷◌, ◌++◌, All, map, length, get_or, Option, Some, None, slice_get, arith, sym, ap, ◌∙◌, subst, refl}
+use Rattle.std.proofs.Common.{◌≡◌, ℕ, ◌+◌, ◌<◌, ◌≤◌, true, List, [], ◌∷◌, ◌++◌, All, length, get_or, None, arith, sym, ap, ◌∙◌, subst, refl}
 use Rattle.std.proofs.lemmas.List.{get_or_push}
 use Rattle.std.proofs.lemmas.List.Elements.{All-append, All-cons, All-nil}
 use Rattle.std.proofs.lemmas.Option.{slice_get_within}
-use Rattle.wdl_base.specs.declared.name.Key.{Key}
 use Rattle.wdl_base.specs.declared.place.Segment.{Segment}
 use Rattle.wdl_base.specs.declared.place.Segment.TheVariants as segment
 use Rattle.wdl_value.specs.declared.value.Value.{Value}
@@ -14,8 +13,8 @@ use Rattle.wdl_typed.specs.Bodies.{Library}
 use Rattle.wdl_typed.specs.Journal.{keys_distinct}
 use Rattle.net_laws.specs.Growing as net
 use Rattle.net_laws.specs.Growing.{Item, body_given}
-use Rattle.net_laws.specs.Net.{Mark, MarksResolved, Resolved, Slot, slot_keys}
-use Rattle.plan_moves.specs.Sheets.{Sheet, rules_of, state_of}
+use Rattle.net_laws.specs.Net.{Mark, MarksResolved, Resolved, Slot}
+use Rattle.plan_moves.specs.Sheets.{Sheet}
 use Rattle.plan_layout.specs.declared.layout.BodyLayout.{BodyLayout}
 use Rattle.plan_layout.specs.declared.layout.Layout.{Layout}
 use Rattle.plan_layout.specs.declared.layout.StatementLayout.{StatementLayout}
@@ -24,12 +23,12 @@ use Rattle.plan_layout.specs.Laid.{Laid, Stand, behind_one}
 use Rattle.plan_layout.specs.Sees.{Sees}
 use Rattle.plan_layout.specs.Spots.{plain_keys}
 use Rattle.plan_growth.specs.declared.instance.Instance.{Instance}
-use Rattle.plan_growth.specs.Begun.{AllSit, IsFree, base_at}
+use Rattle.plan_growth.specs.Begun.{AllSit, base_at}
 use Rattle.plan_growth.specs.Entering as entering
 use Rattle.plan_growth.specs.Entering.{Plot, beyond_each, dones_at, firsts_of}
 use Rattle.plan_growth.specs.Meaning.{AreThere}
 use Rattle.plan_growth.proofs.Instances.{instance_owners}
-use Rattle.plan_growth.proofs.Items.{AllItems, ItemAt, entered, inner, items_of, sits_at}
+use Rattle.plan_growth.proofs.Items.{AllItems, entered, inner, items_of, sits_at}
 use Rattle.plan_growth.proofs.Standing.{lines_length}
 use Rattle.plan_growth.proofs.Runs.{CallsAt, NamesAt, given_marks, given_names, marks_run, run_calls, run_keys, run_marks, run_slots, self_ended, self_found, slots_run}
 
@@ -85,10 +84,11 @@ module _ (lib : Library) (layout : Layout) (number : ℕ) (bl : BodyLayout) (flo
         let q = entered lib layout number bl flow ss outer path splace k item a (i + 1) xs p in
         let keys = (body_given lib ss).keys in
         let at = base_is q in
-        let same = given_names lib (outer ++ length q.net.values ∷ []) ss stand ∙ slots_run (outer ++ length q.net.values ∷ []) (length path) 1 (length q.net.values + 1) keys (omega (arith, at)) in
-        (subst (λ (ns : List Slot). Resolved ns (run_slots (length q.net.values + 1) keys)) (sym same)
-        (self_found (run_slots (length q.net.values + 1) keys) (ap keys_distinct (run_keys (length q.net.values + 1) keys) ∙ distinct)),
-        items_named distinct (i + 1) xs)
+        let same = given_names lib (outer ++ length q.net.values ∷ []) ss stand ∙ slots_run (outer ++ length q.net.values ∷ []) (length path) 1 (length q.net.values + 1) keys (omega (arith, at)) in (
+          subst (λ (ns : List Slot). Resolved ns (run_slots (length q.net.values + 1) keys)) (sym same)
+              (self_found (run_slots (length q.net.values + 1) keys) (ap keys_distinct (run_keys (length q.net.values + 1) keys) ∙ distinct)),
+          items_named distinct (i + 1) xs,
+        )
 
     pub items_called : keys_distinct (plain_keys (body_given lib ss).calls) ≡ true → (slot : ℕ) → slot ≡ stand.next_call → (i : ℕ) (xs : List Value)
         → CallsAt lib site rows desc st (items i xs) (firsts i xs) slot (body_given lib ss).calls
@@ -98,10 +98,11 @@ module _ (lib : Library) (layout : Layout) (number : ℕ) (bl : BodyLayout) (flo
         let calls = (body_given lib ss).calls in
         let at = base_is q in
         let same =
-        given_marks lib (outer ++ length q.net.values ∷ []) ss stand ∙ marks_run (outer ++ length q.net.values ∷ []) (length path) stand.next_call (length q.net.values + slot) calls (omega (arith, at, is)) in
-        (subst (λ (ms : List Mark). MarksResolved ms (run_marks (length q.net.values + slot) calls)) (sym same)
-        (self_ended (run_marks (length q.net.values + slot) calls) (ap (λ (cs : List (List ℕ)). keys_distinct (plain_keys cs)) (run_calls (length q.net.values + slot) calls) ∙ distinct)),
-        items_called distinct slot is (i + 1) xs)
+        given_marks lib (outer ++ length q.net.values ∷ []) ss stand ∙ marks_run (outer ++ length q.net.values ∷ []) (length path) stand.next_call (length q.net.values + slot) calls (omega (arith, at, is)) in (
+          subst (λ (ms : List Mark). MarksResolved ms (run_marks (length q.net.values + slot) calls)) (sym same)
+              (self_ended (run_marks (length q.net.values + slot) calls) (ap (λ (cs : List (List ℕ)). keys_distinct (plain_keys cs)) (run_calls (length q.net.values + slot) calls) ∙ distinct)),
+          items_called distinct slot is (i + 1) xs,
+        )
 
   -- What says that statements of items are done is cells.
   module _ (deep : length path ≡ length outer) (laid_in : Laid (Sees lib) lib bl.flow flow.body layout.bodies (laid.all ss stand bl.statements)) (site : List ℕ) (rows : List Row) (b : Sheet) (owners : List ℕ)

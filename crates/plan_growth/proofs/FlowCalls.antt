@@ -1,9 +1,8 @@
 -- A call of a workflow, which is entered.
-use Rattle.std.proofs.Common.{◌≡◌, ℕ, zero, suc, ◌+◌, ◌<◌, ◌≤◌, ◌⊎◌, inl, inr, true, false, List, [], ◌∷◌, ◌++◌, All, map, length, get_or, Option, Some, None, Ok, slice_get, slice_set, arith, sym, ap, ◌∙◌, subst, refl}
+use Rattle.std.proofs.Common.{◌≡◌, ℕ, zero, suc, ◌+◌, ◌<◌, ◌≤◌, ◌⊎◌, inl, inr, true, false, List, [], ◌∷◌, ◌++◌, All, map, length, get_or, Option, Some, None, Ok, slice_get, arith, sym, ap, ◌∙◌, subst, refl}
 use Rattle.std.specs.Prelude.{option_and_then}
 use Rattle.std.proofs.lemmas.Bool.{and_parts, false≢true}
 use Rattle.std.proofs.lemmas.List.{length-append, length-map, length-set}
-use Rattle.std.proofs.lemmas.List.Elements.{All-append, All-cons, All-nil}
 use Rattle.std.proofs.lemmas.Option.{slice_get-get_or, slice_get_within}
 use Rattle.wdl_base.specs.declared.place.Segment.{Segment}
 use Rattle.wdl_base.specs.declared.place.Segment.TheVariants as segment
@@ -11,38 +10,33 @@ use Rattle.wdl_value.specs.declared.env.Bind.{Bind}
 use Rattle.wdl_value.specs.declared.value.Value.{Value}
 use Rattle.wdl_value.specs.Tables.{Row}
 use Rattle.wdl_typed.specs.declared.flow.FlowDef.{FlowDef}
-use Rattle.wdl_typed.specs.declared.flow.Statement.{Statement, Statement-F, out-Statement}
-use Rattle.wdl_typed.specs.declared.flow.Statement.TheOpen as layer
+use Rattle.wdl_typed.specs.declared.flow.Statement.{Statement, Statement-F}
 use Rattle.wdl_typed.specs.declared.flow.Statement.TheVariants as stmt
 use Rattle.wdl_typed.specs.declared.flow.TCall.{TCall}
 use Rattle.wdl_typed.specs.declared.flow.Target.{Target}
 use Rattle.wdl_typed.specs.declared.flow.Target.TheVariants as target
 use Rattle.wdl_typed.specs.declared.task.TDecl.{TDecl}
-use Rattle.wdl_typed.specs.Bodies.{Library, Signature, flow_signature, signature}
-use Rattle.wdl_typed.specs.Declarations.{plain_key}
+use Rattle.wdl_typed.specs.Bodies.{Library, flow_signature, signature}
 use Rattle.wdl_typed.specs.Flow.{Known, Names, args_known, args_met, env_of, has_ended, output_keys, signature_keys}
-use Rattle.wdl_typed.specs.Requests.{Tried}
-use Rattle.wdl_typed.specs.Lists.{has_name}
 use Rattle.std.specs.List.{list_all}
 use Rattle.step_net.specs.Views.{Wants}
 use Rattle.value_net.specs.Nets as values
 use Rattle.value_net.specs.Nets.{value_at, with_step, with_taken}
 use Rattle.net_laws.specs.Growing as net
 use Rattle.net_laws.specs.Growing.{CallNeeded, Copied, Ending, OutputsCopied, copies, does, ends, mark_cell, slot_cell}
-use Rattle.net_laws.specs.Net.{Given, Mark, Resolved, Slot, ended_in, find, known_in, no_work}
-use Rattle.net_laws.specs.Planned.{ArgsMet, call_names, counted}
+use Rattle.net_laws.specs.Net.{Given, Resolved, Slot, ended_in, known_in, no_work}
+use Rattle.net_laws.specs.Planned.{call_names, counted}
 use Rattle.net_laws.proofs.Leaves.{call_ready}
 use Rattle.plan_moves.specs.Laws.{EntersFlow}
 use Rattle.plan_moves.specs.Sheets.{Sheet, needs_in, rules_of, state_of}
 use Rattle.plan_moves.proofs.Kept.{set_now}
-use Rattle.plan_layout.specs.declared.layout.BodyLayout.{BodyLayout}
 use Rattle.plan_layout.specs.declared.layout.FlowLayout.{FlowLayout}
 use Rattle.plan_layout.specs.declared.layout.Layout.{Layout}
 use Rattle.plan_layout.specs.declared.layout.StatementLayout.{StatementLayout}
-use Rattle.plan_layout.specs.Cells.{cell_at, marks_at, slots_at}
+use Rattle.plan_layout.specs.Cells.{cell_at, slots_at}
 use Rattle.plan_layout.specs.Laid.{IsLaidAs, Stand}
 use Rattle.plan_layout.specs.Sees.{AllSeen, FlowSees, Sees, after_at, keys_at}
-use Rattle.plan_layout.specs.Spots.{plain_keys, spots_from}
+use Rattle.plan_layout.specs.Spots.{plain_keys}
 use Rattle.plan_growth.specs.declared.instance.Instance.{Instance}
 use Rattle.plan_growth.specs.declared.rule.Rule.TheVariants as rule
 use Rattle.plan_growth.specs.Begun.{HasBegun, IsFree, base_at, given_by, hits, scope_at}
@@ -56,8 +50,8 @@ use Rattle.plan_growth.proofs.Begins.{call_needs}
 use Rattle.plan_growth.proofs.Entry.{even_news}
 use Rattle.plan_growth.proofs.Heads.{known_same, needs_set, values_kept}
 use Rattle.plan_growth.proofs.Inside.{CallLaid}
-use Rattle.plan_growth.proofs.Instances.{Extends, Kept}
-use Rattle.plan_growth.proofs.Lists.{get_at, get_left, get_right, get_split}
+use Rattle.plan_growth.proofs.Instances.{Extends}
+use Rattle.plan_growth.proofs.Lists.{get_at, get_left, get_split, kept_length}
 use Rattle.plan_growth.proofs.Moving.{Moves, is_move, step_now}
 use Rattle.plan_growth.proofs.Outer.{all_left, all_right, copies_added, copy_new, copy_stands, done_given, done_new, end_stands, joint_waits, names_at, names_given, others_owned, outer_length, outer_owners}
 use Rattle.plan_growth.proofs.Runs.{run_slots, slots_run}
@@ -69,9 +63,11 @@ outputs_copied : (lib : Library) (site : List ℕ) (rows : List Row) (desc : ℕ
     → Resolved names (outputs_given base k ds).names → ((i n d : ℕ) → n ≡ m + i → d ≡ c + i → i < length ds → Copied lib site rows desc st n d)
     → OutputsCopied lib site rows desc st call ds names (run_slots c (output_keys call ds))
 outputs_copied lib site rows desc st call names base [] k m c e found joint = tt
-outputs_copied lib site rows desc st call names base (d ∷ ds) k m c e found joint =
-    (refl, (base + k, found.0, joint 0 (base + k) c (omega (arith, e)) (omega arith) (omega arith)),
-    outputs_copied lib site rows desc st call names base ds (k + 1) (m + 1) (c + 1) (omega (arith, e)) found.1 (λ i n z f g lt. joint (suc i) n z (omega (arith, f)) (omega (arith, g)) (omega (arith, lt))))
+outputs_copied lib site rows desc st call names base (d ∷ ds) k m c e found joint = (
+  refl,
+  (base + k, found.0, joint 0 (base + k) c (omega (arith, e)) (omega arith) (omega arith)),
+  outputs_copied lib site rows desc st call names base ds (k + 1) (m + 1) (c + 1) (omega (arith, e)) found.1 (λ i n z f g lt. joint (suc i) n z (omega (arith, f)) (omega (arith, g)) (omega (arith, lt))),
+)
 
 pub output_keys_count : (call : List ℕ) (ds : List TDecl) → length (output_keys call ds) ≡ length ds
 output_keys_count call [] = refl
@@ -126,7 +122,7 @@ module _ (lib : Library) (layout : Layout) (site : List ℕ) (rows : List Row) (
 
   -- ---- the workflow
 
-  abbrev flow_net : Plot
+  abbrev pub flow_net : Plot
   flow_net = with_flow f args place_in fl flow_laid.body start
 
   abbrev name_step : ℕ
@@ -150,7 +146,7 @@ module _ (lib : Library) (layout : Layout) (site : List ℕ) (rows : List Row) (
   abbrev rules_in : List net.Rule
   rules_in = whole.rules_now lib layout site rows callee f fl flow_laid flow_sees flow_there fl_there args place_in start rules owners_out even_start
 
-  abbrev owners_now : List ℕ
+  abbrev pub owners_now : List ℕ
   owners_now = whole.owners_now lib layout site rows callee f fl flow_laid flow_sees flow_there fl_there args place_in start rules owners_out even_start
 
   abbrev news_in : List New
@@ -185,10 +181,10 @@ module _ (lib : Library) (layout : Layout) (site : List ℕ) (rows : List Row) (
   abbrev joints : List New
   joints = copying ++ ending ∷ []
 
-  abbrev last_plot : Plot
+  abbrev pub last_plot : Plot
   last_plot = with_call f args place_in fl flow_laid.body l base start
 
-  abbrev last_net : Sown
+  abbrev pub last_net : Sown
   last_net = last_plot.net
 
   joined_net : last_net ≡ with_news flow_net.net joints
@@ -199,10 +195,10 @@ module _ (lib : Library) (layout : Layout) (site : List ℕ) (rows : List Row) (
       ∙ copies_added (first + fl.first_output) (base + a.next_name) count flow_net.net)
       ∙ news_last flow_net.net copying ending
 
-  abbrev rules_now : List net.Rule
+  abbrev pub rules_now : List net.Rule
   rules_now = rules_in ++ map new_means joints
 
-  abbrev b : Sheet
+  abbrev pub b : Sheet
   b = sheet_of last_net rules_now
 
   values_same : last_net.values ≡ flow_net.net.values
@@ -215,14 +211,7 @@ module _ (lib : Library) (layout : Layout) (site : List ℕ) (rows : List Row) (
   value_kept c o h = ap (λ (os : List (Option Value)). slice_get os c) values_same ∙ behind.values c o h
 
   longer : length v.values ≤ length b.values
-  longer = by_last (length v.values) refl
-    where
-      by_last : (m : ℕ) → length v.values ≡ m → m ≤ length b.values
-      by_last zero e = omega arith
-      by_last (suc m) e =
-          let h = slice_get-get_or v.values m None (omega (arith, e)) in
-          let inside = slice_get_within b.values m (get_or v.values m None) (value_kept m (get_or v.values m None) h) in
-          omega (arith, inside)
+  longer = kept_length v.values b.values value_kept
 
   rule_here : (j u : ℕ) (m : New) → u ≡ name_step + j → slice_get joints j ≡ Some m → slice_get rules_now u ≡ Some m.means
   rule_here j u m e h = let size = even_in.rules_too in rule_at rules_in joints j u m (omega (arith, e, size)) h
@@ -241,16 +230,18 @@ module _ (lib : Library) (layout : Layout) (site : List ℕ) (rows : List Row) (
   owners_in = whole.owners_in lib layout site rows callee f fl flow_laid flow_sees flow_there fl_there args place_in start rules owners_out even_start
 
   name_free : (j : ℕ) → j < count → IsFree b owners_now (name_step + j) (base + a.next_name + j)
-  name_free j lt =
-      (ap (slice_get owners_now) (omega arith)
-      ∙ get_left owners_out owners_in (base + (a.next_name + j)) (name_step + j)
-      (names_given (sheet_of v rules) owners t base a.next_name count a.next_call 0 l.done own_names own_calls own_done fits.0 low name_step done_step done_step j lt),
-      ap (slice_get b.values) (omega arith) ∙ value_kept (base + (a.next_name + j)) None (own_names j lt).1)
+  name_free j lt = (
+    ap (slice_get owners_now) (omega arith)
+        ∙ get_left owners_out owners_in (base + (a.next_name + j)) (name_step + j)
+        (names_given (sheet_of v rules) owners t base a.next_name count a.next_call 0 l.done own_names own_calls own_done fits.0 low name_step done_step done_step j lt),
+    ap (slice_get b.values) (omega arith) ∙ value_kept (base + (a.next_name + j)) None (own_names j lt).1,
+  )
 
   done_free : IsFree b owners_now done_step (base + l.done)
-  done_free =
-      (get_left owners_out owners_in (base + l.done) done_step (done_given (sheet_of v rules) owners t base a.next_name count a.next_call 0 l.done own_names own_calls own_done fits.0 low name_step done_step done_step),
-      value_kept (base + l.done) None own_done.1)
+  done_free = (
+    get_left owners_out owners_in (base + l.done) done_step (done_given (sheet_of v rules) owners t base a.next_name count a.next_call 0 l.done own_names own_calls own_done fits.0 low name_step done_step done_step),
+    value_kept (base + l.done) None own_done.1,
+  )
 
   -- ---- what is copied and ends
 
@@ -262,12 +253,13 @@ module _ (lib : Library) (layout : Layout) (site : List ℕ) (rows : List Row) (
       let many = count_is in
       let lower : i < count = omega (arith, lt, many) in
       subst (λ (p : ℕ). Copies p d) (sym e)
-      (subst (λ (c : ℕ). Copies (first + fl.first_output + i) c) (sym g)
-      (name_step + i,
-      inl
-      (joint_waits lib site rows b owners_now (name_step + i) (copies (first + fl.first_output + i) (base + a.next_name + i)) ((first + fl.first_output + i) ∷ []) (base + a.next_name + i)
-      (rule_here i (name_step + i) (copy_new (first + fl.first_output) (base + a.next_name) i) refl (copy_there i lower))
-      (step_here i (name_step + i) (copy_new (first + fl.first_output) (base + a.next_name) i) refl (copy_there i lower)) (name_free i lower))))
+      (subst (λ (c : ℕ). Copies (first + fl.first_output + i) c) (sym g) (
+        name_step + i,
+        inl
+            (joint_waits lib site rows b owners_now (name_step + i) (copies (first + fl.first_output + i) (base + a.next_name + i)) ((first + fl.first_output + i) ∷ []) (base + a.next_name + i)
+            (rule_here i (name_step + i) (copy_new (first + fl.first_output) (base + a.next_name) i) refl (copy_there i lower))
+            (step_here i (name_step + i) (copy_new (first + fl.first_output) (base + a.next_name) i) refl (copy_there i lower)) (name_free i lower)),
+      ))
 
   outs_at : fl.first_output ≡ length (whole.seen_out lib layout site rows callee f fl flow_laid flow_sees flow_there fl_there args place_in start rules owners_out even_start)
   outs_at = flow_laid.first_output ∙ ap length (whole.seen_is lib layout site rows callee f fl flow_laid flow_sees flow_there fl_there args place_in start rules owners_out even_start)
@@ -282,11 +274,12 @@ module _ (lib : Library) (layout : Layout) (site : List ℕ) (rows : List Row) (
       (whole.outs_found lib layout site rows callee f fl flow_laid flow_sees flow_there fl_there args place_in start rules owners_out even_start) name_copied)
 
   all_ended : Ending lib site rows (rules_of b) (state_of b owners_now) (flow_dones f fl flow_laid.body first) (base + l.done)
-  all_ended =
-      (done_step,
-      inl
-      (joint_waits lib site rows b owners_now done_step (ends (flow_dones f fl flow_laid.body first) (base + l.done)) (flow_dones f fl flow_laid.body first) (base + l.done) (rule_here count done_step ending refl ending_there)
-      (step_here count done_step ending refl ending_there) done_free))
+  all_ended = (
+    done_step,
+    inl
+        (joint_waits lib site rows b owners_now done_step (ends (flow_dones f fl flow_laid.body first) (base + l.done)) (flow_dones f fl flow_laid.body first) (base + l.done) (rule_here count done_step ending refl ending_there)
+        (step_here count done_step ending refl ending_there) done_free),
+  )
 
   -- ---- what has grown
 

@@ -1,31 +1,73 @@
 -- A plan goes on growing: what a law of moves gives, as what holds of a plan at any time.
-use Rattle.std.proofs.Common.{◌≡◌, ℕ, zero, suc, ◌+◌, ◌<◌, ◌≤◌, ◌⊎◌, inl, inr, Bool, true, false, List, [], ◌∷◌, ◌++◌, All, map, length, get_or, Option, Some, None, slice_get, slice_set, arith, sym, ap, ◌∙◌, subst, refl}
+use Rattle.value_net.specs.Nets.{value_at}
+use Rattle.std.proofs.Common.{◌≡◌, ℕ, zero, suc, ◌+◌, ◌<◌, ◌≤◌, ◌⊎◌, inl, inr, true, false, List, [], ◌∷◌, ◌++◌, map, length, get_or, Some, slice_get, slice_set, arith, sym, ap, ◌∙◌, subst}
 use Rattle.std.proofs.lemmas.Bool.{true≢false}
 use Rattle.std.proofs.lemmas.List.{length-append, length-map, length-set}
 use Rattle.std.proofs.lemmas.Option.{slice_get-get_or, slice_get_within}
 use Rattle.wdl_value.specs.Tables.{Row}
 use Rattle.wdl_typed.specs.declared.flow.Statement.TheVariants as stmt
 use Rattle.wdl_typed.specs.Bodies.{Library}
-use Rattle.step_net.specs.Views.{Wants}
 use Rattle.net_laws.specs.Cost.{TaskCost}
 use Rattle.net_laws.specs.Growing as net
 use Rattle.net_laws.specs.Growing.{Form, does}
-use Rattle.net_laws.specs.Moving.{IsWeight, at_step}
+use Rattle.net_laws.specs.Moving.{IsWeight}
 use Rattle.net_laws.specs.Net.{Work}
-use Rattle.net_laws.specs.Works.{evaluated, work_of}
-use Rattle.plan_moves.specs.Sheets.{Grown, rules_of, state_of, taken_in}
+use Rattle.plan_moves.specs.Sheets.{Grown, taken_in}
 use Rattle.plan_layout.specs.declared.layout.Layout.{Layout}
 use Rattle.plan_growth.specs.declared.instance.Instance.{Instance}
-use Rattle.plan_growth.specs.declared.rule.Rule.{Rule}
 use Rattle.plan_growth.specs.Entering.{Sown}
-use Rattle.plan_growth.specs.Growth.{Growth, IsAsker, IsEven, IsGrowing, growth_leaves, growth_spent, growth_work, is_leaf, sheet_of}
+use Rattle.plan_growth.specs.Growth.{Growth, IsAsker, IsGrowing, growth_leaves, growth_spent, growth_work, is_leaf, sheet_of, AskedCall}
 use Rattle.plan_growth.specs.Meaning.{rule_cells}
 use Rattle.plan_growth.specs.News.{AllStand, New, new_means, new_wants}
-use Rattle.plan_growth.proofs.Adding.{apart}
-use Rattle.plan_growth.proofs.Lists.{get_left, get_none, get_split, get_unset}
+use Rattle.plan_growth.proofs.Askers.{ended_set_same, task_kept}
+use Rattle.plan_growth.proofs.Heads.{set_same, values_kept}
+use Rattle.plan_growth.proofs.Lists.{get_split}
 use Rattle.plan_growth.proofs.Moving.{Moves, all_stand, free_kept, mapped_back, rule_kept, step_now, step_other}
 
-module _ (lib : Library) (layout : Layout) (site : List ℕ) (rows : List Row) (depth : ℕ) (form : Form) (v : Sown) (is : List Instance) (listed : Work) (asked : List ℕ) (paid : TaskCost → ℕ)
+module _ (lib : Library) (layout : Layout) (site : List ℕ) (rows : List Row) (depth : ℕ) (form : Form) (v : Sown) (is : List Instance) (listed : Work) (asked : List AskedCall) (paid : TaskCost → ℕ)
+    (g : IsGrowing lib layout site rows depth form v is listed asked paid) where
+  -- lists that weigh the same, and less that was paid
+  pub as_listed : (later : Work) → ((weight : Work → ℕ) → IsWeight weight → weight later ≡ weight listed) → (later_paid : TaskCost → ℕ) → ((task : TaskCost) → later_paid task ≤ paid task)
+      → IsGrowing lib layout site rows depth form v is later asked later_paid
+  as_listed later lists later_paid pays =
+      record {
+        laid = g.laid;
+        root = g.root;
+        growth = g.growth;
+        even = g.even;
+        stands = g.stands;
+        weighs = λ weight is_weight. g.weighs weight is_weight ∙ sym (lists weight is_weight);
+        once = g.once;
+        fresh = g.fresh;
+        asks = g.asks;
+        spends = λ task.
+            let a = g.spends task in
+            let b = pays task in
+            omega (arith, a, b);
+      }
+
+  -- a call that was asked more
+  pub asks_too : (u : AskedCall) → IsAsker lib layout site rows g.growth u → IsGrowing lib layout site rows depth form v is listed (asked ++ u ∷ []) paid
+  asks_too u h =
+      record {
+        laid = g.laid;
+        root = g.root;
+        growth = g.growth;
+        even = g.even;
+        stands = g.stands;
+        weighs = g.weighs;
+        once = g.once;
+        fresh = g.fresh;
+        asks = λ j x e. by_case j x (get_split asked (u ∷ []) j x e);
+        spends = g.spends;
+      }
+    where
+      by_case : (j : ℕ) (x : AskedCall) → (slice_get asked j ≡ Some x) ⊎ ((i : ℕ) × (j ≡ length asked + i) × (slice_get (u ∷ []) i ≡ Some x)) → IsAsker lib layout site rows g.growth x
+      by_case j x (inl e) = g.asks j x e
+      by_case j x (inr (zero, e, is_)) = let same : u ≡ x = cc in subst (λ (z : AskedCall). IsAsker lib layout site rows g.growth z) same h
+      by_case j x (inr (suc i, e, is_)) = absurd (let f : ⊥ = cc in f)
+
+module _ (lib : Library) (layout : Layout) (site : List ℕ) (rows : List Row) (depth : ℕ) (form : Form) (v : Sown) (is : List Instance) (listed : Work) (asked : List AskedCall) (paid : TaskCost → ℕ)
     (g : IsGrowing lib layout site rows depth form v is listed asked paid) where
   abbrev old_leaves : ℕ → ℕ → ℕ
   old_leaves u k = growth_leaves lib layout site rows g.growth u k
@@ -97,11 +139,13 @@ module _ (lib : Library) (layout : Layout) (site : List ℕ) (rows : List Row) (
           let past = adds.past_none u k le in
           omega (arith, sum, none, past)
 
-      asker_on : (u : ℕ) → IsAsker lib layout site rows g.growth u → IsAsker lib layout site rows now u
-      asker_on u h =
+      asker_on : (c : AskedCall) → IsAsker lib layout site rows g.growth c → IsAsker lib layout site rows now c
+      asker_on c h =
+          let u = c.step in
           let inside : u < length v.steps = (let a = slice_get_within g.growth.rules u (does (stmt.Call h.call) h.scope h.given h.done) h.rule in let b = g.even.rules_too in omega (arith, a, b)) in
           let was = slice_get-get_or v.steps u m.step inside in
           let other : u ≡ t → ⊥ = λ e. true≢false (sym h.taken ∙ ap taken_in (ap (slice_get v.steps) e ∙ m.there) ∙ m.fresh) in
+          let same = values_kept v.values w.values m.kept in
           record {
             call = h.call;
             scope = h.scope;
@@ -115,6 +159,10 @@ module _ (lib : Library) (layout : Layout) (site : List ℕ) (rows : List Row) (
                 let none = adds.old_none u k inside in
                 omega (arith, old, sum, none);
             free = free_kept t v g.growth.rules g.growth.owners is w rules_now owners_now js news m g.even u (rule_cells (does (stmt.Call h.call) h.scope h.given h.done)) other h.free;
+            place = h.place;
+            calls_task = task_kept lib (sheet_of v g.growth.rules) (sheet_of w rules_now) h.call h.scope h.given c.args c.task same h.calls_task h.names_set h.calls_set;
+            names_set = set_same (value_at v.values) (value_at w.values) h.calls_task.slots h.names_set same;
+            calls_set = ended_set_same (value_at v.values) (value_at w.values) h.calls_task.marks h.calls_set same;
           }
 
       pub goes_on : (added later_listed : Work) (cost later_paid : TaskCost → ℕ) → AllStand lib layout js (sheet_of w rules_now) owners_now (length v.steps) news
@@ -144,23 +192,12 @@ module _ (lib : Library) (layout : Layout) (site : List ℕ) (rows : List Row) (
                 omega (arith, a, b, c);
           }
 
-  -- a call that was asked more
-  pub asks_too : (u : ℕ) → IsAsker lib layout site rows g.growth u → IsGrowing lib layout site rows depth form v is listed (asked ++ u ∷ []) paid
-  asks_too u h =
-      record {
-        laid = g.laid;
-        root = g.root;
-        growth = g.growth;
-        even = g.even;
-        stands = g.stands;
-        weighs = g.weighs;
-        once = g.once;
-        fresh = g.fresh;
-        asks = λ j x e. by_case j x (get_split asked (u ∷ []) j x e);
-        spends = g.spends;
-      }
-    where
-      by_case : (j x : ℕ) → (slice_get asked j ≡ Some x) ⊎ ((i : ℕ) × (j ≡ length asked + i) × (slice_get (u ∷ []) i ≡ Some x)) → IsAsker lib layout site rows g.growth x
-      by_case j x (inl e) = g.asks j x e
-      by_case j x (inr (zero, e, is_)) = let same : u ≡ x = cc in subst (λ (z : ℕ). IsAsker lib layout site rows g.growth z) same h
-      by_case j x (inr (suc i, e, is_)) = absurd (let f : ⊥ = cc in f)
+      -- The same where the step is one of a call that was asked.
+      pub goes_asked : (added later_listed : Work) (cost later_paid : TaskCost → ℕ) → AllStand lib layout js (sheet_of w rules_now) owners_now (length v.steps) news
+          → ((weight : Work → ℕ) → IsWeight weight → weight (growth_work lib layout site rows now) ≡ weight (growth_work lib layout site rows g.growth) + weight added)
+          → ((weight : Work → ℕ) → IsWeight weight → weight later_listed ≡ weight listed + weight added)
+          → ((task : TaskCost) → growth_spent lib layout site rows task now ≡ growth_spent lib layout site rows task g.growth + cost task)
+          → ((task : TaskCost) → later_paid task ≤ paid task + cost task) → (c : AskedCall) → IsAsker lib layout site rows now c → IsGrowing lib layout site rows depth form w js later_listed (asked ++ c ∷ []) later_paid
+      unfolding goes_on
+      goes_asked added later_listed cost later_paid stand weighs lists spends pays c h =
+          asks_too lib layout site rows depth form w js later_listed asked later_paid (goes_on added later_listed cost later_paid stand weighs lists spends pays) c h

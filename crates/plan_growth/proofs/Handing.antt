@@ -1,5 +1,5 @@
 -- Cells of a block that are given to the steps of its joints.
-use Rattle.std.proofs.Common.{◌≡◌, ℕ, zero, suc, ◌+◌, ◌<◌, ◌≤◌, ◌⊎◌, inl, inr, List, [], ◌∷◌, length, Some, slice_get, slice_set, arith, sym, ap, ◌∙◌, refl}
+use Rattle.std.proofs.Common.{◌≡◌, ℕ, zero, suc, ◌+◌, ◌<◌, ◌⊎◌, inl, inr, List, length, Some, slice_get, slice_set, arith, ap, ◌∙◌, refl}
 use Rattle.std.proofs.lemmas.List.{length-set}
 use Rattle.plan_growth.proofs.Adding.{last}
 use Rattle.plan_growth.proofs.Lists.{get_set, get_unset}

@@ -1,5 +1,5 @@
 -- What the expression of a step comes to, over cells that are all set.
-use Rattle.std.proofs.Common.{◌≡◌, ℕ, Bool, true, false, cond, ◌&&◌, List, [], ◌∷◌, ◌++◌, map, is_some, Option, Some, None, slice_get, sym, ap, ◌∙◌, subst, refl}
+use Rattle.std.proofs.Common.{◌≡◌, ℕ, Bool, true, cond, List, [], ◌∷◌, ◌++◌, map, is_some, Option, Some, None, slice_get, sym, ap, ◌∙◌, subst, refl}
 use Rattle.std.specs.List.{list_all}
 use Rattle.std.proofs.lemmas.Bool.{and_from, and_parts, false≢true}
 use Rattle.wdl_base.specs.declared.name.Key.{Key}
@@ -8,7 +8,7 @@ use Rattle.wdl_value.specs.declared.value.Value.{Value}
 use Rattle.wdl_value.specs.Outcome.{Outcome}
 use Rattle.wdl_typed.specs.declared.expr.TExpr.{TExpr}
 use Rattle.wdl_typed.specs.Evaluation.{value_of}
-use Rattle.wdl_typed.specs.Flow.{Known, all_known, env_of}
+use Rattle.wdl_typed.specs.Flow.{Known, env_of}
 use Rattle.wdl_typed.specs.KnownTypes as known
 use Rattle.wdl_typed.specs.Requests.{before}
 use Rattle.wdl_typed.specs.Scope.{is_among, names_of}

@@ -1,5 +1,5 @@
 -- What the layout of a block tells of its body.
-use Rattle.std.proofs.Common.{◌≡◌, ℕ, ◌+◌, List, [], ◌∷◌, ◌++◌, Some, length, slice_get, sym, ap, ◌∙◌, subst, refl}
+use Rattle.std.proofs.Common.{◌≡◌, ℕ, List, [], ◌∷◌, ◌++◌, Some, slice_get, sym, subst}
 use Rattle.wdl_typed.specs.declared.flow.Statement.{Statement, Statement-F, out-Statement}
 use Rattle.wdl_typed.specs.declared.flow.Statement.TheOpen as layer
 use Rattle.wdl_typed.specs.declared.flow.Statement.TheVariants as stmt

@@ -1,6 +1,6 @@
 -- An instance of a body, as it stands after it was entered.
-use Rattle.std.proofs.Common.{◌≡◌, ℕ, zero, suc, ◌+◌, ◌<◌, ◌≤◌, List, [], ◌∷◌, ◌++◌, map, length, get_or, replicate, Option, Some, None, slice_get, arith, sym, ap, ◌∙◌, subst, refl}
-use Rattle.std.proofs.lemmas.List.{length-append, length-replicate}
+use Rattle.std.proofs.Common.{◌≡◌, ℕ, ◌+◌, ◌<◌, ◌≤◌, List, ◌++◌, map, length, replicate, Option, Some, None, slice_get, arith, ap, ◌∙◌}
+use Rattle.std.proofs.lemmas.List.{length-append}
 use Rattle.std.proofs.lemmas.Option.{slice_get_within}
 use Rattle.wdl_base.specs.declared.place.Segment.{Segment}
 use Rattle.wdl_value.specs.declared.value.Value.{Value}
@@ -15,7 +15,7 @@ use Rattle.plan_layout.specs.declared.layout.StatementLayout.{StatementLayout}
 use Rattle.plan_layout.specs.Laid.{Stand, beginning, behind_all}
 use Rattle.plan_growth.specs.Begun.{IsFree, base_at}
 use Rattle.plan_growth.proofs.Lists.{get_at, get_copy, get_left, get_right}
-use Rattle.plan_growth.proofs.Sitting.{ArePut, Owned, body_rules, call_owners, calls_count, done_owners, dones_count, name_owners, names_count, wants_of}
+use Rattle.plan_growth.proofs.Sitting.{ArePut, body_rules, call_owners, calls_count, done_owners, dones_count, name_owners, names_count, wants_of}
 
 -- What is at a place of the one list is there in the other.
 abbrev pub Kept : {A : Type 0} → List A → List A → Type 0

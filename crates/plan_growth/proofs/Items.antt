@@ -1,6 +1,6 @@
 -- The items of a scatter that is entered.
-use Rattle.std.proofs.Common.{◌≡◌, ℕ, zero, suc, ◌+◌, ◌*◌, ◌<◌, ◌≤◌, List, [], ◌∷◌, ◌++◌, map, append_assoc, append-nil, length, get_or, Option, Some, None, slice_get, arith, sym, ap, ◌∙◌, subst, refl, suc-mul}
-use Rattle.std.proofs.lemmas.List.{get_or_push, length-append, length-map, map-append}
+use Rattle.std.proofs.Common.{◌≡◌, ℕ, ◌+◌, ◌<◌, ◌≤◌, List, [], ◌∷◌, ◌++◌, map, append_assoc, append-nil, length, get_or, Some, slice_get, arith, sym, ap, ◌∙◌, subst, refl}
+use Rattle.std.proofs.lemmas.List.{get_or_push, length-append, map-append}
 use Rattle.std.proofs.lemmas.Option.{slice_get_within}
 use Rattle.wdl_base.specs.declared.place.Segment.{Segment}
 use Rattle.wdl_base.specs.declared.place.Segment.TheVariants as segment
@@ -10,30 +10,27 @@ use Rattle.wdl_typed.specs.declared.flow.FlowDef.{FlowDef}
 use Rattle.wdl_typed.specs.declared.flow.Statement.{Statement}
 use Rattle.wdl_typed.specs.Bodies.{Library}
 use Rattle.wdl_typed.specs.Declarations.{plain_key}
-use Rattle.step_net.specs.Views.{Wants}
 use Rattle.value_net.specs.Nets.{joined, with_cells, with_value}
-use Rattle.net_laws.specs.Cost.{TaskCost}
 use Rattle.net_laws.specs.Growing as net
 use Rattle.net_laws.specs.Growing.{Item, all, body_given, each, item_next, no_item}
 use Rattle.net_laws.specs.Moving as even
 use Rattle.net_laws.specs.Moving.{IsWeight, at_step}
-use Rattle.net_laws.specs.Net.{Given, Mark, Scope, Slot, Work, both_works, item_scope, no_work}
+use Rattle.net_laws.specs.Net.{Mark, Scope, Slot, Work, both_works, item_scope, no_work}
 use Rattle.net_laws.specs.Planned.{counted}
-use Rattle.net_laws.specs.Works.{evaluated, work_of}
+use Rattle.net_laws.specs.Works.{work_of}
 use Rattle.net_laws.proofs.Even.{work_even}
 use Rattle.plan_moves.specs.Sheets.{Sheet, rules_of, state_of}
 use Rattle.plan_layout.specs.declared.layout.BodyLayout.{BodyLayout}
 use Rattle.plan_layout.specs.declared.layout.Layout.{Layout}
 use Rattle.plan_layout.specs.declared.layout.Need.{Need}
-use Rattle.plan_layout.specs.Cells.{cell_at, marks_at, slot_at, slots_at}
+use Rattle.plan_layout.specs.Cells.{marks_at, slot_at, slots_at}
 use Rattle.plan_layout.specs.Laid as laid
 use Rattle.plan_layout.specs.Laid.{HasRuns, Laid, Stand, beginning, item_spot}
 use Rattle.plan_layout.specs.Paths.{body_at}
 use Rattle.plan_layout.specs.Sees.{Sees}
 use Rattle.plan_growth.specs.declared.instance.Instance.{Instance}
-use Rattle.plan_growth.specs.declared.rule.Rule.{Rule}
 use Rattle.plan_growth.specs.Begun.{AllSit, HasBegun, all_given, base_at, hits, scope_at}
-use Rattle.plan_growth.specs.Entering.{Plot, Sown, dones_at, firsts_of, with_items}
+use Rattle.plan_growth.specs.Entering.{Plot, Sown, dones_at, with_items}
 use Rattle.plan_growth.specs.Growth.{IsEven, sheet_of}
 use Rattle.plan_growth.specs.Meaning.{AreThere}
 use Rattle.plan_growth.specs.News.{AllStand, New, new_code, new_means, new_wants, statement_news, with_news}
@@ -98,13 +95,14 @@ module _ (lib : Library) (layout : Layout) (number : ℕ) (bl : BodyLayout) (flo
   pub items_later : (b c : Sheet) (mine theirs : List ℕ) (is js : List Instance) → Extends b mine c theirs → Kept is js → (i : ℕ) (xs : List Value) (p : Plot) → AllItems b mine is i xs p → AllItems c theirs js i xs p
   items_later b c mine theirs is js e kept i [] p h = tt
   items_later b c mine theirs is js e kept i (x ∷ xs) p h =
-      let q = entered (i + 1) xs p in
-      (record {
-        cell = e.values (length q.net.values) (Some x) h.0.cell;
-        entered_there = entered_later lib b c mine theirs (bases_at q) (place_at i) (0 ∷ []) [] (length q.net.values) (length q.net.steps) ss inner bl.statements e h.0.entered_there;
-        instance = kept (length q.instances) (record { body = number; bases = bases_at q; place = place_at i }) h.0.instance;
-      },
-      items_later b c mine theirs is js e kept (i + 1) xs p h.1)
+      let q = entered (i + 1) xs p in (
+        record {
+          cell = e.values (length q.net.values) (Some x) h.0.cell;
+          entered_there = entered_later lib b c mine theirs (bases_at q) (place_at i) (0 ∷ []) [] (length q.net.values) (length q.net.steps) ss inner bl.statements e h.0.entered_there;
+          instance = kept (length q.instances) (record { body = number; bases = bases_at q; place = place_at i }) h.0.instance;
+        },
+        items_later b c mine theirs is js e kept (i + 1) xs p h.1,
+      )
 
   module _ (deep : length path ≡ length outer) (p : Laid (Sees lib) lib bl.flow flow.body layout.bodies (laid.all ss inner bl.statements)) (cells : bl.cells ≡ (laid.behind_all lib ss inner).next_done) where
     -- the items from one on are entered, and the rules and owners are these
@@ -162,13 +160,14 @@ module _ (lib : Library) (layout : Layout) (number : ℕ) (bl : BodyLayout) (flo
       next_entered : AreEntered i (x ∷ xs) q rules owners now_rules now_owners
       next_entered =
           record {
-            items =
-                (record {
-                  cell = item_there lib number bl ss outer (place_at i) (0 ∷ []) [] inner_names a.calls path deep bl.flow flow.body layout.bodies p cells mid now own h.even (omega arith) x;
-                  entered_there = item_entered lib number bl ss outer (place_at i) (0 ∷ []) [] inner_names a.calls path deep bl.flow flow.body layout.bodies p cells mid now own h.even (omega arith) x;
-                  instance = ap (slice_get last.instances) (omega arith) ∙ get_right mid.instances (instance_now ∷ []) 0;
-                },
-                items_later (sheet_of mid.net now) (sheet_of last.net now_rules) own now_owners mid.instances last.instances on kept (i + 1) xs q h.items);
+            items = (
+              record {
+                cell = item_there lib number bl ss outer (place_at i) (0 ∷ []) [] inner_names a.calls path deep bl.flow flow.body layout.bodies p cells mid now own h.even (omega arith) x;
+                entered_there = item_entered lib number bl ss outer (place_at i) (0 ∷ []) [] inner_names a.calls path deep bl.flow flow.body layout.bodies p cells mid now own h.even (omega arith) x;
+                instance = ap (slice_get last.instances) (omega arith) ∙ get_right mid.instances (instance_now ∷ []) 0;
+              },
+              items_later (sheet_of mid.net now) (sheet_of last.net now_rules) own now_owners mid.instances last.instances on kept (i + 1) xs q h.items,
+            );
             extends = extends_twice (sheet_of q.net rules) (sheet_of mid.net now) (sheet_of last.net now_rules) owners own now_owners h.extends on;
             even = item_even lib number bl ss outer (place_at i) (0 ∷ []) [] inner_names a.calls path deep bl.flow flow.body layout.bodies p cells mid now own h.even (omega arith) x;
             instances = λ j z e. kept j z (h.instances j z e);

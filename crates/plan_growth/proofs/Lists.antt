@@ -1,8 +1,5 @@
 -- Elements of lists that are made of others.
-use Rattle.std.proofs.Common.{◌≡◌, ℕ, zero, suc, ◌+◌, ◌<◌, ◌≤◌, ◌⊎◌, inl, inr, List, [], ◌∷◌, ◌++◌, All, map, length, replicate, Option, Some, None, get_or, slice_get, slice_set, arith, sym, ap, ◌∙◌, subst, refl}
-use Rattle.std.proofs.lemmas.List.{length-replicate}
-use Rattle.std.proofs.lemmas.List.Elements.{All-cons, All-nil}
-use Rattle.std.proofs.lemmas.Option.{slice_get_within}
+use Rattle.std.proofs.Common.{◌≡◌, ℕ, zero, suc, ◌+◌, ◌<◌, ◌≤◌, ◌⊎◌, inl, inr, List, [], ◌∷◌, ◌++◌, length, replicate, Some, None, slice_get, slice_set, arith, ap, refl, Option}
 
 module _ {A : Type 0} where
   -- ---- one list behind another
@@ -58,3 +55,12 @@ module _ {A : Type 0} where
   get_unset (y ∷ xs) zero (suc j) x n = refl
   get_unset (y ∷ xs) (suc i) zero x n = refl
   get_unset (y ∷ xs) (suc i) (suc j) x n = get_unset xs i j x (λ e. n (omega (arith, e)))
+
+  -- A list that has all that another has is as long at least.
+  pub kept_length : (xs ys : List A) → ((i : ℕ) (x : A) → slice_get xs i ≡ Some x → slice_get ys i ≡ Some x) → length xs ≤ length ys
+  kept_length [] ys h = omega arith
+  kept_length (x ∷ xs) [] h = absurd (let z : ⊥ = none_there (h 0 x refl) in z)
+    where
+      none_there : (let o : Option A = None in o ≡ Some x) → ⊥
+      none_there e = cc
+  kept_length (x ∷ xs) (y ∷ ys) h = let rest = kept_length xs ys (λ i z e. h (suc i) z e) in omega (arith, rest)

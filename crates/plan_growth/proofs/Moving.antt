@@ -1,10 +1,9 @@
 -- A step of the plan that is taken, and what it keeps.
 use Rattle.std.proofs.Common.{◌≡◌, ℕ, zero, suc, ◌+◌, ◌<◌, ◌≤◌, ◌⊎◌, inl, inr, Bool, true, false, ◌&&◌, is_some, List, [], ◌∷◌, ◌++◌, All, map, length, get_or, Option, Some, None, slice_get, slice_set, arith, sym, ap, ◌∙◌, subst, refl}
-use Rattle.std.proofs.lemmas.Bool.{false≢true, true≢false}
-use Rattle.std.proofs.lemmas.List.{length-append, length-map, length-set}
+use Rattle.std.proofs.lemmas.Bool.{true≢false}
+use Rattle.std.proofs.lemmas.List.{length-set}
 use Rattle.std.proofs.lemmas.Option.{slice_get-get_or, slice_get_within}
 use Rattle.wdl_value.specs.declared.value.Value.{Value}
-use Rattle.wdl_value.specs.Tables.{Row}
 use Rattle.wdl_typed.specs.declared.expr.TExpr.{TExpr}
 use Rattle.wdl_typed.specs.declared.flow.FlowDef.{FlowDef}
 use Rattle.wdl_typed.specs.Bodies.{Library}
@@ -14,7 +13,7 @@ use Rattle.value_net.specs.Nets as values
 use Rattle.value_net.specs.Nets.{IsTaken, joined, value_at, with_taken}
 use Rattle.net_laws.specs.Growing as net
 use Rattle.net_laws.specs.Growing.{are_set}
-use Rattle.plan_moves.specs.Sheets.{Holds, IsMove, Sheet, state_of, taken_in}
+use Rattle.plan_moves.specs.Sheets.{IsMove, state_of}
 use Rattle.plan_layout.specs.declared.layout.BodyLayout.{BodyLayout}
 use Rattle.plan_layout.specs.declared.layout.Layout.{Layout}
 use Rattle.plan_layout.specs.declared.layout.Need.{Need}
@@ -24,7 +23,7 @@ use Rattle.plan_growth.specs.declared.rule.Rule.TheVariants as rule
 use Rattle.plan_growth.specs.Begun.{IsFree}
 use Rattle.plan_growth.specs.Entering.{Sown}
 use Rattle.plan_growth.specs.Growth.{IsEven, sheet_of}
-use Rattle.plan_growth.specs.Meaning.{IsInstance, Means, MeansDeclared, MeansInput, MeansOutput, MeansStatement, rule_cells}
+use Rattle.plan_growth.specs.Meaning.{IsInstance, Means, MeansDeclared, rule_cells}
 use Rattle.plan_growth.specs.News.{AllStand, New, Stands, new_code, new_means, new_wants}
 use Rattle.plan_growth.proofs.Adding.{apart, stand_get, step_at}
 use Rattle.plan_growth.proofs.Instances.{Kept}

@@ -1,28 +1,25 @@
 -- The cells of a block outside it: they are given to the steps of its joints.
-use Rattle.std.proofs.Common.{◌≡◌, ℕ, zero, suc, ◌+◌, ◌<◌, ◌≤◌, ◌⊎◌, inl, inr, false, List, [], ◌∷◌, ◌++◌, All, map, length, get_or, Option, Some, None, slice_get, slice_set, arith, sym, ap, ◌∙◌, subst, refl}
+use Rattle.std.proofs.Common.{◌≡◌, ℕ, zero, suc, ◌+◌, ◌<◌, ◌≤◌, List, [], ◌∷◌, ◌++◌, All, map, length, get_or, Some, slice_get, slice_set, arith, sym, ap, ◌∙◌, subst, refl}
 use Rattle.std.proofs.lemmas.List.{get_or-append-add, get_or_append_left, length-append, length-set}
 use Rattle.std.proofs.lemmas.List.Elements.{All-cons, All-head, All-nil, All-tail}
 use Rattle.std.proofs.lemmas.Option.{slice_get_within}
 use Rattle.wdl_base.specs.declared.name.Key.{Key}
 use Rattle.wdl_value.specs.Tables.{Row}
 use Rattle.wdl_typed.specs.Bodies.{Library}
-use Rattle.wdl_typed.specs.Flow.{Names}
 use Rattle.value_net.specs.Nets.{joined, with_step}
 use Rattle.net_laws.specs.Growing as net
 use Rattle.net_laws.specs.Growing.{IsWaiting, copies, ends, gathers, mark_cell, slot_cell}
 use Rattle.plan_moves.specs.Sheets.{Sheet, needs_in, rules_of, state_of, taken_in}
 use Rattle.plan_layout.specs.declared.layout.Layout.{Layout}
 use Rattle.plan_layout.specs.Cells.{marks_at, slots_at}
-use Rattle.plan_layout.specs.Laid.{Stand}
 use Rattle.plan_layout.specs.Spots.{plain_keys, spots_from}
 use Rattle.plan_growth.specs.declared.instance.Instance.{Instance}
 use Rattle.plan_growth.specs.declared.rule.Rule.TheVariants as rule
 use Rattle.plan_growth.specs.Begun.{IsFree}
 use Rattle.plan_growth.specs.Entering.{Sown, beyond_each, with_copies, with_ends, with_gathers}
-use Rattle.plan_growth.specs.News.{AllStand, New, Stands, left_wants, new_wants, with_news}
+use Rattle.plan_growth.specs.News.{New, Stands, left_wants, with_news}
 use Rattle.plan_growth.proofs.Adding.{news_by, news_last}
 use Rattle.plan_growth.proofs.Handing.{handed, handed_get, handed_length, handed_other}
-use Rattle.plan_growth.proofs.Instances.{Kept}
 use Rattle.plan_growth.proofs.Lists.{get_set, get_unset}
 use Rattle.plan_growth.proofs.Standing.{news_none}
 

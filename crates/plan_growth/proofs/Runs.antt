@@ -1,5 +1,5 @@
 -- The names and calls that bodies give out, as runs of cells, and where they are found.
-use Rattle.std.proofs.Common.{◌≡◌, ℕ, zero, suc, ◌+◌, ◌<◌, Bool, true, false, cond, not, ◌&&◌, List, [], ◌∷◌, ◌++◌, map, length, get_or, Option, Some, None, arith, sym, ap, ◌∙◌, subst, refl}
+use Rattle.std.proofs.Common.{◌≡◌, ℕ, suc, ◌+◌, ◌<◌, Bool, true, false, cond, not, List, [], ◌∷◌, ◌++◌, map, length, get_or, Option, Some, arith, sym, ap, ◌∙◌, subst, refl}
 use Rattle.std.specs.Str.{bytes_eq}
 use Rattle.std.proofs.lemmas.Bool.{and_parts, false≢true, not-true, or_parts}
 use Rattle.std.proofs.lemmas.List.{length-map, map-append}
@@ -13,8 +13,8 @@ use Rattle.wdl_typed.specs.Flow.{Names}
 use Rattle.wdl_typed.specs.Journal.{keys_distinct}
 use Rattle.wdl_typed.specs.Scope.{is_among, same_key}
 use Rattle.flow_laws.proofs.Keys.{key_itself, key_same}
-use Rattle.net_laws.specs.Growing.{AllEnding, AllGathered, Copied, Ending, Gathered, Item, MarksCopied, Rule, SlotsCopied, State, body_given, found}
-use Rattle.net_laws.specs.Net.{Given, Mark, MarksResolved, Resolved, Slot, find, find_call, mark_calls, slot_keys}
+use Rattle.net_laws.specs.Growing.{AllEnding, AllGathered, Copied, Ending, Gathered, Item, MarksCopied, Rule, SlotsCopied, State, body_given}
+use Rattle.net_laws.specs.Net.{Mark, MarksResolved, Resolved, Slot, find, find_call, mark_calls, slot_keys}
 use Rattle.plan_layout.specs.declared.layout.Need.{Need}
 use Rattle.plan_layout.specs.Cells.{mark_at, marks_at, slot_at, slots_at}
 use Rattle.plan_layout.specs.Laid.{Stand, behind_one, given_at}
@@ -115,9 +115,10 @@ ended_more m ms (n ∷ ns) h r =
 pub self_ended : (ms : List Mark) → keys_distinct (plain_keys (mark_calls ms)) ≡ true → MarksResolved ms ms
 self_ended [] h = tt
 self_ended (m ∷ ms) h =
-    let p = and_parts (not (is_among (plain_key m.call) (plain_keys (mark_calls ms)))) (keys_distinct (plain_keys (mark_calls ms))) h in
-    (ap (λ (b : Bool). cond b (Some m.cell) (find_call ms m.call)) ((bytes_eq-Decides m.call m.call).1 refl),
-    ended_more m ms ms (not-true (is_among (plain_key m.call) (plain_keys (mark_calls ms))) p.0) (self_ended ms p.1))
+    let p = and_parts (not (is_among (plain_key m.call) (plain_keys (mark_calls ms)))) (keys_distinct (plain_keys (mark_calls ms))) h in (
+      ap (λ (b : Bool). cond b (Some m.cell) (find_call ms m.call)) ((bytes_eq-Decides m.call m.call).1 refl),
+      ended_more m ms ms (not-true (is_among (plain_key m.call) (plain_keys (mark_calls ms))) p.0) (self_ended ms p.1),
+    )
 
 pub run_keys : (c : ℕ) (ks : List Key) → slot_keys (run_slots c ks) ≡ ks
 run_keys c [] = refl
@@ -176,16 +177,20 @@ module _ (lib : Library) (site : List ℕ) (rows : List Row) (desc : ℕ → Rul
   pub gathered_all : (qs : List Item) (fs : List ℕ) (m c : ℕ) (ks : List Key) → NamesAt qs fs m ks
       → ((i n d : ℕ) → n ≡ m + i → d ≡ c + i → i < length ks → Gathered lib site rows desc st (beyond_each fs n) d) → AllGathered lib site rows desc st qs ks (run_slots c ks)
   gathered_all qs fs m c [] h joint = tt
-  gathered_all qs fs m c (k ∷ ks) h joint =
-      (refl, (beyond_each fs m, names_first qs fs m k ks h, joint 0 m c (omega arith) (omega arith) (omega arith)),
-      gathered_all qs fs (m + 1) (c + 1) ks (names_rest qs fs m (m + 1) k ks refl h) (λ i n d e f lt. joint (suc i) n d (omega (arith, e)) (omega (arith, f)) (omega (arith, lt))))
+  gathered_all qs fs m c (k ∷ ks) h joint = (
+    refl,
+    (beyond_each fs m, names_first qs fs m k ks h, joint 0 m c (omega arith) (omega arith) (omega arith)),
+    gathered_all qs fs (m + 1) (c + 1) ks (names_rest qs fs m (m + 1) k ks refl h) (λ i n d e f lt. joint (suc i) n d (omega (arith, e)) (omega (arith, f)) (omega (arith, lt))),
+  )
 
   pub ending_all : (qs : List Item) (fs : List ℕ) (m c : ℕ) (xs : List (List ℕ)) → CallsAt qs fs m xs
       → ((i n d : ℕ) → n ≡ m + i → d ≡ c + i → i < length xs → Ending lib site rows desc st (beyond_each fs n) d) → AllEnding lib site rows desc st qs xs (run_marks c xs)
   ending_all qs fs m c [] h joint = tt
-  ending_all qs fs m c (x ∷ xs) h joint =
-      (refl, (beyond_each fs m, calls_first qs fs m x xs h, joint 0 m c (omega arith) (omega arith) (omega arith)),
-      ending_all qs fs (m + 1) (c + 1) xs (calls_rest qs fs m (m + 1) x xs refl h) (λ i n d e f lt. joint (suc i) n d (omega (arith, e)) (omega (arith, f)) (omega (arith, lt))))
+  ending_all qs fs m c (x ∷ xs) h joint = (
+    refl,
+    (beyond_each fs m, calls_first qs fs m x xs h, joint 0 m c (omega arith) (omega arith) (omega arith)),
+    ending_all qs fs (m + 1) (c + 1) xs (calls_rest qs fs m (m + 1) x xs refl h) (λ i n d e f lt. joint (suc i) n d (omega (arith, e)) (omega (arith, f)) (omega (arith, lt))),
+  )
 
   pub slots_copied : (m c : ℕ) (ks : List Key) → ((i n d : ℕ) → n ≡ m + i → d ≡ c + i → i < length ks → Copied lib site rows desc st n d) → SlotsCopied lib site rows desc st (run_slots m ks) (run_slots c ks)
   slots_copied m c [] joint = tt

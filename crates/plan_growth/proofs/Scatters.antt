@@ -1,8 +1,7 @@
 -- A scatter that is entered.
-use Rattle.std.proofs.Common.{◌≡◌, ℕ, zero, suc, ◌+◌, ◌<◌, ◌≤◌, ◌⊎◌, inl, inr, true, false, List, [], ◌∷◌, ◌++◌, All, map, append_assoc, length, get_or, Option, Some, None, Ok, slice_get, slice_set, arith, sym, ap, ◌∙◌, subst, refl}
+use Rattle.std.proofs.Common.{◌≡◌, ℕ, zero, suc, ◌+◌, ◌<◌, ◌≤◌, ◌⊎◌, inl, inr, true, false, List, [], ◌∷◌, ◌++◌, All, map, length, get_or, Option, Some, None, Ok, slice_get, arith, sym, ap, ◌∙◌, subst, refl}
 use Rattle.std.proofs.lemmas.Bool.{false≢true}
-use Rattle.std.proofs.lemmas.List.{get_or_push, length-append, length-map, length-set, map-append}
-use Rattle.std.proofs.lemmas.List.Elements.{All-append, All-cons, All-nil}
+use Rattle.std.proofs.lemmas.List.{length-append, length-map, length-set}
 use Rattle.std.proofs.lemmas.Option.{slice_get-get_or, slice_get_within}
 use Rattle.wdl_base.specs.declared.place.Segment.{Segment}
 use Rattle.wdl_base.specs.declared.place.Segment.TheVariants as segment
@@ -10,7 +9,7 @@ use Rattle.wdl_value.specs.declared.value.Value.{Value}
 use Rattle.wdl_value.specs.Parts.{items_in}
 use Rattle.wdl_value.specs.Tables.{Row}
 use Rattle.wdl_typed.specs.declared.flow.FlowDef.{FlowDef}
-use Rattle.wdl_typed.specs.declared.flow.Statement.{Statement, Statement-F, out-Statement}
+use Rattle.wdl_typed.specs.declared.flow.Statement.{Statement, Statement-F}
 use Rattle.wdl_typed.specs.declared.flow.Statement.TheVariants as stmt
 use Rattle.wdl_typed.specs.declared.flow.TScatter.{TScatter}
 use Rattle.wdl_typed.specs.Bodies.{Library}
@@ -24,35 +23,32 @@ use Rattle.net_laws.specs.Growing.{AllEnding, AllGathered, Ending, Gathered, Ite
 use Rattle.net_laws.specs.Net.{Mark, Slot}
 use Rattle.plan_moves.specs.Laws.{EntersScatter, HasHead}
 use Rattle.plan_moves.specs.Sheets.{Sheet, rules_of, state_of}
-use Rattle.plan_layout.specs.declared.layout.BodyLayout.{BodyLayout}
 use Rattle.plan_layout.specs.declared.layout.Layout.{Layout}
 use Rattle.plan_layout.specs.declared.layout.StatementLayout.{StatementLayout}
-use Rattle.plan_layout.specs.Cells.{marks_at, slots_at}
 use Rattle.plan_layout.specs.Laid as laid
 use Rattle.plan_layout.specs.Laid.{Laid, Stand, given_at, item_spot}
 use Rattle.plan_layout.specs.Paths.{body_at}
 use Rattle.plan_layout.specs.Sees.{Sees}
-use Rattle.plan_layout.specs.Spots.{plain_keys, spots_from}
+use Rattle.plan_layout.specs.Spots.{plain_keys}
 use Rattle.plan_growth.specs.declared.instance.Instance.{Instance}
-use Rattle.plan_growth.specs.declared.rule.Rule.{Rule}
 use Rattle.plan_growth.specs.declared.rule.Rule.TheVariants as rule
 use Rattle.plan_growth.specs.Begun.{HasBegun, IsFree, base_at, given_by, hits, scope_at}
-use Rattle.plan_growth.specs.Blocks.{with_gathered, with_scatter}
+use Rattle.plan_growth.specs.Blocks.{with_gathered}
 use Rattle.plan_growth.specs.Entering as entering
 use Rattle.plan_growth.specs.Entering.{Plot, Sown, beyond_each, firsts_of, with_ends, with_gathers}
 use Rattle.plan_growth.specs.Growth.{IsEven, is_leaf, sheet_of}
 use Rattle.plan_growth.specs.Meaning.{AreThere, Fits, rule_cells}
-use Rattle.plan_growth.specs.News.{AllStand, New, left_wants, new_code, new_means, new_wants, with_news}
+use Rattle.plan_growth.specs.News.{AllStand, New, new_code, new_means, new_wants, with_news}
 use Rattle.plan_growth.proofs.Adding.{hits_before, hits_behind, hits_one, lists_both, news_both, news_by, news_by_get, news_by_length, news_by_of, news_last, rule_at, rules_both, stand_both, stand_by, step_at}
 use Rattle.plan_growth.proofs.Entry.{even_news}
 use Rattle.plan_growth.proofs.Firsts.{all_within, beyond_within, dones_same, items_called, items_named}
 use Rattle.plan_growth.proofs.Inside.{ScatterLaid}
-use Rattle.plan_growth.proofs.Instances.{Extends, Kept, instance_owners, owners_count}
+use Rattle.plan_growth.proofs.Instances.{Extends, instance_owners, owners_count}
 use Rattle.plan_growth.proofs.Items.{AllItems, AreEntered, are_entered, each_begins, entered, inner, items_later, items_leaves, items_news, items_of, items_owners, items_stand, items_work, leaves_sum, rules_after}
-use Rattle.plan_growth.proofs.Lists.{get_at, get_left, get_right, get_split}
+use Rattle.plan_growth.proofs.Lists.{get_at, get_left, get_split, kept_length}
 use Rattle.plan_growth.proofs.Moving.{Moves}
 use Rattle.plan_growth.proofs.Outer.{all_left, all_right, calls_at, calls_given, done_given, done_new, end_new, end_stands, ends_added, gather_new, gather_stands, gathers_added, joint_waits, names_at, names_given, others_owned, outer_length, outer_owners}
-use Rattle.plan_growth.proofs.Runs.{ending_all, gathered_all, marks_run, run_marks, run_slots, slots_run}
+use Rattle.plan_growth.proofs.Runs.{ending_all, gathered_all, marks_run, slots_run}
 use Rattle.plan_growth.proofs.Seen.{distinct_calls, distinct_own}
 use Rattle.plan_growth.proofs.Sitting.{dones_count}
 
@@ -111,7 +107,7 @@ module _ (lib : Library) (layout : Layout) (site : List ℕ) (rows : List Row) (
 
   -- ---- the items
 
-  abbrev items_net : Plot
+  abbrev pub items_net : Plot
   items_net = entered lib layout l.inner lay.inner flow x.body outer path place x.number x.item a 0 xs start
 
   abbrev firsts : List ℕ
@@ -145,7 +141,7 @@ module _ (lib : Library) (layout : Layout) (site : List ℕ) (rows : List Row) (
   abbrev rules_in : List net.Rule
   rules_in = rules_after lib layout l.inner lay.inner flow x.body outer path place x.number x.item a 0 xs start rules
 
-  abbrev owners_now : List ℕ
+  abbrev pub owners_now : List ℕ
   owners_now = owners_out ++ items_owners lib layout l.inner lay.inner flow x.body outer path place x.number x.item a 0 xs start
 
   entry : Entered 0 xs rules_in owners_now
@@ -175,7 +171,7 @@ module _ (lib : Library) (layout : Layout) (site : List ℕ) (rows : List Row) (
   abbrev joints : List New
   joints = (gathering ++ calling) ++ ending ∷ []
 
-  abbrev last_net : Sown
+  abbrev pub last_net : Sown
   last_net = with_gathered firsts lay.inner l base items_net.net
 
   gathered_net : with_gathers firsts lay.inner.first_name (base + l.first_name) l.names items_net.net ≡ with_news items_net.net gathering
@@ -198,10 +194,10 @@ module _ (lib : Library) (layout : Layout) (site : List ℕ) (rows : List Row) (
   joined_net =
       ap (λ (u : Sown). with_step u (rule.Ends (base + l.done)) (entering.all_dones lay.inner.statements firsts)) called_net ∙ news_last items_net.net (gathering ++ calling) ending
 
-  abbrev rules_now : List net.Rule
+  abbrev pub rules_now : List net.Rule
   rules_now = rules_in ++ map new_means joints
 
-  abbrev b : Sheet
+  abbrev pub b : Sheet
   b = sheet_of last_net rules_now
 
   values_same : last_net.values ≡ items_net.net.values
@@ -223,14 +219,7 @@ module _ (lib : Library) (layout : Layout) (site : List ℕ) (rows : List Row) (
   value_kept c o h = joints_behind.values c o (entry.extends.values c o h)
 
   longer : length v.values ≤ length b.values
-  longer = by_last (length v.values) refl
-    where
-      by_last : (m : ℕ) → length v.values ≡ m → m ≤ length b.values
-      by_last zero e = omega arith
-      by_last (suc m) e =
-          let h = slice_get-get_or v.values m None (omega (arith, e)) in
-          let inside = slice_get_within b.values m (get_or v.values m None) (value_kept m (get_or v.values m None) h) in
-          omega (arith, inside)
+  longer = kept_length v.values b.values value_kept
 
   all_items : AllItems lib layout l.inner lay.inner flow x.body outer path place x.number x.item a b owners_now items_net.instances 0 xs start
   all_items =
@@ -264,46 +253,51 @@ module _ (lib : Library) (layout : Layout) (site : List ℕ) (rows : List Row) (
 
   -- their cells
   name_free : (j : ℕ) → j < length n.keys → IsFree b owners_now (name_step + j) (base + a.next_name + j)
-  name_free j lt =
-      (ap (slice_get owners_now) (omega arith)
-      ∙ get_left owners_out (items_owners lib layout l.inner lay.inner flow x.body outer path place x.number x.item a 0 xs start) (base + (a.next_name + j)) (name_step + j)
-      (names_given (sheet_of v rules) owners t base a.next_name (length n.keys) a.next_call (length n.calls) l.done own_names own_calls own_done fits.0 low name_step call_step done_step j lt),
-      ap (slice_get b.values) (omega arith) ∙ value_kept (base + (a.next_name + j)) None (own_names j lt).1)
+  name_free j lt = (
+    ap (slice_get owners_now) (omega arith)
+        ∙ get_left owners_out (items_owners lib layout l.inner lay.inner flow x.body outer path place x.number x.item a 0 xs start) (base + (a.next_name + j)) (name_step + j)
+        (names_given (sheet_of v rules) owners t base a.next_name (length n.keys) a.next_call (length n.calls) l.done own_names own_calls own_done fits.0 low name_step call_step done_step j lt),
+    ap (slice_get b.values) (omega arith) ∙ value_kept (base + (a.next_name + j)) None (own_names j lt).1,
+  )
 
   call_free : (j : ℕ) → j < length n.calls → IsFree b owners_now (call_step + j) (base + a.next_call + j)
-  call_free j lt =
-      (ap (slice_get owners_now) (omega arith)
-      ∙ get_left owners_out (items_owners lib layout l.inner lay.inner flow x.body outer path place x.number x.item a 0 xs start) (base + (a.next_call + j)) (call_step + j)
-      (calls_given (sheet_of v rules) owners t base a.next_name (length n.keys) a.next_call (length n.calls) l.done own_names own_calls own_done fits.0 low name_step call_step done_step j lt),
-      ap (slice_get b.values) (omega arith) ∙ value_kept (base + (a.next_call + j)) None (own_calls j lt).1)
+  call_free j lt = (
+    ap (slice_get owners_now) (omega arith)
+        ∙ get_left owners_out (items_owners lib layout l.inner lay.inner flow x.body outer path place x.number x.item a 0 xs start) (base + (a.next_call + j)) (call_step + j)
+        (calls_given (sheet_of v rules) owners t base a.next_name (length n.keys) a.next_call (length n.calls) l.done own_names own_calls own_done fits.0 low name_step call_step done_step j lt),
+    ap (slice_get b.values) (omega arith) ∙ value_kept (base + (a.next_call + j)) None (own_calls j lt).1,
+  )
 
   done_free : IsFree b owners_now done_step (base + l.done)
-  done_free =
-      (get_left owners_out (items_owners lib layout l.inner lay.inner flow x.body outer path place x.number x.item a 0 xs start) (base + l.done) done_step
-      (done_given (sheet_of v rules) owners t base a.next_name (length n.keys) a.next_call (length n.calls) l.done own_names own_calls own_done fits.0 low name_step call_step done_step),
-      value_kept (base + l.done) None own_done.1)
+  done_free = (
+    get_left owners_out (items_owners lib layout l.inner lay.inner flow x.body outer path place x.number x.item a 0 xs start) (base + l.done) done_step
+        (done_given (sheet_of v rules) owners t base a.next_name (length n.keys) a.next_call (length n.calls) l.done own_names own_calls own_done fits.0 low name_step call_step done_step),
+    value_kept (base + l.done) None own_done.1,
+  )
 
   -- ---- what is gathered and ends
 
   gathered_at : (i m d : ℕ) → m ≡ 1 + i → d ≡ base + a.next_name + i → i < length n.keys → Gathered lib site rows (rules_of b) (state_of b owners_now) (beyond_each firsts m) d
   gathered_at i m d e f lt =
       subst (λ (p : ℕ). Gathered lib site rows (rules_of b) (state_of b owners_now) (beyond_each firsts p) d) (sym e)
-      (subst (λ (c : ℕ). Gathered lib site rows (rules_of b) (state_of b owners_now) (beyond_each firsts (1 + i)) c) (sym f)
-      (name_step + i,
-      inl
-      (joint_waits lib site rows b owners_now (name_step + i) (gathers (beyond_each firsts (1 + i)) (base + a.next_name + i)) (beyond_each firsts (1 + i)) (base + a.next_name + i)
-      (rule_here i (name_step + i) (gather_new firsts 1 (base + a.next_name) i) refl (gather_there i lt)) (step_here i (name_step + i) (gather_new firsts 1 (base + a.next_name) i) refl (gather_there i lt))
-      (name_free i lt))))
+      (subst (λ (c : ℕ). Gathered lib site rows (rules_of b) (state_of b owners_now) (beyond_each firsts (1 + i)) c) (sym f) (
+        name_step + i,
+        inl
+            (joint_waits lib site rows b owners_now (name_step + i) (gathers (beyond_each firsts (1 + i)) (base + a.next_name + i)) (beyond_each firsts (1 + i)) (base + a.next_name + i)
+            (rule_here i (name_step + i) (gather_new firsts 1 (base + a.next_name) i) refl (gather_there i lt)) (step_here i (name_step + i) (gather_new firsts 1 (base + a.next_name) i) refl (gather_there i lt))
+            (name_free i lt)),
+      ))
 
   ending_at : (i m d : ℕ) → m ≡ lay.inner.first_call + i → d ≡ base + a.next_call + i → i < length n.calls → Ending lib site rows (rules_of b) (state_of b owners_now) (beyond_each firsts m) d
   ending_at i m d e f lt =
       subst (λ (p : ℕ). Ending lib site rows (rules_of b) (state_of b owners_now) (beyond_each firsts p) d) (sym e)
-      (subst (λ (c : ℕ). Ending lib site rows (rules_of b) (state_of b owners_now) (beyond_each firsts (lay.inner.first_call + i)) c) (sym f)
-      (call_step + i,
-      inl
-      (joint_waits lib site rows b owners_now (call_step + i) (ends (beyond_each firsts (lay.inner.first_call + i)) (base + a.next_call + i)) (beyond_each firsts (lay.inner.first_call + i)) (base + a.next_call + i)
-      (rule_here (length n.keys + i) (call_step + i) (end_new firsts lay.inner.first_call (base + a.next_call) i) (omega arith) (call_there i lt))
-      (step_here (length n.keys + i) (call_step + i) (end_new firsts lay.inner.first_call (base + a.next_call) i) (omega arith) (call_there i lt)) (call_free i lt))))
+      (subst (λ (c : ℕ). Ending lib site rows (rules_of b) (state_of b owners_now) (beyond_each firsts (lay.inner.first_call + i)) c) (sym f) (
+        call_step + i,
+        inl
+            (joint_waits lib site rows b owners_now (call_step + i) (ends (beyond_each firsts (lay.inner.first_call + i)) (base + a.next_call + i)) (beyond_each firsts (lay.inner.first_call + i)) (base + a.next_call + i)
+            (rule_here (length n.keys + i) (call_step + i) (end_new firsts lay.inner.first_call (base + a.next_call) i) (omega arith) (call_there i lt))
+            (step_here (length n.keys + i) (call_step + i) (end_new firsts lay.inner.first_call (base + a.next_call) i) (omega arith) (call_there i lt)) (call_free i lt)),
+      ))
 
   abbrev all_of : List Item
   all_of = items_of lib layout l.inner lay.inner flow x.body outer path place x.number x.item a 0 xs start
@@ -331,11 +325,12 @@ module _ (lib : Library) (layout : Layout) (site : List ℕ) (rows : List Row) (
   pub all_ended : Ending lib site rows (rules_of b) (state_of b owners_now) (net.all_dones lib site rows (rules_of b) (state_of b owners_now) all_of) (base + l.done)
   all_ended =
       subst (λ (cs : List ℕ). Ending lib site rows (rules_of b) (state_of b owners_now) cs (base + l.done))
-      (sym (dones_same lib layout l.inner lay.inner flow x.body outer path place x.number x.item a start site rows (rules_of b) (state_of b owners_now) 0 xs))
-      (done_step,
-      inl
-      (joint_waits lib site rows b owners_now done_step (ends (entering.all_dones lay.inner.statements firsts) (base + l.done)) (entering.all_dones lay.inner.statements firsts) (base + l.done)
-      (rule_here (length n.keys + length n.calls) done_step ending (omega arith) ending_there) (step_here (length n.keys + length n.calls) done_step ending (omega arith) ending_there) done_free))
+      (sym (dones_same lib layout l.inner lay.inner flow x.body outer path place x.number x.item a start site rows (rules_of b) (state_of b owners_now) 0 xs)) (
+        done_step,
+        inl
+            (joint_waits lib site rows b owners_now done_step (ends (entering.all_dones lay.inner.statements firsts) (base + l.done)) (entering.all_dones lay.inner.statements firsts) (base + l.done)
+            (rule_here (length n.keys + length n.calls) done_step ending (omega arith) ending_there) (step_here (length n.keys + length n.calls) done_step ending (omega arith) ending_there) done_free),
+      )
 
   -- ---- what holds of the steps that were added
 

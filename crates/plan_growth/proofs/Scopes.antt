@@ -1,6 +1,6 @@
 -- The scopes of a workflow's own body: behind its inputs, behind its statements, behind its outputs; and the cells that say what is done.
-use Rattle.std.proofs.Common.{◌≡◌, ℕ, zero, suc, ◌+◌, ◌<◌, List, [], ◌∷◌, ◌++◌, map, append_assoc, append-nil, length, get_or, Some, slice_get, arith, sym, ap, ◌∙◌, subst, refl}
-use Rattle.std.proofs.lemmas.List.{length-append, map-append}
+use Rattle.std.proofs.Common.{◌≡◌, ℕ, zero, suc, ◌+◌, ◌<◌, List, [], ◌∷◌, ◌++◌, map, append_assoc, append-nil, length, arith, sym, ap, ◌∙◌, refl}
+use Rattle.std.proofs.lemmas.List.{length-append}
 use Rattle.wdl_base.specs.declared.name.Key.{Key}
 use Rattle.wdl_base.specs.declared.place.Segment.{Segment}
 use Rattle.wdl_value.specs.Tables.{Row}
@@ -16,13 +16,13 @@ use Rattle.plan_layout.specs.declared.layout.Need.{Need}
 use Rattle.plan_layout.specs.declared.layout.StatementLayout.{StatementLayout}
 use Rattle.plan_layout.specs.Laid.{Stand, behind_all, behind_one, given_at, with_inputs, with_plain}
 use Rattle.plan_layout.specs.Sees.{with_outputs}
-use Rattle.plan_layout.specs.Spots.{plain_keys, spots_from}
+use Rattle.plan_layout.specs.Spots.{spots_from}
 use Rattle.plan_growth.specs.Begun.{AllSit, all_given, given_of, scope_at}
 use Rattle.plan_growth.specs.Entering.{cells_from}
 use Rattle.plan_growth.specs.Meaning.{AreThere}
 use Rattle.plan_growth.proofs.Begins.{scope_behind}
 use Rattle.plan_growth.proofs.Standing.{given_keys}
-use Rattle.plan_growth.proofs.There.{calls_there, names_there, there_both}
+use Rattle.plan_growth.proofs.There.{names_there, there_both}
 use Rattle.plan_growth.proofs.Told.{inputs_given, outputs_given, scope_next, told_scope}
 
 -- Two parts one after the other are one.

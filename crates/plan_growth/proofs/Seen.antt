@@ -1,5 +1,5 @@
 -- What a scope by cells has of the names and calls that are seen.
-use Rattle.std.proofs.Common.{◌≡◌, ℕ, ◌+◌, Bool, true, false, cond, ◌&&◌, ◌||◌, ◌⊎◌, inl, inr, List, [], ◌∷◌, ◌++◌, map, append-nil, length, Option, Some, None, sym, ap, ◌∙◌, subst, refl}
+use Rattle.std.proofs.Common.{◌≡◌, ℕ, ◌+◌, Bool, true, false, cond, ◌&&◌, ◌||◌, ◌⊎◌, inl, inr, List, [], ◌∷◌, ◌++◌, map, length, Option, Some, None, sym, ap, ◌∙◌, refl}
 use Rattle.std.specs.List.{list_all}
 use Rattle.std.specs.Str.{bytes_eq}
 use Rattle.std.proofs.lemmas.Bool.{and_from, and_parts, false≢true, or_cases, or_left, or_right}
@@ -15,11 +15,11 @@ use Rattle.wdl_typed.specs.Lists.{has_name}
 use Rattle.wdl_typed.specs.Scope.{is_among, same_key, same_second}
 use Rattle.flow_laws.proofs.Keys.{distinct_left, distinct_right}
 use Rattle.net_laws.specs.Growing.{AreAfter, AreUsed, IsNamed, mark_cell, slot_cell}
-use Rattle.net_laws.specs.Net.{Mark, MarksResolved, Resolved, Scope, Slot, find_call, mark_calls, slot_keys}
+use Rattle.net_laws.specs.Net.{MarksResolved, find_call, mark_calls, slot_keys}
 use Rattle.net_laws.specs.Rules.{Needs}
 use Rattle.plan_layout.specs.declared.layout.Need.{Need}
 use Rattle.plan_layout.specs.Cells.{cell_at, marks_at, slots_at}
-use Rattle.plan_layout.specs.Laid.{Stand, behind_one, given_at}
+use Rattle.plan_layout.specs.Laid.{Stand, given_at}
 use Rattle.plan_layout.specs.Sees.{AllSeen, Sees, spot_keys}
 use Rattle.plan_layout.specs.Spots.{find_spot, needs_of, plain_keys, spots_from}
 use Rattle.plan_layout.proofs.Needed.{AreSeen, needs_all, needs_resolved, needs_used, picks_all, picks_seen}

@@ -1,8 +1,7 @@
 -- The steps of a body that is entered: what each is to do, what it needs, and the cells that are its own.
-use Rattle.std.proofs.Common.{◌≡◌, ℕ, zero, suc, ◌+◌, ◌<◌, ◌≤◌, false, List, [], ◌∷◌, ◌++◌, All, map, append-nil, length, replicate, get_or, Option, Some, None, slice_get, arith, sym, ap, ◌∙◌, subst, refl}
+use Rattle.std.proofs.Common.{◌≡◌, ℕ, suc, ◌+◌, ◌<◌, false, List, [], ◌∷◌, ◌++◌, All, map, length, replicate, Some, slice_get, arith, sym, ap, ◌∙◌, subst, refl}
 use Rattle.std.proofs.lemmas.List.{length-append, length-replicate}
 use Rattle.std.proofs.lemmas.List.Elements.{All-cons, All-nil}
-use Rattle.std.proofs.lemmas.Option.{slice_get_within}
 use Rattle.wdl_base.specs.declared.name.Key.{Key}
 use Rattle.wdl_base.specs.declared.place.Segment.{Segment}
 use Rattle.wdl_typed.specs.declared.flow.Statement.{Statement, Statement-F, out-Statement}
@@ -12,7 +11,6 @@ use Rattle.wdl_typed.specs.Bodies.{Library}
 use Rattle.wdl_typed.specs.Flow.{Names}
 use Rattle.step_net.specs.Views.{Wants}
 use Rattle.net_laws.specs.Growing.{Rule, body_given, does, mark_cell, slot_cell}
-use Rattle.net_laws.specs.Planned.{call_names}
 use Rattle.plan_moves.specs.Sheets.{Sheet}
 use Rattle.plan_layout.specs.declared.layout.BodyLayout.{BodyLayout}
 use Rattle.plan_layout.specs.declared.layout.StatementLayout.{StatementLayout}

@@ -1,5 +1,5 @@
 -- What holds of the steps of a body that is entered.
-use Rattle.std.proofs.Common.{◌≡◌, ℕ, zero, suc, ◌+◌, ◌<◌, ◌≤◌, false, List, [], ◌∷◌, ◌++◌, All, map, append_assoc, append-nil, length, get_or, Option, Some, None, slice_get, arith, sym, ap, ◌∙◌, subst, refl}
+use Rattle.std.proofs.Common.{◌≡◌, ℕ, suc, ◌+◌, ◌<◌, List, [], ◌∷◌, ◌++◌, All, map, append_assoc, append-nil, length, Some, slice_get, arith, sym, ap, ◌∙◌, refl}
 use Rattle.std.proofs.lemmas.List.{length-append}
 use Rattle.std.proofs.lemmas.List.Elements.{All-append, All-cons, All-nil}
 use Rattle.wdl_base.specs.declared.name.Key.{Key}
@@ -17,7 +17,6 @@ use Rattle.net_laws.specs.Rules.{arg_keys}
 use Rattle.plan_moves.specs.Sheets.{Sheet}
 use Rattle.plan_layout.specs.declared.layout.BodyLayout.{BodyLayout}
 use Rattle.plan_layout.specs.declared.layout.Layout.{Layout}
-use Rattle.plan_layout.specs.declared.layout.Need.{Need}
 use Rattle.plan_layout.specs.declared.layout.StatementLayout.{StatementLayout}
 use Rattle.plan_layout.specs.Laid as laid
 use Rattle.plan_layout.specs.Laid.{HasNeeds, Laid, Stand, behind_one, given_at, laid_call, laid_decl, laid_if, laid_next, laid_none, laid_scatter, laid_whole}
@@ -31,7 +30,7 @@ use Rattle.plan_growth.specs.declared.rule.Rule.TheVariants as rule
 use Rattle.plan_growth.specs.Begun.{AllSit, IsFree, Sits, base_at, given_of, scope_at}
 use Rattle.plan_growth.specs.Entering.{Sown, cells_of, with_statements}
 use Rattle.plan_growth.specs.Meaning.{AreThere, Fits, IsInstance}
-use Rattle.plan_growth.specs.News.{AllStand, New, Stands, new_code, new_means, new_wants, statement_news, with_news}
+use Rattle.plan_growth.specs.News.{AllStand, New, new_code, new_means, new_wants, statement_news, with_news}
 use Rattle.plan_growth.proofs.Sitting.{body_rules, wants_of}
 use Rattle.plan_growth.proofs.There.{calls_there, names_there, step_below, there_both}
 
@@ -174,37 +173,38 @@ module _ (lib : Library) (layout : Layout) (is : List Instance) (b : Sheet) (own
       let keys = given_keys lib x xs in
       let called = given_calls lib x xs in
       let left = fits.0 in
-      let right = fits.1 in
-      (record {
-        means =
-            record {
-              instance = instance;
-              body = body;
-              flow = flow;
-              of_instance = ofi;
-              statement = x;
-              statement_there = at_first xs x (body_at flow.body body.path) k at.0;
-              line = l;
-              line_there = at_first ls l body.statements k at.1;
-              cells_are = refl;
-              stand = a;
-              sees = sees;
-              laid = p;
-              depth = depth;
-              names = names;
-              calls = calls;
-              fits = (omega (arith, keys, left), omega (arith, called, right));
-              means = refl;
-            };
-        free = λ e. own_cells t x a l sit.0;
-        within = within names calls;
-      },
-      rest (t + 1) (k + 1) sit.1
-      (there_both bases size a.names (spots_from (length a.path) a.next_name (given_at lib (out-Statement x)).keys) names
-      (names_there b owners bases t (length a.path) low a.next_name (given_at lib (out-Statement x)).keys sit.0.names))
-      (there_both bases size a.calls (spots_from (length a.path) a.next_call (plain_keys (given_at lib (out-Statement x)).calls)) calls
-      (calls_there b owners bases t (length a.path) low a.next_call (plain_keys (given_at lib (out-Statement x)).calls) sit.0.calls))
-      depth (at_rest xs x (body_at flow.body body.path) k at.0, at_rest ls l body.statements k at.1) (omega (arith, keys, left), omega (arith, called, right)))
+      let right = fits.1 in (
+        record {
+          means =
+              record {
+                instance = instance;
+                body = body;
+                flow = flow;
+                of_instance = ofi;
+                statement = x;
+                statement_there = at_first xs x (body_at flow.body body.path) k at.0;
+                line = l;
+                line_there = at_first ls l body.statements k at.1;
+                cells_are = refl;
+                stand = a;
+                sees = sees;
+                laid = p;
+                depth = depth;
+                names = names;
+                calls = calls;
+                fits = (omega (arith, keys, left), omega (arith, called, right));
+                means = refl;
+              };
+          free = λ e. own_cells t x a l sit.0;
+          within = within names calls;
+        },
+        rest (t + 1) (k + 1) sit.1
+            (there_both bases size a.names (spots_from (length a.path) a.next_name (given_at lib (out-Statement x)).keys) names
+            (names_there b owners bases t (length a.path) low a.next_name (given_at lib (out-Statement x)).keys sit.0.names))
+            (there_both bases size a.calls (spots_from (length a.path) a.next_call (plain_keys (given_at lib (out-Statement x)).calls)) calls
+            (calls_there b owners bases t (length a.path) low a.next_call (plain_keys (given_at lib (out-Statement x)).calls) sit.0.calls))
+            depth (at_rest xs x (body_at flow.body body.path) k at.0, at_rest ls l body.statements k at.1) (omega (arith, keys, left), omega (arith, called, right)),
+      )
 
   pub statements_stand : {f : laid.Form} → Laid (Sees lib) lib body.flow flow.body layout.bodies f → Says f
   statements_stand (laid_decl x a l slots needs) = within_by a l (names_of x.value) [] needs

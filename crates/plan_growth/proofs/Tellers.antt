@@ -1,5 +1,5 @@
 -- What holds of the steps of defaults and outputs of a workflow that is entered.
-use Rattle.std.proofs.Common.{◌≡◌, ℕ, zero, suc, ◌+◌, ◌<◌, ◌≤◌, List, [], ◌∷◌, ◌++◌, All, map, append-nil, length, Option, Some, None, slice_get, arith, sym, ap, ◌∙◌, subst, refl}
+use Rattle.std.proofs.Common.{◌≡◌, ℕ, suc, ◌+◌, ◌<◌, List, [], ◌∷◌, All, map, length, Option, Some, None, slice_get, arith, sym, ap, ◌∙◌, refl}
 use Rattle.std.proofs.lemmas.List.{length-append}
 use Rattle.std.proofs.lemmas.List.Elements.{All-append, All-cons, All-nil}
 use Rattle.std.proofs.lemmas.Option.{slice_get_within}
@@ -27,10 +27,9 @@ use Rattle.plan_layout.specs.Laid.{default_needs, input_needs, output_needs, wit
 use Rattle.plan_layout.specs.Sees.{DefaultSees, ExprSees, InputsSee, OutputsSee}
 use Rattle.plan_layout.specs.Spots.{needs_of}
 use Rattle.plan_growth.specs.declared.instance.Instance.{Instance}
-use Rattle.plan_growth.specs.declared.rule.Rule.TheVariants as rule
 use Rattle.plan_growth.specs.Begun.{IsFree}
 use Rattle.plan_growth.specs.Meaning.{AreThere, IsInstance, MeansDeclared}
-use Rattle.plan_growth.specs.News.{AllStand, New, Stands, left_wants}
+use Rattle.plan_growth.specs.News.{AllStand, New}
 use Rattle.plan_growth.proofs.Adding.{stand_both}
 use Rattle.plan_growth.proofs.There.{needs_below, there_both}
 use Rattle.plan_growth.proofs.Told.{InputsSit, OutputsSit, ToldSits, input_news, one_news, output_news, told_cells, told_scope}
@@ -94,27 +93,29 @@ module _ (lib : Library) (layout : Layout) (site : List ℕ) (rows : List Row) (
         → slice_get flow.inputs k ≡ Some i → slice_get fl.inputs k ≡ Some (default_needs seen d) → Here u (one_news number base place k i.name seen d o)
     one_stands u k i seen d (Some x) e h sees there at line = tt
     one_stands u k i seen None None e h sees there at line = tt
-    one_stands u k i seen (Some x) None e h sees there at line =
-        (record {
-          means =
-              record {
-                instance = one;
-                body = body;
-                flow = flow;
-                of_instance = of_instance;
-                flow_layout = fl;
-                layout_there = layout_there;
-                input = i;
-                input_there = at;
-                value = x;
-                default_is = e;
-                needs = needs_of seen (names_of x);
-                needs_there = line;
-                declared = declared i.name x seen [] k (base + k) sees there refl;
-              };
-          free = λ z. All-cons (IsFree b owners u) (base + k) [] h.free (All-nil (IsFree b owners u));
-          within = cells_inside x seen there;
-        }, tt)
+    one_stands u k i seen (Some x) None e h sees there at line = (
+      record {
+        means =
+            record {
+              instance = one;
+              body = body;
+              flow = flow;
+              of_instance = of_instance;
+              flow_layout = fl;
+              layout_there = layout_there;
+              input = i;
+              input_there = at;
+              value = x;
+              default_is = e;
+              needs = needs_of seen (names_of x);
+              needs_there = line;
+              declared = declared i.name x seen [] k (base + k) sees there refl;
+            };
+        free = λ z. All-cons (IsFree b owners u) (base + k) [] h.free (All-nil (IsFree b owners u));
+        within = cells_inside x seen there;
+      },
+      tt,
+    )
 
     pub inputs_stand : (xs : List TInput) (seen : List Need) (u k : ℕ) → k ≡ length seen → InputsSit lib site rows b owners number base place given u k xs seen → InputsSee seen xs → AreThere (base ∷ []) size seen
         → Within xs k flow.inputs → Within (input_needs seen xs) k fl.inputs → Here u (input_news number base place given k xs seen)
@@ -146,24 +147,25 @@ module _ (lib : Library) (layout : Layout) (site : List ℕ) (rows : List Row) (
   outputs_stand calls [] seen u k same sit sees there at line = tt
   outputs_stand calls (d ∷ ds) seen u k same sit sees there at line =
       let inside = slice_get_within b.values (base + length seen) None sit.0.free.1 in
-      let more = length-append seen (record { key = plain_key d.name; level = 0; slot = length seen } ∷ []) in
-      (record {
-        means =
-            record {
-              instance = one;
-              body = body;
-              flow = flow;
-              of_instance = of_instance;
-              flow_layout = fl;
-              layout_there = layout_there;
-              output = d;
-              output_there = within_first d ds k flow.outputs at;
-              needs = needs_of seen (names_of d.value);
-              needs_there = within_first (needs_of seen (names_of d.value)) (output_needs (with_plain seen d.name) ds) k fl.outputs line;
-              declared = declared d.name d.value seen calls (fl.first_output + k) (base + length seen) sees.0 there (omega (arith, same));
-            };
-        free = λ z. All-cons (IsFree b owners u) (base + length seen) [] sit.0.free (All-nil (IsFree b owners u));
-        within = cells_inside d.value seen there;
-      },
-      outputs_stand calls ds (with_plain seen d.name) (u + 1) (k + 1) (omega (arith, more, same)) sit.1 sees.1 (plain_there seen d.name there inside) (within_rest d ds k flow.outputs at)
-      (within_rest (needs_of seen (names_of d.value)) (output_needs (with_plain seen d.name) ds) k fl.outputs line))
+      let more = length-append seen (record { key = plain_key d.name; level = 0; slot = length seen } ∷ []) in (
+        record {
+          means =
+              record {
+                instance = one;
+                body = body;
+                flow = flow;
+                of_instance = of_instance;
+                flow_layout = fl;
+                layout_there = layout_there;
+                output = d;
+                output_there = within_first d ds k flow.outputs at;
+                needs = needs_of seen (names_of d.value);
+                needs_there = within_first (needs_of seen (names_of d.value)) (output_needs (with_plain seen d.name) ds) k fl.outputs line;
+                declared = declared d.name d.value seen calls (fl.first_output + k) (base + length seen) sees.0 there (omega (arith, same));
+              };
+          free = λ z. All-cons (IsFree b owners u) (base + length seen) [] sit.0.free (All-nil (IsFree b owners u));
+          within = cells_inside d.value seen there;
+        },
+        outputs_stand calls ds (with_plain seen d.name) (u + 1) (k + 1) (omega (arith, more, same)) sit.1 sees.1 (plain_there seen d.name there inside) (within_rest d ds k flow.outputs at)
+            (within_rest (needs_of seen (names_of d.value)) (output_needs (with_plain seen d.name) ds) k fl.outputs line),
+      )

@@ -1,6 +1,6 @@
 -- What entering a workflow adds beside its body: the values of its inputs, and the steps of defaults and outputs.
-use Rattle.std.proofs.Common.{◌≡◌, ℕ, zero, suc, ◌+◌, ◌<◌, ◌≤◌, List, [], ◌∷◌, ◌++◌, map, append_assoc, append-nil, length, Option, Some, None, slice_get, slice_set, arith, sym, ap, ◌∙◌, subst, refl}
-use Rattle.std.proofs.lemmas.List.{length-append, length-map, length-set}
+use Rattle.std.proofs.Common.{◌≡◌, ℕ, suc, ◌+◌, ◌<◌, List, [], ◌∷◌, ◌++◌, length, Option, Some, None, slice_get, slice_set, arith, sym, ap, ◌∙◌, subst, refl}
+use Rattle.std.proofs.lemmas.List.{length-append, length-set}
 use Rattle.std.proofs.lemmas.Option.{slice_get_within}
 use Rattle.wdl_base.specs.declared.place.Segment.{Segment}
 use Rattle.wdl_value.specs.declared.env.Bind.{Bind}
@@ -21,11 +21,11 @@ use Rattle.plan_layout.specs.declared.layout.Need.{Need}
 use Rattle.plan_layout.specs.Laid.{default_needs, input_needs, output_needs, with_plain}
 use Rattle.plan_growth.specs.declared.rule.Rule.TheVariants as rule
 use Rattle.plan_growth.specs.Begun.{IsFree, hits}
-use Rattle.plan_growth.specs.Entering.{Sown, cells_of, with_given, with_inputs, with_outputs}
-use Rattle.plan_growth.specs.News.{New, left_wants, new_means, new_wants, with_news}
+use Rattle.plan_growth.specs.Entering.{Sown, with_given, with_inputs, with_outputs}
+use Rattle.plan_growth.specs.News.{New, left_wants, new_wants, with_news}
 use Rattle.plan_growth.proofs.Adding.{hits_both, news_both}
 use Rattle.plan_growth.proofs.Instances.{Extends}
-use Rattle.plan_growth.proofs.Lists.{get_at, get_left, get_right, get_set, get_unset}
+use Rattle.plan_growth.proofs.Lists.{get_left, get_right, get_set, get_unset}
 use Rattle.plan_growth.proofs.Standing.{news_next, news_none}
 use Rattle.plan_growth.proofs.Told.{InputsSit, OutputsSit, ToldSits, input_news, inputs_leaves, one_news, output_news, told_cells, told_scope}
 
@@ -118,9 +118,10 @@ module _ (instance base : ℕ) (place : List Segment) (given : List Bind) where
     news_left u ns ms h = (λ j n e. h.0 j n (get_left ns ms j n e), λ j n e. h.1 j n (get_left ns ms j n e))
 
     news_right : (u w : ℕ) (ns ms : List New) → w ≡ u + length ns → News u (ns ++ ms) → News w ms
-    news_right u w ns ms same h =
-        (λ j n e. ap (slice_get b.rules) (let z : w + j ≡ u + (length ns + j) = omega (arith, same) in z) ∙ h.0 (length ns + j) n (get_right ns ms j ∙ e),
-        λ j n e. ap (slice_get b.steps) (let z : w + j ≡ u + (length ns + j) = omega (arith, same) in z) ∙ h.1 (length ns + j) n (get_right ns ms j ∙ e))
+    news_right u w ns ms same h = (
+      λ j n e. ap (slice_get b.rules) (let z : w + j ≡ u + (length ns + j) = omega (arith, same) in z) ∙ h.0 (length ns + j) n (get_right ns ms j ∙ e),
+      λ j n e. ap (slice_get b.steps) (let z : w + j ≡ u + (length ns + j) = omega (arith, same) in z) ∙ h.1 (length ns + j) n (get_right ns ms j ∙ e),
+    )
 
     pub record InputsPut (u k : ℕ) (is : List TInput) (seen : List Need) (vs : List (Option Value)) : Type 0 where
       pub news : News u (input_news instance base place given k is seen)
@@ -190,20 +191,21 @@ module _ (instance base : ℕ) (place : List Segment) (given : List Bind) where
         let one : New = record { code = rule.Output instance k; needs = told_cells base seen d.value; means = declares d.name d.value (told_scope base place calls seen) (base + length seen) } in
         let more = length-append seen (record { key = plain_key d.name; level = 0; slot = length seen } ∷ []) in
         let at : base + (length seen + 0) ≡ base + length seen = omega arith in
-        let self : u + 0 ≡ u = omega arith in
-        (record {
-          rule_at = ap (slice_get b.rules) (omega arith) ∙ h.news.0 0 one refl;
-          step_at = ap (slice_get b.steps) (omega arith) ∙ h.news.1 0 one refl;
-          free = subst (λ (c : ℕ). IsFree b owners u c) at (subst (λ (w : ℕ). IsFree b owners w (base + (length seen + 0))) self (h.free 0 (omega arith)));
-        },
-        outputs_sit calls ds (u + 1) (k + 1) (with_plain seen d.name)
-        (record {
-          news = news_right u (u + 1) (one ∷ []) (output_news instance base place calls (k + 1) ds (with_plain seen d.name)) refl h.news;
-          free = λ j lt.
-              let here : base + (length seen + suc j) ≡ base + (length (with_plain seen d.name) + j) = omega (arith, more) in
-              let step : u + suc j ≡ u + 1 + j = omega arith in
-              subst (λ (c : ℕ). IsFree b owners (u + 1 + j) c) here (subst (λ (w : ℕ). IsFree b owners w (base + (length seen + suc j))) step (h.free (suc j) (omega (arith, lt))));
-        }))
+        let self : u + 0 ≡ u = omega arith in (
+          record {
+            rule_at = ap (slice_get b.rules) (omega arith) ∙ h.news.0 0 one refl;
+            step_at = ap (slice_get b.steps) (omega arith) ∙ h.news.1 0 one refl;
+            free = subst (λ (c : ℕ). IsFree b owners u c) at (subst (λ (w : ℕ). IsFree b owners w (base + (length seen + 0))) self (h.free 0 (omega arith)));
+          },
+          outputs_sit calls ds (u + 1) (k + 1) (with_plain seen d.name)
+              (record {
+                news = news_right u (u + 1) (one ∷ []) (output_news instance base place calls (k + 1) ds (with_plain seen d.name)) refl h.news;
+                free = λ j lt.
+                    let here : base + (length seen + suc j) ≡ base + (length (with_plain seen d.name) + j) = omega (arith, more) in
+                    let step : u + suc j ≡ u + 1 + j = omega arith in
+                    subst (λ (c : ℕ). IsFree b owners (u + 1 + j) c) here (subst (λ (w : ℕ). IsFree b owners w (base + (length seen + suc j))) step (h.free (suc j) (omega (arith, lt))));
+              }),
+        )
 
     -- ---- leaves
 
@@ -242,9 +244,10 @@ module _ (lib : Library) (site : List ℕ) (rows : List Row) (b c : Sheet) (mine
 
     pub inputs_later : (is : List TInput) (u k : ℕ) (seen : List Need) → InputsSit lib site rows b mine instance base place given u k is seen → InputsSit lib site rows c theirs instance base place given u k is seen
     inputs_later [] u k seen h = tt
-    inputs_later (i ∷ is) u k seen h =
-        (one_later u k i.name seen i.value (lookup given (plain_key i.name)) h.0,
-        inputs_later is (u + length (one_news instance base place k i.name seen i.value (lookup given (plain_key i.name)))) (k + 1) (with_plain seen i.name) h.1)
+    inputs_later (i ∷ is) u k seen h = (
+      one_later u k i.name seen i.value (lookup given (plain_key i.name)) h.0,
+      inputs_later is (u + length (one_news instance base place k i.name seen i.value (lookup given (plain_key i.name)))) (k + 1) (with_plain seen i.name) h.1,
+    )
 
   pub outputs_later : (calls : List Mark) (ds : List TDecl) (u : ℕ) (seen : List Need) → OutputsSit lib site rows b mine instance base place calls u ds seen → OutputsSit lib site rows c theirs instance base place calls u ds seen
   outputs_later calls [] u seen h = tt

@@ -1,5 +1,5 @@
 -- Names that stand in instances that there are.
-use Rattle.std.proofs.Common.{◌≡◌, ℕ, ◌+◌, ◌<◌, ◌≤◌, Bool, true, false, cond, List, [], ◌∷◌, ◌++◌, All, map, length, get_or, Option, Some, None, arith, sym, ap, ◌∙◌, subst, refl}
+use Rattle.std.proofs.Common.{◌≡◌, ℕ, ◌+◌, ◌<◌, ◌≤◌, Bool, true, false, cond, List, [], ◌∷◌, ◌++◌, All, map, length, get_or, Some, None, arith, sym, ap, ◌∙◌, subst, refl}
 use Rattle.std.proofs.lemmas.List.{get_or_append_left, length-append}
 use Rattle.std.proofs.lemmas.List.Elements.{All-append, All-cons, All-head, All-nil, All-tail}
 use Rattle.std.proofs.lemmas.Option.{slice_get_within}
@@ -10,7 +10,7 @@ use Rattle.net_laws.specs.Net.{Mark, Slot}
 use Rattle.plan_moves.specs.Sheets.{Sheet}
 use Rattle.plan_layout.specs.declared.layout.Need.{Need}
 use Rattle.plan_layout.specs.Cells.{cell_at, marks_at, slots_at}
-use Rattle.plan_layout.specs.Spots.{find_spot, needs_of, plain_keys, spots_from}
+use Rattle.plan_layout.specs.Spots.{find_spot, needs_of, spots_from}
 use Rattle.plan_layout.proofs.Needed.{AreSeen, picks_seen}
 use Rattle.plan_growth.specs.Begun.{IsFree}
 use Rattle.plan_growth.specs.Entering.{cells_of}
@@ -86,12 +86,16 @@ step_below bases n names calls h i keys after needs behind e f =
 module _ (b : Sheet) (owners bases : List ℕ) (t level : ℕ) (lt : level < length bases) where
   pub names_there : (first : ℕ) (ks : List Key) → All (IsFree b owners t) (map slot_cell (slots_at bases (spots_from level first ks))) → AreThere bases (length b.values) (spots_from level first ks)
   names_there first [] h = tt
-  names_there first (k ∷ ks) h =
-      (lt, slice_get_within b.values (get_or bases level 0 + first) None (All-head (IsFree b owners t) (get_or bases level 0 + first) (map slot_cell (slots_at bases (spots_from level (first + 1) ks))) h).1,
-      names_there (first + 1) ks (All-tail (IsFree b owners t) (get_or bases level 0 + first) (map slot_cell (slots_at bases (spots_from level (first + 1) ks))) h))
+  names_there first (k ∷ ks) h = (
+    lt,
+    slice_get_within b.values (get_or bases level 0 + first) None (All-head (IsFree b owners t) (get_or bases level 0 + first) (map slot_cell (slots_at bases (spots_from level (first + 1) ks))) h).1,
+    names_there (first + 1) ks (All-tail (IsFree b owners t) (get_or bases level 0 + first) (map slot_cell (slots_at bases (spots_from level (first + 1) ks))) h),
+  )
 
   pub calls_there : (first : ℕ) (ks : List Key) → All (IsFree b owners t) (map mark_cell (marks_at bases (spots_from level first ks))) → AreThere bases (length b.values) (spots_from level first ks)
   calls_there first [] h = tt
-  calls_there first (k ∷ ks) h =
-      (lt, slice_get_within b.values (get_or bases level 0 + first) None (All-head (IsFree b owners t) (get_or bases level 0 + first) (map mark_cell (marks_at bases (spots_from level (first + 1) ks))) h).1,
-      calls_there (first + 1) ks (All-tail (IsFree b owners t) (get_or bases level 0 + first) (map mark_cell (marks_at bases (spots_from level (first + 1) ks))) h))
+  calls_there first (k ∷ ks) h = (
+    lt,
+    slice_get_within b.values (get_or bases level 0 + first) None (All-head (IsFree b owners t) (get_or bases level 0 + first) (map mark_cell (marks_at bases (spots_from level (first + 1) ks))) h).1,
+    calls_there (first + 1) ks (All-tail (IsFree b owners t) (get_or bases level 0 + first) (map mark_cell (marks_at bases (spots_from level (first + 1) ks))) h),
+  )

@@ -1,5 +1,5 @@
 -- The inputs and outputs of a workflow that was just entered have begun to grow.
-use Rattle.std.proofs.Common.{◌≡◌, ℕ, zero, suc, ◌+◌, ◌<◌, List, [], ◌∷◌, ◌++◌, map, append-nil, length, get_or, Option, Some, None, slice_get, arith, sym, ap, ◌∙◌, subst, refl, inl}
+use Rattle.std.proofs.Common.{◌≡◌, ℕ, ◌+◌, List, [], ◌∷◌, ◌++◌, map, append-nil, length, Option, Some, None, slice_get, arith, sym, ap, ◌∙◌, subst, refl, inl}
 use Rattle.std.proofs.lemmas.List.{length-append, map-append}
 use Rattle.wdl_base.specs.declared.place.Segment.{Segment}
 use Rattle.wdl_value.specs.declared.env.Bind.{Bind}
@@ -16,7 +16,6 @@ use Rattle.wdl_typed.specs.Scope.{lookup, names_of}
 use Rattle.value_net.specs.Nets.{joined}
 use Rattle.net_laws.specs.Growing as net
 use Rattle.net_laws.specs.Growing.{Declared, NamesNeeded, State, absent_input, declares, default_input, given_input, no_input, no_output, nothing_given, only, output_next, takes, tells}
-use Rattle.net_laws.specs.Moving as even
 use Rattle.net_laws.specs.Moving.{IsWeight, at_step, hit}
 use Rattle.net_laws.specs.Net.{Given, Mark, Scope, Slot, Work, beyond, both_given, both_works, no_work}
 use Rattle.net_laws.specs.Works.{evaluated, work_of}

@@ -1,8 +1,8 @@
 -- A workflow that is entered.
-use Rattle.std.proofs.Common.{◌≡◌, ℕ, zero, suc, ◌+◌, ◌<◌, ◌≤◌, ◌⊎◌, inl, inr, true, false, List, [], ◌∷◌, ◌++◌, All, map, append_assoc, append-nil, length, get_or, replicate, Option, Some, None, slice_get, arith, sym, ap, ◌∙◌, subst, refl}
+use Rattle.std.proofs.Common.{◌≡◌, ℕ, zero, suc, ◌+◌, ◌<◌, ◌≤◌, true, List, [], ◌∷◌, ◌++◌, All, map, append_assoc, append-nil, length, replicate, Option, Some, None, slice_get, arith, sym, ap, ◌∙◌, subst, refl}
 use Rattle.std.proofs.lemmas.List.{length-append, length-map, length-replicate}
 use Rattle.std.proofs.lemmas.List.Elements.{All-append, All-cons, All-nil}
-use Rattle.std.proofs.lemmas.Option.{slice_get-get_or, slice_get_within}
+use Rattle.std.proofs.lemmas.Option.{slice_get_within}
 use Rattle.wdl_base.specs.declared.place.Segment.{Segment}
 use Rattle.wdl_value.specs.declared.env.Bind.{Bind}
 use Rattle.wdl_value.specs.declared.value.Value.{Value}
@@ -10,7 +10,6 @@ use Rattle.wdl_value.specs.Tables.{Row}
 use Rattle.wdl_typed.specs.declared.flow.FlowDef.{FlowDef}
 use Rattle.wdl_typed.specs.declared.flow.Statement.{Statement}
 use Rattle.wdl_typed.specs.declared.task.TDecl.{TDecl}
-use Rattle.wdl_typed.specs.declared.task.TInput.{TInput}
 use Rattle.wdl_typed.specs.Bodies.{Library}
 use Rattle.wdl_typed.specs.Journal.{keys_distinct}
 use Rattle.step_net.specs.Views.{Wants}
@@ -21,10 +20,9 @@ use Rattle.net_laws.specs.Moving as even_works
 use Rattle.net_laws.specs.Moving.{IsWeight, at_step}
 use Rattle.net_laws.specs.Net.{Given, Mark, Resolved, Scope, Slot, Work, beyond, both_given, both_works, no_work, slot_keys}
 use Rattle.net_laws.specs.Planned.{counted}
-use Rattle.net_laws.specs.Works.{evaluated, work_of}
+use Rattle.net_laws.specs.Works.{work_of}
 use Rattle.net_laws.proofs.Even.{work_even}
 use Rattle.plan_moves.specs.Sheets.{Sheet, rules_of, state_of}
-use Rattle.plan_layout.specs.declared.layout.BodyLayout.{BodyLayout}
 use Rattle.plan_layout.specs.declared.layout.FlowLayout.{FlowLayout}
 use Rattle.plan_layout.specs.declared.layout.Layout.{Layout}
 use Rattle.plan_layout.specs.declared.layout.Need.{Need}
@@ -35,8 +33,7 @@ use Rattle.plan_layout.specs.Paths.{body_at}
 use Rattle.plan_layout.specs.Sees.{FlowSees, OutputsSee, Sees, spot_keys}
 use Rattle.plan_layout.specs.Sees as see
 use Rattle.plan_growth.specs.declared.instance.Instance.{Instance}
-use Rattle.plan_growth.specs.declared.rule.Rule.{Rule}
-use Rattle.plan_growth.specs.Begun.{AllSit, HasBegun, IsFree, all_given, base_at, hits, scope_at}
+use Rattle.plan_growth.specs.Begun.{AllSit, HasBegun, IsFree, all_given, hits, scope_at}
 use Rattle.plan_growth.specs.Entering.{Plot, Sown, cells_from, dones_at, flow_dones, with_flow, with_inputs, with_instance, with_outputs}
 use Rattle.plan_growth.specs.Growth.{IsEven, sheet_of}
 use Rattle.plan_growth.specs.Meaning.{AreThere}
@@ -46,15 +43,15 @@ use Rattle.plan_growth.proofs.Begins.{bodies_begin}
 use Rattle.plan_growth.proofs.Entry.{cells_count, even_news, even_now, extends, instance_there, instances_kept, is_entered, net_is, values_are}
 use Rattle.plan_growth.proofs.Firsts.{dones_within}
 use Rattle.plan_growth.proofs.Inside.{WholeLaid, whole_laid}
-use Rattle.plan_growth.proofs.Instances.{Extends, IsEntered, Kept, entered_later, instance_owners, owners_count, put}
-use Rattle.plan_growth.proofs.Lists.{get_copy, get_left, get_right}
+use Rattle.plan_growth.proofs.Instances.{Extends, IsEntered, Kept, entered_later, instance_owners, put}
+use Rattle.plan_growth.proofs.Lists.{get_copy, get_left, get_right, kept_length}
 use Rattle.plan_growth.proofs.Runs.{self_found}
 use Rattle.plan_growth.proofs.Scopes.{behind_count, behind_there, body_scope, inputs_cells, inputs_count, inputs_scope, outputs_cells, outputs_scope}
 use Rattle.plan_growth.proofs.Seen.{slots_keys}
-use Rattle.plan_growth.proofs.Sitting.{all_sit, call_owners, done_owners, dones_count, name_owners, names_count}
+use Rattle.plan_growth.proofs.Sitting.{all_sit, call_owners, done_owners, name_owners, names_count}
 use Rattle.plan_growth.proofs.Standing.{lines_length, news_length, statements_stand}
 use Rattle.plan_growth.proofs.Tellers.{inputs_stand, inputs_there, outputs_stand}
-use Rattle.plan_growth.proofs.Telling.{InputsPut, OutputsPut, input_hits, input_owners, input_owners_length, input_values, inputs_added, inputs_later, inputs_sit, output_news_length, outputs_added, outputs_later, outputs_sit, values_length, values_other}
+use Rattle.plan_growth.proofs.Telling.{InputsPut, input_hits, input_owners, input_owners_length, input_values, inputs_added, inputs_later, inputs_sit, output_news_length, outputs_added, outputs_later, outputs_sit, values_length, values_other}
 use Rattle.plan_growth.proofs.Told.{InputsSit, OutputsSit, input_news, inputs_begin, inputs_given, inputs_leaves, output_news, outputs_begin, outputs_given, told_scope}
 
 -- the owners of outputs, from a step on
@@ -232,14 +229,7 @@ module _ (lib : Library) (layout : Layout) (site : List ℕ) (rows : List Row) (
   value_kept c o h = let inside = slice_get_within q.net.values c o h in value_other c (λ m lt e. omega (arith, e, inside)) ∙ body_behind.values c o h
 
   pub longer : length q.net.values ≤ length b.values
-  longer = by_last (length q.net.values) refl
-    where
-      by_last : (m : ℕ) → length q.net.values ≡ m → m ≤ length b.values
-      by_last zero e = omega arith
-      by_last (suc m) e =
-          let h = slice_get-get_or q.net.values m None (omega (arith, e)) in
-          let inside = slice_get_within b.values m (get_or q.net.values m None) (value_kept m (get_or q.net.values m None) h) in
-          omega (arith, inside)
+  longer = kept_length q.net.values b.values value_kept
 
   pub entered_now : IsEntered lib b owners_now bases place befores afters base first ss stand lay.body.statements
   entered_now =
@@ -300,19 +290,21 @@ module _ (lib : Library) (layout : Layout) (site : List ℕ) (rows : List Row) (
       let own : slice_get owners_in (length befores + (length (name_owners lib first ss) + j)) ≡ Some (output_step + j) =
       get_right befores (name_owners lib first ss ++ (afters ++ (call_owners lib first ss ++ done_owners lib first ss))) (length (name_owners lib first ss) + j)
       ∙ get_right (name_owners lib first ss) (afters ++ (call_owners lib first ss ++ done_owners lib first ss)) j
-      ∙ get_left afters (call_owners lib first ss ++ done_owners lib first ss) j (output_step + j) (output_owner output_step f.outputs j lt) in
-      (ap (slice_get owners_now) slot ∙ entered_now.owned (length befores + (length (name_owners lib first ss) + j)) (output_step + j) own,
-      ap (slice_get b.values) slot
-      ∙ entered_now.unset (length befores + (length (name_owners lib first ss) + j)) (omega arith)
-      (slice_get_within owners_in (length befores + (length (name_owners lib first ss) + j)) (output_step + j) own))
+      ∙ get_left afters (call_owners lib first ss ++ done_owners lib first ss) j (output_step + j) (output_owner output_step f.outputs j lt) in (
+        ap (slice_get owners_now) slot ∙ entered_now.owned (length befores + (length (name_owners lib first ss) + j)) (output_step + j) own,
+        ap (slice_get b.values) slot
+            ∙ entered_now.unset (length befores + (length (name_owners lib first ss) + j)) (omega arith)
+            (slice_get_within owners_in (length befores + (length (name_owners lib first ss) + j)) (output_step + j) own),
+      )
 
   outs_sit : OutputsSit lib site rows b owners_now instance base place calls_out output_step f.outputs seen_out
   outs_sit =
       outputs_sit instance base place given lib site rows b owners_now calls_out f.outputs output_step 0 seen_out
       (record {
-        news =
-            (λ j n e. rule_here (length in_news + j) (output_step + j) n (omega arith) (get_right in_news out_news j ∙ e),
-            λ j n e. step_here (length in_news + j) (output_step + j) n (omega arith) (get_right in_news out_news j ∙ e));
+        news = (
+          λ j n e. rule_here (length in_news + j) (output_step + j) n (omega arith) (get_right in_news out_news j ∙ e),
+          λ j n e. step_here (length in_news + j) (output_step + j) n (omega arith) (get_right in_news out_news j ∙ e),
+        );
         free = out_free;
       })
 

@@ -1,14 +1,12 @@
 -- A body that was just entered: no step of its statements was taken, and no cell of theirs is set.
-use Rattle.std.specs.Prelude.{◌≡◌, ℕ, ◌+◌, false, List, [], ◌∷◌, All, Option, Some, None, get_or, length, map, slice_get}
+use Rattle.std.specs.Prelude.{◌≡◌, ℕ, ◌+◌, false, List, [], ◌∷◌, All, Some, None, get_or, length, map, slice_get}
 use Rattle.wdl_base.specs.declared.place.Segment.{Segment}
-use Rattle.wdl_value.specs.declared.value.Value.{Value}
 use Rattle.wdl_value.specs.Tables.{Row}
-use Rattle.wdl_typed.specs.declared.expr.TExpr.{TExpr}
 use Rattle.wdl_typed.specs.declared.flow.Statement.{Statement, out-Statement}
 use Rattle.wdl_typed.specs.Bodies.{Library}
 use Rattle.wdl_typed.specs.Flow.{Names}
 use Rattle.net_laws.specs.Cost.{TaskCost}
-use Rattle.net_laws.specs.Growing.{Form, Rule, does, mark_cell, nothing_given, slot_cell}
+use Rattle.net_laws.specs.Growing.{Form, does, mark_cell, nothing_given, slot_cell}
 use Rattle.net_laws.specs.Moving.{IsWeight, at_step, hit}
 use Rattle.net_laws.specs.Net.{Given, Scope, Work, both_given}
 use Rattle.net_laws.specs.Works.{evaluated, work_of}

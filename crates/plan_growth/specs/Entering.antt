@@ -120,7 +120,7 @@ with_inputs given instance first k [] needs net = net
 with_inputs given instance first k (i ∷ is) [] net = net
 with_inputs given instance first k (i ∷ is) (n ∷ ns) net =
     with_inputs given instance first (k + 1) is ns
-      (with_given (rule.Input instance k) (first + k) first n i.value (lookup given (plain_key i.name)) net)
+    (with_given (rule.Input instance k) (first + k) first n i.value (lookup given (plain_key i.name)) net)
 
 -- a step for each output from this number on
 abbrev pub with_outputs : ℕ → ℕ → ℕ → List (List Need) → Sown → Sown
@@ -137,9 +137,9 @@ cells_from first (suc n) = cells_from first n ++ (first + n) ∷ []
 abbrev pub with_flow : FlowDef → List Bind → List Segment → FlowLayout → BodyLayout → Plot → Plot
 with_flow f given place layout body p =
     with_net (with_instance layout.body [] place body p)
-      (with_outputs (length p.instances) (length p.net.values) 0 layout.outputs
-        (with_inputs given (length p.instances) (length p.net.values) 0 f.inputs layout.inputs
-          (with_instance layout.body [] place body p).net))
+    (with_outputs (length p.instances) (length p.net.values) 0 layout.outputs
+    (with_inputs given (length p.instances) (length p.net.values) 0 f.inputs layout.inputs
+    (with_instance layout.body [] place body p).net))
 
 -- the cells that say that all of it is done
 abbrev pub flow_dones : FlowDef → FlowLayout → BodyLayout → ℕ → List ℕ

@@ -6,5 +6,5 @@ mod laws;
 mod rule;
 
 pub use instance::Instance;
-pub use laws::bodies_begin;
+pub use laws::{bodies_begin, plans_begin, plans_go_on};
 pub use rule::Rule;

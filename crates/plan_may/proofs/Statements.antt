@@ -23,7 +23,7 @@ use Rattle.wdl_task.specs.Readiness.{are_given}
 use Rattle.value_net.specs.Nets.{are_set, value_at}
 use Rattle.net_laws.specs.Growing as net
 use Rattle.net_laws.specs.Growing.{does, mark_cell, slot_cell}
-use Rattle.net_laws.specs.Net.{Resolved, Scope, Slot}
+use Rattle.net_laws.specs.Net.{Resolved, Scope, Slot, Work}
 use Rattle.net_laws.specs.Planned.{CallNeeds}
 use Rattle.net_laws.specs.Rules.{Needs, arg_keys}
 use Rattle.net_laws.proofs.Sets.{slots_set}
@@ -46,12 +46,14 @@ use Rattle.plan_ready.specs.Ready.{IsCallReady, IsExprReady, IsLayerReady}
 use Rattle.plan_growth.specs.declared.instance.Instance.{Instance}
 use Rattle.plan_growth.specs.Begun.{base_at, given_by, scope_at}
 use Rattle.plan_growth.specs.Entering.{cells_of}
+use Rattle.plan_growth.specs.Growth.{AskedCall}
 use Rattle.plan_growth.specs.Meaning.{AreThere}
 use Rattle.plan_growth.proofs.FlowCalls.{output_keys_count}
 use Rattle.plan_growth.proofs.Heads.{needs_set}
 use Rattle.plan_growth.proofs.Outer.{all_left, all_right, calls_at, names_at}
 use Rattle.plan_growth.proofs.Seen.{marks_all, marks_resolved}
-use Rattle.plan_may.specs.May.{IsApart, MayAsk, MayCall, MayEnter, MayLayer, MayRun, last_base, own_env}
+use Rattle.plan_lists.specs.Lists.{jobs_in}
+use Rattle.plan_may.specs.May.{IsApart, at_place, MayAsk, MayCall, MayEnter, MayLayer, MayRun, last_base, own_env}
 
 -- ---- names that are there
 
@@ -145,7 +147,7 @@ flow_keys : (lib : Library) (call : List ℕ) (k : ℕ) (f : FlowDef) → slice_
 flow_keys lib call k f e =
     ap (λ (o : Option FlowDef). length (signature_keys call (option_and_then (λ (g : FlowDef). Some (flow_signature g)) o))) e ∙ output_keys_count call f.outputs
 
-module _ (lib : Library) (layout : Layout) (all_laid : IsLayout (Sees lib) lib layout) (values : List (Option Value)) (rules : List net.Rule) (asked : List ℕ) (l : StatementLayout) (call : List ℕ) (given : List Bind) where
+module _ (lib : Library) (layout : Layout) (all_laid : IsLayout (Sees lib) lib layout) (values : List (Option Value)) (rules : List net.Rule) (listed : Work) (asked : List AskedCall) (l : StatementLayout) (call : List ℕ) (given : List Bind) where
   task_may : (k : ℕ) (sig : Signature) → signature lib (target.Task k) ≡ Some sig → l.names ≡ length (signature_keys call (signature lib (target.Task k)))
       → ((t : TaskDef) → slice_get lib.tasks k ≡ Some t → (task_typed lib.structs t ≡ true) × (are_given lib.structs t.inputs given ≡ true)) → MayAsk lib l k given
   task_may k sig there names kept = by_task (slice_get lib.tasks k) refl there
@@ -176,13 +178,13 @@ module _ (lib : Library) (layout : Layout) (all_laid : IsLayout (Sees lib) lib l
           }
 
   run_may : (g : Target) (sig : Signature) → signature lib g ≡ Some sig → l.names ≡ length (signature_keys call (signature lib g))
-      → ((k : ℕ) (t : TaskDef) → g ≡ target.Task k → slice_get lib.tasks k ≡ Some t → (task_typed lib.structs t ≡ true) × (are_given lib.structs t.inputs given ≡ true)) → MayRun lib layout values rules asked l g given
+      → ((k : ℕ) (t : TaskDef) → g ≡ target.Task k → slice_get lib.tasks k ≡ Some t → (task_typed lib.structs t ≡ true) × (are_given lib.structs t.inputs given ≡ true)) → MayRun lib layout values rules listed asked l g given
   run_may (target.Task k) sig there names kept = task_may k sig there names (λ t e. kept k t refl e)
   run_may (target.Flow k) sig there names kept = flow_may k sig there names
 
 -- ---- the step of a statement
 
-module _ (lib : Library) (layout : Layout) (all_laid : IsLayout (Sees lib) lib layout) (values : List (Option Value)) (rules : List net.Rule) (asked : List ℕ) (instance : Instance) (flow : ℕ) (root : List Statement)
+module _ (lib : Library) (layout : Layout) (all_laid : IsLayout (Sees lib) lib layout) (values : List (Option Value)) (rules : List net.Rule) (listed : Work) (asked : List AskedCall) (instance : Instance) (flow : ℕ) (root : List Statement)
     (x : Statement) (a : Stand) (l : StatementLayout) (lay : Laid (Sees lib) lib flow root layout.bodies (laid.one x a l)) (sees : Sees lib x a) (deep : length instance.bases ≡ length a.path + 1)
     (names : AreThere instance.bases (length values) a.names) (calls : AreThere instance.bases (length values) a.calls) (ready : are_set values (cells_of instance.bases l.needs l.after) ≡ true) where
   abbrev bases : List ℕ
@@ -229,25 +231,26 @@ module _ (lib : Library) (layout : Layout) (all_laid : IsLayout (Sees lib) lib l
   set = needs_set values bases l.needs (map (cell_at bases) l.after) ready
 
   call_may : (y : TCall) → LineLaid lib a l (layer.Call y) → AllSeen a.names (arg_keys y.args) → AllSeen a.calls (plain_keys y.after) → IsCallReady lib (value_at values) scope y
-      → IsApart lib layout values rules asked (instance.place ++ segment.Call y.name ∷ []) → MayCall lib layout values rules asked instance l y
-  call_may y here all after can apart =
+      → IsApart lib layout values rules listed asked (instance.place ++ segment.Call y.name ∷ []) → jobs_in listed (at_place (instance.place ++ segment.Call y.name ∷ [])) ≡ 0 → MayCall lib layout values rules listed asked instance l y
+  call_may y here all after can apart new =
       let needs = call_needs y here.needs all after in
       let marks = marks_at bases (needs_of a.calls (plain_keys y.after)) in
       record {
         args = can.args (slots_at bases l.needs) marks needs set;
         run = λ given met.
-            run_may lib layout all_laid values rules asked l y.name given y.target can.there.0 can.there.1 here.slots.names (can.tasks (slots_at bases l.needs) marks needs set given met);
+            run_may lib layout all_laid values rules listed asked l y.name given y.target can.there.0 can.there.1 here.slots.names (can.tasks (slots_at bases l.needs) marks needs set given met);
         apart = apart;
+        new = new;
       }
 
   by_layer : (y : Statement-F Statement) → LineLaid lib a l y → AllSeen a.names (keys_at y) → AllSeen a.calls (plain_keys (after_at y)) → Blocks y → IsLayerReady lib (value_at values) y scope
-      → HasRuns (length values) (last_base bases) l → ((z : TCall) → y ≡ layer.Call z → IsApart lib layout values rules asked (instance.place ++ segment.Call z.name ∷ [])) → MayLayer lib layout values rules asked instance l y
+      → HasRuns (length values) (last_base bases) l → ((z : TCall) → y ≡ layer.Call z → IsApart lib layout values rules listed asked (instance.place ++ segment.Call z.name ∷ []) × (jobs_in listed (at_place (instance.place ++ segment.Call z.name ∷ [])) ≡ 0)) → MayLayer lib layout values rules listed asked instance l y
   by_layer (layer.Decl y) here all after block can run apart =
       let names_are = here.slots.names in
       let some : 0 < l.names = omega (arith, names_are) in
       let within = run.names some in
       (omega (arith, names_are, within), expr_here y.value here.needs all can)
-  by_layer (layer.Call y) here all after block can run apart = call_may y here all after can (apart y refl)
+  by_layer (layer.Call y) here all after block can run apart = let p = apart y refl in call_may y here all after can p.0 p.1
   by_layer (layer.Scatter y) here all after block can run apart =
       let cells = block.cells in
       record { inner = block.inner; there = block.there; some = omega (arith, cells); room = block.room; within = block.within; ready = expr_here y.over here.needs all can }
@@ -255,5 +258,5 @@ module _ (lib : Library) (layout : Layout) (all_laid : IsLayout (Sees lib) lib l
       record { inner = block.inner; there = block.there; room = block.room; within = block.within; ready = expr_here y.cond here.needs all can }
 
   pub layer_may : Free → IsLayerReady lib (value_at values) (out-Statement x) scope
-      → ((z : TCall) → out-Statement x ≡ layer.Call z → IsApart lib layout values rules asked (instance.place ++ segment.Call z.name ∷ [])) → MayLayer lib layout values rules asked instance l (out-Statement x)
+      → ((z : TCall) → out-Statement x ≡ layer.Call z → IsApart lib layout values rules listed asked (instance.place ++ segment.Call z.name ∷ []) × (jobs_in listed (at_place (instance.place ++ segment.Call z.name ∷ [])) ≡ 0)) → MayLayer lib layout values rules listed asked instance l (out-Statement x)
   layer_may free can apart = by_layer (out-Statement x) line sees.names sees.calls blocks can (runs free) apart

@@ -14,12 +14,14 @@ use Rattle.wdl_typed.specs.Bodies.{Library}
 use Rattle.wdl_typed.specs.Scope.{names_of}
 use Rattle.step_net.specs.Views.{Wants}
 use Rattle.value_net.specs.Nets.{are_set, value_at}
+use Rattle.flow_laws.proofs.SameRequests.{place_same}
 use Rattle.net_laws.specs.Askers.{Asker}
 use Rattle.net_laws.specs.Cost.{TaskCost}
 use Rattle.net_laws.specs.Growing as net
 use Rattle.net_laws.specs.Growing.{Form, copies, declares, does, ends, gathers, mark_cell, slot_cell}
 use Rattle.net_laws.specs.Moving.{at_step}
 use Rattle.net_laws.specs.Net.{Given, Scope, Work}
+use Rattle.net_laws.specs.Works.{work_of}
 use Rattle.net_laws.proofs.Places.{one_at_a_place}
 use Rattle.plan_moves.specs.Sheets.{Grown, Sheet, rules_of, state_of, taken_in}
 use Rattle.plan_layout.specs.declared.layout.Layout.{Layout}
@@ -31,13 +33,17 @@ use Rattle.plan_growth.specs.declared.rule.Rule.{Rule}
 use Rattle.plan_growth.specs.declared.rule.Rule.TheVariants as rule
 use Rattle.plan_growth.specs.Begun.{IsFree, base_at, given_of, scope_at}
 use Rattle.plan_growth.specs.Entering.{Sown}
-use Rattle.plan_growth.specs.Growth.{IsGrowing, growth_leaves, is_leaf, sheet_of}
+use Rattle.plan_growth.specs.Growth.{AskedCall, IsGrowing, growth_leaves, is_leaf, sheet_of}
 use Rattle.plan_growth.specs.Meaning.{MeansDeclared, MeansInput, MeansOutput, MeansStatement, rule_cells}
 use Rattle.plan_growth.specs.News.{Stands}
 use Rattle.plan_growth.proofs.Lists.{get_none}
-use Rattle.plan_may.specs.May.{HasInputs, IsApart, MayDo, MayInput, MayOutput, MayStatement, MayTell, StepsMay}
+use Rattle.plan_lists.specs.Lists.{jobs_in}
+use Rattle.plan_lists.proofs.Weights.{jobs_weigh}
+use Rattle.plan_may.specs.May.{HasInputs, IsApart, at_place, MayDo, MayInput, MayOutput, MayStatement, MayTell, StepsMay}
 use Rattle.plan_may.proofs.Apart.{callers_apart}
 use Rattle.plan_may.proofs.Callers.{caller_there, callers}
+use Rattle.plan_may.proofs.Jobs.{jobs_called}
+use Rattle.plan_may.proofs.Places.{none_pass}
 use Rattle.plan_may.proofs.Statements.{expr_may, layer_may, needs_reached, reached, runs}
 
 some_same : {A : Type 0} {x y : A} → Some x ≡ Some y → x ≡ y
@@ -58,7 +64,7 @@ module _ (b : Sheet) (owners : List ℕ) (t : ℕ) where
   all_below : (cs : List ℕ) → All (IsFree b owners t) cs → All (λ (c : ℕ). c < length b.values) cs
   all_below cs h k d lt = free_below _ (h k d lt)
 
-module _ (lib : Library) (layout : Layout) (site : List ℕ) (rows : List Row) (depth : ℕ) (form : Form) (v : Sown) (is : List Instance) (listed : Work) (asked : List ℕ) (paid : TaskCost → ℕ)
+module _ (lib : Library) (layout : Layout) (site : List ℕ) (rows : List Row) (depth : ℕ) (form : Form) (v : Sown) (is : List Instance) (listed : Work) (asked : List AskedCall) (paid : TaskCost → ℕ)
     (inputs : HasInputs lib form) (growing : IsGrowing lib layout site rows depth form v is listed asked paid) (t : ℕ) (r : Rule) (w : Wants) (rule_there : slice_get v.rules t ≡ Some r)
     (there : slice_get v.steps t ≡ Some w) (fresh : w.is_taken ≡ false) (set : are_set v.values w.needs ≡ true) where
   abbrev rules : List net.Rule
@@ -92,24 +98,42 @@ module _ (lib : Library) (layout : Layout) (site : List ℕ) (rows : List Row) (
   -- ---- no other call has its place
 
   apart : (x : Statement) (call : TCall) (s : Scope) (g : Given) (d : ℕ) → out-Statement x ≡ layer.Call call → slice_get rules t ≡ Some (does x s g d)
-      → IsApart lib layout v.values rules asked (s.place ++ segment.Call call.name ∷ [])
-  apart x call s g d is_call e j u at y z h c f same =
-      let q = growing.asks j u at in
+      → IsApart lib layout v.values rules listed asked (s.place ++ segment.Call call.name ∷ [])
+  apart x call s g d is_call e j c at same =
+      let q = growing.asks j c at in
       let once = growing.once t (does x s g d) e refl left 1 in
       let twice = q.once 1 in
       let st = state_of sheet owners in
       let p = growing.growth.grown in
       let mine = caller_there lib site rows (rules_of sheet) st t x call is_call s g d (λ o i. some_same (sym i ∙ e)) p (omega (arith, once)) in
-      let other = caller_there lib site rows (rules_of sheet) st u (stmt.Call y) y (stmt.outs-Call y) z h c (λ o i. some_same (sym i ∙ f)) p (omega (arith, twice)) in
+      let other = caller_there lib site rows (rules_of sheet) st c.step (stmt.Call q.call) q.call (stmt.outs-Call q.call) q.scope q.given q.done (λ o i. some_same (sym i ∙ q.rule)) p (omega (arith, twice)) in
       let one =
       one_at_a_place (callers lib site rows (rules_of sheet) st p) (callers_apart lib site rows (rules_of sheet) st depth form growing.root p) (record { step = t; place = s.place ++ segment.Call call.name ∷ [] })
-      (record { step = u; place = z.place ++ segment.Call y.name ∷ [] }) mine other (sym same) in
+      (record { step = c.step; place = q.scope.place ++ segment.Call q.call.name ∷ [] }) mine other (sym same ∙ q.place) in
       true≢false (sym q.taken ∙ ap (λ (a : Asker). taken_in (slice_get v.steps a.step)) (sym one) ∙ left)
+
+  -- and no job stands there
+  new : (x : Statement) (call : TCall) (s : Scope) (g : Given) (d : ℕ) → out-Statement x ≡ layer.Call call → slice_get rules t ≡ Some (does x s g d)
+      → jobs_in listed (at_place (s.place ++ segment.Call call.name ∷ [])) ≡ 0
+  new x call s g d is_call e =
+      let once = growing.once t (does x s g d) e refl left 1 in
+      let st = state_of sheet owners in
+      let p = growing.growth.grown in
+      let place = s.place ++ segment.Call call.name ∷ [] in
+      let mine = caller_there lib site rows (rules_of sheet) st t x call is_call s g d (λ o i. some_same (sym i ∙ e)) p (omega (arith, once)) in
+      let w = work_of lib site rows (rules_of sheet) st p in
+      sym (growing.weighs (λ (y : Work). jobs_in y (at_place place)) (jobs_weigh (at_place place)))
+      ∙ none_pass (at_place place) w.jobs w.codes (λ y c within passes.
+      let q = jobs_called lib site rows (rules_of sheet) st p y within in
+      let one =
+      one_at_a_place (callers lib site rows (rules_of sheet) st p) (callers_apart lib site rows (rules_of sheet) st depth form growing.root p) q.0 (record { step = t; place = place }) q.1 mine
+      (sym q.2 ∙ place_same y.place place passes) in
+      true≢false (sym q.3 ∙ ap (λ (a : Asker). taken_in (slice_get v.steps a.step)) one ∙ left))
 
   -- ---- by its rule
 
   statement_may : (i k : ℕ) (m : net.Rule) → slice_get rules t ≡ Some m → (w.is_taken ≡ false → All (IsFree sheet owners t) (rule_cells m)) → MeansStatement lib layout is (length v.values) i k w.needs m
-      → MayStatement lib layout v.values rules asked is i k
+      → MayStatement lib layout v.values rules listed asked is i k
   statement_may i k m e free means =
       let x = means.statement in
       let a = means.stand in
@@ -133,10 +157,10 @@ module _ (lib : Library) (layout : Layout) (site : List ℕ) (rows : List Row) (
         statement = x;
         statement_there = means.statement_there;
         some = omega (arith, deep);
-        reached = reached lib layout growing.laid v.values rules asked means.instance means.body.flow means.flow.body x a l means.laid means.sees means.depth means.names means.calls set_here;
-        runs = runs lib layout growing.laid v.values rules asked means.instance means.body.flow means.flow.body x a l means.laid means.sees means.depth means.names means.calls set_here below;
-        can = layer_may lib layout growing.laid v.values rules asked means.instance means.body.flow means.flow.body x a l means.laid means.sees means.depth means.names means.calls set_here below
-            (ready_rule (does x s g d) same refl) (λ z f. apart x z s g d f same);
+        reached = reached lib layout growing.laid v.values rules listed asked means.instance means.body.flow means.flow.body x a l means.laid means.sees means.depth means.names means.calls set_here;
+        runs = runs lib layout growing.laid v.values rules listed asked means.instance means.body.flow means.flow.body x a l means.laid means.sees means.depth means.names means.calls set_here below;
+        can = layer_may lib layout growing.laid v.values rules listed asked means.instance means.body.flow means.flow.body x a l means.laid means.sees means.depth means.names means.calls set_here below
+            (ready_rule (does x s g d) same refl) (λ z f. (apart x z s g d f same, new x z s g d f same));
       }
 
   declared_may : (instance : Instance) (name : List ℕ) (e : TExpr) (needs : List Need) (slot : ℕ) (m : net.Rule) → slice_get rules t ≡ Some m → (w.is_taken ≡ false → All (IsFree sheet owners t) (rule_cells m))
@@ -155,7 +179,7 @@ module _ (lib : Library) (layout : Layout) (site : List ℕ) (rows : List Row) (
       })
 
   input_may : (i k : ℕ) (m : net.Rule) → slice_get rules t ≡ Some m → (w.is_taken ≡ false → All (IsFree sheet owners t) (rule_cells m)) → MeansInput lib layout is (length v.values) i k w.needs m
-      → MayInput lib layout v.values rules asked is i k
+      → MayInput lib layout v.values rules listed asked is i k
   input_may i k m e free means =
       record {
         instance = means.instance;
@@ -174,7 +198,7 @@ module _ (lib : Library) (layout : Layout) (site : List ℕ) (rows : List Row) (
       }
 
   output_may : (i k : ℕ) (m : net.Rule) → slice_get rules t ≡ Some m → (w.is_taken ≡ false → All (IsFree sheet owners t) (rule_cells m)) → MeansOutput lib layout is (length v.values) i k w.needs m
-      → MayOutput lib layout v.values rules asked is i k
+      → MayOutput lib layout v.values rules listed asked is i k
   output_may i k m e free means =
       record {
         instance = means.instance;
@@ -195,7 +219,7 @@ module _ (lib : Library) (layout : Layout) (site : List ℕ) (rows : List Row) (
       free_below sheet owners t c
       (All-head (IsFree sheet owners t) c [] (subst (All (IsFree sheet owners t)) f (subst (λ (q : net.Rule). All (IsFree sheet owners t) (rule_cells q)) e (free fresh))))
 
-  by_rule : (q : Rule) (m : net.Rule) → slice_get rules t ≡ Some m → Stands lib layout is sheet owners t q w m → MayDo lib layout v.values rules asked is q w.needs
+  by_rule : (q : Rule) (m : net.Rule) → slice_get rules t ≡ Some m → Stands lib layout is sheet owners t q w m → MayDo lib layout v.values rules listed asked is q w.needs
   by_rule (rule.Statement i k) m e stands = statement_may i k m e stands.free stands.means
   by_rule (rule.Input i k) m e stands = input_may i k m e stands.free stands.means
   by_rule (rule.Output i k) m e stands = output_may i k m e stands.free stands.means
@@ -203,7 +227,7 @@ module _ (lib : Library) (layout : Layout) (site : List ℕ) (rows : List Row) (
   by_rule (rule.Ends c) m e stands = joint_may m (ends w.needs c) c stands.means refl stands.free
   by_rule (rule.Copies c) m e stands = let z = stands.means in (joint_may m (copies z.0 c) c z.2 refl stands.free, z.0, z.1)
 
-  step_may : MayDo lib layout v.values rules asked is r w.needs
+  step_may : MayDo lib layout v.values rules listed asked is r w.needs
   step_may =
       let lt = slice_get_within v.steps t w there in
       let even = growing.even.rules_too in

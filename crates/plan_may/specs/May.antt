@@ -1,15 +1,15 @@
 -- What holds of a step of a plan that is ready: what it does is laid out, its cells are there, and what it evaluates may be evaluated.
-use Rattle.std.specs.Prelude.{◌≡◌, ◌<◌, ◌≤◌, ◌-◌, ◌+◌, ℕ, true, false, List, [], ◌∷◌, ◌++◌, Option, Some, Ok, get_or, length, map, slice_get}
+use Rattle.std.specs.Prelude.{◌≡◌, ◌<◌, ◌≤◌, ◌-◌, ◌+◌, ℕ, true, false, List, [], ◌∷◌, ◌++◌, Contains, Option, Some, None, Ok, get_or, length, map, slice_get}
 use Rattle.wdl_base.specs.declared.place.Segment.{Segment}
 use Rattle.wdl_base.specs.declared.place.Segment.TheVariants as segment
+use Rattle.wdl_base.specs.Same.{same_place}
 use Rattle.wdl_value.specs.declared.env.Bind.{Bind}
 use Rattle.wdl_value.specs.declared.value.Value.{Value}
-use Rattle.wdl_value.specs.Tables.{Row}
+use Rattle.wdl_value.specs.Tables.{Row, answer_at}
 use Rattle.wdl_typed.specs.declared.expr.TExpr.{TExpr}
 use Rattle.wdl_typed.specs.declared.flow.FlowDef.{FlowDef}
 use Rattle.wdl_typed.specs.declared.flow.Statement.{Statement, Statement-F, out-Statement}
 use Rattle.wdl_typed.specs.declared.flow.Statement.TheOpen as layer
-use Rattle.wdl_typed.specs.declared.flow.Statement.TheVariants as stmt
 use Rattle.wdl_typed.specs.declared.flow.TCall.{TCall}
 use Rattle.wdl_typed.specs.declared.flow.Target.{Target}
 use Rattle.wdl_typed.specs.declared.flow.Target.TheVariants as target
@@ -26,7 +26,8 @@ use Rattle.value_net.specs.Nets.{are_set, value_at}
 use Rattle.net_laws.specs.Cost.{TaskCost}
 use Rattle.net_laws.specs.Growing as net
 use Rattle.net_laws.specs.Growing.{Form, all, does, each, one, takes, tells, whole}
-use Rattle.net_laws.specs.Net.{Given, Scope, Work, known_in}
+use Rattle.net_laws.specs.Net.{Work, known_in}
+use Rattle.plan_lists.specs.Lists.{JobTest, jobs_in}
 use Rattle.plan_layout.specs.declared.layout.BodyLayout.{BodyLayout}
 use Rattle.plan_layout.specs.declared.layout.FlowLayout.{FlowLayout}
 use Rattle.plan_layout.specs.declared.layout.Layout.{Layout}
@@ -40,7 +41,7 @@ use Rattle.plan_growth.specs.declared.instance.Instance.{Instance}
 use Rattle.plan_growth.specs.declared.rule.Rule.{Rule}
 use Rattle.plan_growth.specs.declared.rule.Rule.TheVariants as rule
 use Rattle.plan_growth.specs.Entering.{Sown}
-use Rattle.plan_growth.specs.Growth.{IsGrowing}
+use Rattle.plan_growth.specs.Growth.{AskedCall, IsGrowing}
 use Rattle.plan_growth.specs.Meaning.{IsInstance}
 
 -- the first cell of the innermost instance
@@ -91,20 +92,24 @@ pub record MayEnter (lib : Library) (layout : Layout) (values : List (Option Val
   pub room : HasFlowRoom (length values) flow laid body
   pub names : l.names ≤ length flow.outputs
 
-module _ (lib : Library) (layout : Layout) (values : List (Option Value)) (rules : List net.Rule) (asked : List ℕ) where
+-- a job at that place
+abbrev pub at_place : List Segment → JobTest
+at_place place r c = same_place r.place place
+
+module _ (lib : Library) (layout : Layout) (values : List (Option Value)) (rules : List net.Rule) (listed : Work) (asked : List AskedCall) where
   abbrev pub MayRun : StatementLayout → Target → List Bind → Type 0
   MayRun l (target.Task k) args = MayAsk lib l k args
   MayRun l (target.Flow k) args = MayEnter lib layout values l k
 
   -- No call that was asked has that place.
   abbrev pub IsApart : List Segment → Type 0
-  IsApart place =
-      (j u : ℕ) → slice_get asked j ≡ Some u → (x : TCall) (s : Scope) (g : Given) (d : ℕ) → slice_get rules u ≡ Some (does (stmt.Call x) s g d) → s.place ++ segment.Call x.name ∷ [] ≡ place → ⊥
+  IsApart place = (j : ℕ) (c : AskedCall) → slice_get asked j ≡ Some c → c.place ≡ place → ⊥
 
   pub record MayCall (instance : Instance) (l : StatementLayout) (x : TCall) : Type 0 where
     pub args : AreArgsReady (own_env values instance.bases l.needs) x.args
     pub run : (given : List Bind) → args_met (own_env values instance.bases l.needs) x.args ≡ Ok given → MayRun l x.target given
     pub apart : IsApart (instance.place ++ segment.Call x.name ∷ [])
+    pub new : jobs_in listed (at_place (instance.place ++ segment.Call x.name ∷ [])) ≡ 0
 
   -- what the step of a statement asks for, by what it is
   abbrev pub MayLayer : Instance → StatementLayout → Statement-F Statement → Type 0
@@ -175,6 +180,12 @@ HasInputs lib (whole f given place g ds) = are_given lib.structs f.inputs given 
 
 abbrev pub StepsMay : Type 0
 StepsMay =
-    (lib : Library) (layout : Layout) (site : List ℕ) (rows : List Row) (depth : ℕ) (form : Form) (v : Sown) (is : List Instance) (listed : Work) (asked : List ℕ) (paid : TaskCost → ℕ)
+    (lib : Library) (layout : Layout) (site : List ℕ) (rows : List Row) (depth : ℕ) (form : Form) (v : Sown) (is : List Instance) (listed : Work) (asked : List AskedCall) (paid : TaskCost → ℕ)
     → HasInputs lib form → (growing : IsGrowing lib layout site rows depth form v is listed asked paid) → (t : ℕ) (r : Rule) (w : Wants) → slice_get v.rules t ≡ Some r → slice_get v.steps t ≡ Some w
-    → w.is_taken ≡ false → are_set v.values w.needs ≡ true → MayDo lib layout v.values growing.growth.rules asked is r w.needs
+    → w.is_taken ≡ false → are_set v.values w.needs ≡ true → MayDo lib layout v.values growing.growth.rules listed asked is r w.needs
+
+-- Where no listed job stands at a place, and one stands at the place of each row, no row answers there.
+abbrev pub RowsNone : Type 0
+RowsNone =
+    (rows : List Row) (listed : Work) → ((r : Row) → Contains rows r → 0 < jobs_in listed (at_place r.place)) → (place : List Segment) → jobs_in listed (at_place place) ≡ 0 → (attempt : ℕ)
+    → answer_at rows place attempt ≡ None

@@ -4,4 +4,4 @@
 
 mod laws;
 
-pub use laws::steps_may;
+pub use laws::{rows_none, steps_may};
