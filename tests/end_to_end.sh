@@ -114,6 +114,13 @@ document b.wdl 'import "a.wdl"
 expect "an import in a circle" 3 '' 'b.wdl:12..26: 202 ImportCircle\n' check a.wdl
 document b.wdl 'workflow other { Int x = "a" }'
 expect "a fault of an import" 3 '' 'b.wdl:37..40: 303 NoCoercion\n' check a.wdl
+document a.wdl 'import "gone.wdl" workflow w { Int x = "a" }'
+expect "an import that is not there, and a fault of the check" 5 '' 'cannot read gone.wdl\n' check a.wdl
+document a.wdl 'import "b.wdl" import "gone.wdl"'
+document b.wdl '$'
+expect "an import that is no document before one that is not there" 3 '' 'b.wdl:12..13: 102 StrayCharacter\n' check a.wdl
+document b.wdl ''
+expect "an import before one that is not there" 5 '' 'cannot read gone.wdl\n' check a.wdl
 if [ -w /dev/full ]; then
   # The status where standard output, and then where standard error, cannot be written.
   "$program" check bare.wdl >/dev/full 2>err
@@ -224,6 +231,15 @@ given "inputs that fit" 0 '' '{"w.c":true,"w.xs":["b","a"]}' '{"w.r":["b","a"]}\
 awk 'BEGIN { printf "%1048577s", "" }' >i.json
 expect "an inputs file of 1,048,577 bytes" 4 '' 'inputs: 407 TooLong\n' run --inputs i.json w.wdl
 expect "no inputs file" 4 '' 'inputs: 404 InputMissing w.c\n' run w.wdl
+# What the inputs file is and says is asked only of a document with a workflow.
+printf '{' >i.json
+document tasks.wdl 'task t { command <<<>>> }'
+for command in run cwl; do
+  expect "inputs that are no JSON, $command" 4 '' 'inputs: 401 NotJson\n' $command --inputs i.json bare.wdl
+  expect "inputs that are no JSON without a workflow, $command" 3 '' 'tasks.wdl:0..0: 327 NoWorkflow\n' $command --inputs i.json tasks.wdl
+  expect "inputs that are not there, $command" 5 '' 'cannot read missing.json\n' $command --inputs missing.json bare.wdl
+  expect "inputs that are not there without a workflow, $command" 3 '' 'tasks.wdl:0..0: 327 NoWorkflow\n' $command --inputs missing.json tasks.wdl
+done
 
 echo "runs"
 calls w.wdl 'workflow w { call say as b { input: s = a.r + "z" } call say as a { input: s = "x" } output { String r = b.r } }'

@@ -1,12 +1,13 @@
 #!/bin/sh
-# Tests what the built program tells a person: the notes on a terminal and with WDL_NOTES=1, that there are none without, the place of a fault in
-# documents of many kinds, `wdl inputs`, help and the version. Its last line is 'N passed, M failed'.
+# Tests what the built program tells a person: each kind of note on a terminal of its own and with WDL_NOTES=1, that there is none without, the place of
+# a fault in documents of many kinds, `wdl inputs`, help and the version. Its last line is 'N passed, M failed'.
 #
 #   tests/notes.sh PROGRAM
 program=${1:?the program, with its whole path}
 work=$(mktemp -d) || exit 1
 trap 'rm -rf "$work"' EXIT
 cd "$work" || exit 1
+root=$work/run
 passed=0
 failed=0
 pass() { passed=$((passed + 1)); }
@@ -20,42 +21,83 @@ same() {
   if [ "$2" = "$3" ]; then pass; else fail "$1: $3, wanted $2"; fi
 }
 
-# noted WORDS..: runs the program with notes; what it writes is in `out` and `err`, and its number in `status`.
+# tells NAME FILE TEXT..: each text stands in the file.
+tells() {
+  name=$1 file=$2
+  shift 2
+  for text in "$@"; do
+    if grep -qF -- "$text" "$file"; then pass; else fail "$name: no '$text' in $(cat "$file")"; fi
+  done
+}
+
+# alone, noted WORDS..: runs the program without a terminal, and there with notes; what it writes is in `out` and `err`, and its number in `status`.
+alone() {
+  "$program" "$@" >out 2>err </dev/null
+  status=$?
+}
 noted() {
   WDL_NOTES=1 "$program" "$@" >out 2>err </dev/null
   status=$?
 }
 
-# on_terminal WORDS..: runs the program on a terminal of its own; what is seen there is in `seen`.
+# on_terminal WORDS..: runs the program on a terminal of its own; what is seen there is in `seen`, with <clear> where the line is cleared.
 on_terminal() {
   if command -v script >/dev/null 2>&1; then
     script -qec "'$program' $*" /dev/null </dev/null >raw 2>&1
   else
     python3 -c 'import pty, sys; pty.spawn(sys.argv[1:])' "$program" "$@" </dev/null >raw 2>&1
   fi
-  tr -d '\r' <raw >seen
+  esc=$(printf '\033')
+  tr -d '\r' <raw | sed "s/$esc\[K/<clear>/g" | timeless >seen
+}
+
+# Times stand for any times, and ROOT for the folder of the jobs.
+timeless() { sed "s|$root|ROOT|g; s/[0-9][0-9]*\.[0-9] s/N s/g"; }
+
+# A terminal's text as lines: each event with the counts in front, which stand below it there.
+as_lines() {
+  awk 'BEGIN { RS = "<clear>"; ORS = "" }
+    { at = match($0, /\n\[[^\n]*\]$/)
+      if (at) print substr($0, at + 1) " " substr($0, 1, at); else print }' "$1"
+}
+
+# three_ways NAME NUMBER LINE WORDS..: runs the program without a terminal, where it says LINE and nothing else; on a terminal, where it says what is read
+# from standard input; and with WDL_NOTES=1, where it says the same as lines. `forget` is called before each.
+forget() { :; }
+three_ways() {
+  name=$1 number=$2 line=$3
+  shift 3
+  cat >want
+  forget
+  alone "$@"
+  same "$name, without a terminal" "$number $line" "$status $(cat err)"
+  forget
+  on_terminal "$@"
+  if cmp -s want seen; then pass; else
+    fail "$name, on a terminal"
+    diff want seen
+  fi
+  forget
+  noted "$@"
+  same "$name, with WDL_NOTES=1" "$number $(as_lines want)" "$status $(cat err out | timeless)"
 }
 
 echo "who sees notes"
 printf 'version 1.1\nworkflow w {\n  Int x = y\n}\n' >bad.wdl
 line='bad.wdl:35..36: 301 UnknownName'
-"$program" check bad.wdl >out 2>err </dev/null
-same "without a terminal: the line alone" "$line" "$(cat err)"
+three_ways "a fault of a document" 3 "$line" check bad.wdl <<END
+bad.wdl:3:11: error 301 UnknownName: the name \`y\` is not known here
+  Int x = y
+          ^
+$line
+END
 WDL_NOTES=0 "$program" check bad.wdl >out 2>err </dev/null
 same "WDL_NOTES=0: the line alone" "$line" "$(cat err)"
-noted check bad.wdl
-same "WDL_NOTES=1: the place" 'bad.wdl:3:11: error 301 UnknownName: ' "$(sed -n '1s/\(: error [0-9]* [A-Za-z]*: \).*/\1/p' err)"
-same "WDL_NOTES=1: the line of the document" '  Int x = y' "$(sed -n 2p err)"
-same "WDL_NOTES=1: the mark" '          ^' "$(sed -n 3p err)"
-same "WDL_NOTES=1: the line, last" "$line" "$(sed -n '4,$p' err)"
-same "WDL_NOTES=1: the status and the output" "3 " "$status $(cat out)"
-on_terminal check bad.wdl
-same "a terminal: what WDL_NOTES=1 shows" "$(cat err)" "$(cat seen)"
 noted check missing.wdl
 same "a file that is not there has no note" "cannot read missing.wdl" "$(cat err)"
 if [ -w /dev/full ]; then
   # The notes and the line cannot be written.
-  WDL_NOTES=1 "$program" run --root "$work/run" bad.wdl >out 2>/dev/full </dev/null
+  WDL_NOTES=1 "$program" run --root "$root" bad.wdl >out 2>/dev/full </dev/null
   same "notes that cannot be written" 6 "$?"
 fi
 
@@ -82,54 +124,240 @@ same "of a run" "bad.wdl:3:11" "$(sed -n '1s/: error .*//p' err)"
 printf 'version 1.1\n' >none.wdl
 noted inputs none.wdl
 same "no workflow" "3 none.wdl:1:1: error 327 NoWorkflow" "$status $(sed -n '1s/\(: error [0-9]* [A-Za-z]*\): .*/\1/p' err)"
+printf 'version 1.1\nworkflow w {\n  Int x = 1\n}\n' >declares.wdl
+noted cwl declares.wdl
+same "of the CWL subset" "8 declares.wdl:3:3: error 602" "$status $(sed -n '1s/\(: error [0-9]*\): .*/\1/p' err)"
+on_terminal cwl declares.wdl
+same "of the CWL subset, on a terminal" "$(cat err)" "$(cat seen)"
+alone cwl declares.wdl
+same "of the CWL subset, without a terminal" "8 not in the subset: 602 at declares.wdl:27..36" "$status $(cat err)"
 
-echo "runs"
+echo "runs that end well"
+cat >one.wdl <<'END'
+version 1.1
+task say { input { Int n } command <<< echo ~{n} >>> output { Int r = read_int(stdout()) } }
+workflow one {
+  input { Int most = 1 }
+  scatter (n in range(most)) { call say { input: n } }
+  output { Array[Int] r = say.r }
+}
+END
+three_ways "one job" 0 '' run --root "$root" one.wdl <<'END'
+<clear>scatter-0/0/say: started
+[0 done, 1 running]<clear>scatter-0/0/say: status 0 after N s
+[1 done, 0 running]<clear>1 job done, 0 failed, in N s (1 ran, 0 kept from the journal, 0 tried again)
+the files of each job are below ROOT
+{"one.r":[0]}
+END
+same "without a terminal: the output" '{"one.r":[0]}' "$("$program" run --root "$root" one.wdl 2>&1)"
+echo '{"one.most":2}' >most.json
+"$program" run --root "$root" --journal kept one.wdl >out 2>err || fail "a journal: $(cat err)"
+forget() {
+  rm -f journal journal-wal journal-shm
+  cp kept journal
+}
+three_ways "a run that goes on" 0 '' run --workers 1 --root "$root" --journal journal --inputs most.json one.wdl <<'END'
+<clear>scatter-0/0/say: kept from the journal
+[1 done, 0 running]<clear>scatter-0/1/say: started
+[1 done, 1 running]<clear>scatter-0/1/say: status 0 after N s
+[2 done, 0 running]<clear>2 jobs done, 0 failed, in N s (1 ran, 1 kept from the journal, 0 tried again)
+the files of each job are below ROOT
+{"one.r":[0,1]}
+END
+
+echo "jobs that are tried again"
+forget() { rm -f tries; }
+cat >again.wdl <<END
+version 1.1
+task say {
+  input { Int least }
+  command <<<
+    echo >>'$work/tries'
+    [ "\$(wc -l <'$work/tries')" -ge ~{least} ]
+  >>>
+  runtime { maxRetries: 2 }
+}
+workflow again { input { Int least = 3 } call say { input: least } }
+END
+three_ways "a job that succeeds at last" 0 '' run --root "$root" again.wdl <<'END'
+<clear>say: started
+[0 done, 1 running]<clear>say: status 1 after N s, attempt 1 of 3
+[0 done, 1 failed, 0 running]<clear>say: started, attempt 2 of 3
+[0 done, 1 running]<clear>say: status 1 after N s, attempt 2 of 3
+[0 done, 1 failed, 0 running]<clear>say: started, attempt 3 of 3
+[0 done, 1 running]<clear>say: status 0 after N s
+[1 done, 0 running]<clear>1 job done, 0 failed, in N s (3 ran, 0 kept from the journal, 2 tried again)
+the files of each job are below ROOT
+{}
+END
+echo '{"again.least":4}' >least.json
+forget
+noted run --root "$root" --inputs least.json again.wdl
+same "a job that fails at last" "1 failed say: status 1" "$status $(tail -n 1 err)"
+tells "a job that fails at last" err 'say: started, attempt 3 of 3' ', attempt 3 of 3' 'say, attempt 3: the command ended with status 1' '(3 ran, 0 kept from the journal, 2 tried again)'
+
+echo "jobs that fail"
+forget() { :; }
 cat >two.wdl <<'END'
 version 1.1
 task say {
-  input { String s Int status }
+  input { String s Int status Boolean made }
   command <<<
     echo "~{s}"
     for i in 1 2 3 4 5 6 7 8 9 10 11; do echo "line $i" >&2; done
+    if ~{made}; then echo >g.txt; fi
     exit ~{status}
   >>>
-  output { String r = read_string(stdout()) File f = "f.txt" }
+  output { String r = read_string(stdout()) File f = "~{s}.txt" }
 }
 workflow two {
-  input { Int status = 0 }
-  call say { input: s = "hello", status }
+  input { Int status = 0 Boolean made = false }
+  call say { input: s = "hello", status, made }
 }
 END
-printf '{"two.status":7}' >i.json
-noted run --root "$work/run" --inputs i.json two.wdl
-same "a job that failed: the line" "1 failed say: status 7" "$status $(tail -n 1 err)"
-for part in 'say: started' 'echo "hello"' 'status 7' 'line 11' "$work/run/say/_stdout" "$work/run/say/_stderr"; do
-  grep -qF "$part" err && pass || fail "a job that failed: no $part in $(cat err)"
-done
-grep -qx ' *line 1' err && fail "a job that failed: more than the last ten lines of standard error" || pass
-noted run --root "$work/run" two.wdl
-same "a file that is not there: the line" "1 failed say f: 511 FileMissing" "$status $(tail -n 1 err)"
-grep -qF 'f.txt' err && pass || fail "a file that is not there: no name in $(cat err)"
-cat >one.wdl <<'END'
-version 1.1
-task say { command <<< echo hello >>> output { String r = read_string(stdout()) } }
-workflow one { call say output { String r = say.r } }
+echo '{"two.status":7}' >status.json
+three_ways "a status" 1 'failed say: status 7' run --root "$root" --inputs status.json two.wdl <<'END'
+<clear>say: started
+[0 done, 1 running]<clear>say: status 7 after N s
+[0 done, 1 failed, 0 running]<clear>say: the command ended with status 7
+  command:
+    echo "hello"
+    for i in 1 2 3 4 5 6 7 8 9 10 11; do echo "line $i" >&2; done
+    if false; then echo >g.txt; fi
+    exit 7
+  standard error ends with:
+    line 2
+    line 3
+    line 4
+    line 5
+    line 6
+    line 7
+    line 8
+    line 9
+    line 10
+    line 11
+  standard output: ROOT/say/_stdout
+  standard error: ROOT/say/_stderr
+<clear>0 jobs done, 1 failed, in N s (1 ran, 0 kept from the journal, 0 tried again)
+the files of each job are below ROOT
+failed say: status 7
 END
-noted run --root "$work/run" --journal journal one.wdl
-same "a run: the output" '0 {"one.r":"hello"}' "$status $(cat out)"
-grep -qF '1 running] say: started' err && grep -qF '[1 done, 0 running] say: status 0' err && pass || fail "a run: $(cat err)"
-noted run --root "$work/run" --journal journal one.wdl
-grep -qF 'say: kept from the journal' err && pass || fail "a run that goes on: $(cat err)"
-"$program" run --root "$work/run" one.wdl >out 2>err </dev/null
-same "a run without notes" '{"one.r":"hello"}' "$(cat out err)"
-# On a terminal each event clears the line of the counts, which is drawn again below it.
-on_terminal run --root "$work/run" one.wdl
-clear=$(printf '\033[K')
-grep -qF "${clear}say: started" seen && grep -qF '[0 done, 1 running]' seen && pass || fail "a run on a terminal: $(cat seen)"
-printf '{"two.status":"7"}' >i.json
-noted run --root "$work/run" --inputs i.json two.wdl
-same "inputs: the line" "4 inputs: 405 DoesNotFit two.status" "$status $(tail -n 1 err)"
-grep -F 'two.status' err | grep -F 'Int' | grep -qF '"7"' && pass || fail "inputs: $(cat err)"
+echo '{"two.made":true}' >made.json
+three_ways "a file that is not there" 1 'failed say f: 511 FileMissing' run --root "$root" --inputs made.json two.wdl <<'END'
+<clear>say: started
+[0 done, 1 running]<clear>say: status 0 after N s
+[1 done, 0 running]<clear>say: its output `f` has no value
+  looked for: ~{s}.txt
+  directory: ROOT/say
+  files there, beside _stdout and _stderr:
+    g.txt
+<clear>1 job done, 0 failed, in N s (1 ran, 0 kept from the journal, 0 tried again)
+the files of each job are below ROOT
+failed say f: 511 FileMissing
+END
+noted run --root "$root" two.wdl
+tells "a file where there is none" err 'no files are there but _stdout and _stderr'
+cat >killed.wdl <<'END'
+version 1.1
+task say {
+  input { String how }
+  command <<<
+    ~{how}
+  >>>
+}
+workflow killed { input { String how } call say { input: how } }
+END
+cat >program.json <<'END'
+{"killed.how":"exec 2>&1; sh -c 'kill -9 $$'; exit $?"}
+END
+three_ways "a program that a signal ended" 1 'failed say: status 137' run --root "$root" --inputs program.json killed.wdl <<'END'
+<clear>say: started
+[0 done, 1 running]<clear>say: status 137 after N s
+[0 done, 1 failed, 0 running]<clear>say: the command ended with status 137 (a program in it was ended by signal 9, SIGKILL)
+  command:
+    exec 2>&1; sh -c 'kill -9 $$'; exit $?
+  standard error is empty
+  standard output: ROOT/say/_stdout
+  standard error: ROOT/say/_stderr
+<clear>0 jobs done, 1 failed, in N s (1 ran, 0 kept from the journal, 0 tried again)
+the files of each job are below ROOT
+failed say: status 137
+END
+cat >shell.json <<'END'
+{"killed.how":"kill -9 $$"}
+END
+three_ways "a shell that a signal ended" 1 'failed say: status 255' run --root "$root" --inputs shell.json killed.wdl <<'END'
+<clear>say: started
+[0 done, 1 running]<clear>say: status 255 after N s
+[0 done, 1 failed, 0 running]<clear>say: the command ended with status 255, or was killed by a signal
+  command:
+    kill -9 $$
+  standard error is empty
+  standard output: ROOT/say/_stdout
+  standard error: ROOT/say/_stderr
+<clear>0 jobs done, 1 failed, in N s (1 ran, 0 kept from the journal, 0 tried again)
+the files of each job are below ROOT
+failed say: status 255
+END
+# ends STATUS TEXT: what is said of a command that ends with this status.
+ends() {
+  echo "{\"killed.how\":\"exit $1\"}" >how.json
+  noted run --root "$root" --inputs how.json killed.wdl
+  same "status $1" "say: the command ended with status $1$2" "$(grep 'the command ended' err)"
+}
+ends 128 ''
+ends 129 ' (a program in it was ended by signal 1, SIGHUP)'
+ends 130 ' (a program in it was ended by signal 2, SIGINT)'
+ends 134 ' (a program in it was ended by signal 6, SIGABRT)'
+ends 138 ' (a program in it was ended by signal 10)'
+ends 139 ' (a program in it was ended by signal 11, SIGSEGV)'
+ends 141 ' (a program in it was ended by signal 13, SIGPIPE)'
+ends 143 ' (a program in it was ended by signal 15, SIGTERM)'
+ends 159 ' (a program in it was ended by signal 31)'
+ends 160 ''
+root=$work/blocked
+mkdir -p "$root/say"
+echo >"$root/say/mine"
+three_ways "a job that cannot be launched" 9 'cannot launch say' run --root "$root" two.wdl <<'END'
+<clear>say: started
+[0 done, 1 running]<clear>say: not launched
+[0 done, 0 running]<clear>0 jobs done, 0 failed, in N s (0 ran, 0 kept from the journal, 0 tried again)
+the files of each job are below ROOT
+cannot launch say
+END
+root=$work/run
+
+echo "inputs files"
+# refuses CODE LINE TEXT..: with the inputs file `i.json` the line is this one, alone or behind a note that has each text.
+refuses() {
+  code=$1 line=$2
+  shift 2
+  alone run --root "$root" --inputs i.json two.wdl
+  same "$code, without a terminal" "4 $line" "$status $(cat err)"
+  noted run --root "$root" --inputs i.json two.wdl
+  same "$code: two lines, the line last" "4 2 $line" "$status $(wc -l <err) $(tail -n 1 err)"
+  tells "$code" err "$@"
+  on_terminal run --root "$root" --inputs i.json two.wdl
+  same "$code, on a terminal" "$(cat err)" "$(cat seen)"
+}
+echo '{"two.status":7' >i.json
+refuses 401 'inputs: 401 NotJson' 'the inputs file is no JSON' 'line 2, column 0'
+echo '[7]' >i.json
+refuses 402 'inputs: 402 NotAnObject' '[7]'
+echo '{"two.state":7}' >i.json
+refuses 403 'inputs: 403 UnknownInput two.state' '`two.state`' '`two.status`'
+echo '{"two.status":"7"}' >i.json
+refuses 405 'inputs: 405 DoesNotFit two.status' '`two.status`' 'Int' '"7"'
+echo '{"two.status":7.5}' >i.json
+refuses 406 'inputs: 406 FloatNumber two.status' '`two.status`' 'Int' '7.5'
+head -c 1048577 /dev/zero | tr '\0' ' ' >i.json
+refuses 407 'inputs: 407 TooLong' '1,048,576 bytes'
+alone run --root "$root" killed.wdl
+same "404, without a terminal" "4 inputs: 404 InputMissing killed.how" "$status $(cat err)"
+noted run --root "$root" killed.wdl
+tells 404 err '`killed.how`' 'String'
+on_terminal run --root "$root" killed.wdl
+same "404, on a terminal" "$(cat err)" "$(cat seen)"
 
 echo "inputs, help and the version"
 cat >lanes.wdl <<'END'
@@ -145,7 +373,7 @@ workflow lanes {
   }
 }
 END
-cat >form <<'END'
+three_ways "inputs" 0 '' inputs lanes.wdl <<'END'
 {
   "lanes.total": "Int (optional)",
   "lanes.samples": "Array[Sample]+",
@@ -154,21 +382,25 @@ cat >form <<'END'
   "lanes.names": "Array[String] (optional, default [\"a\\\"b\",\"c\"])"
 }
 END
-"$program" inputs lanes.wdl >out 2>err </dev/null
-status=$?
-same "inputs" "0 $(cat form)" "$status $(cat out err)"
 for words in help --help -h 'help run' 'run --help' 'run -h' version --version -V; do
   # shellcheck disable=SC2086
-  "$program" $words >out 2>err </dev/null
-  same "$words: status and errors" "0 " "$? $(cat err)"
+  alone $words
+  same "$words: status and errors" "0 " "$status $(cat err)"
   [ -s out ] && [ -z "$(tail -c 1 out)" ] && [ "$(awk 'length > 80' out | wc -l)" -eq 0 ] && pass || fail "$words: $(cat out)"
+  # shellcheck disable=SC2086
+  on_terminal $words
+  same "$words, on a terminal" "$(cat out)" "$(cat seen)"
 done
 "$program" --version >out
 grep -qx 'wdl [0-9]*\.[0-9]*\.[0-9]*' out && pass || fail "the version: $(cat out)"
 "$program" help >out
 for command in run check inputs cwl; do grep -q "^ *\(wdl \)\?$command\b" out && pass || fail "help: no $command in $(cat out)"; done
+for command in run check inputs cwl; do
+  "$program" help "$command" >out
+  tells "help $command" out "wdl $command" 'status  meaning' example:
+done
 "$program" run --help >out
-for option in --inputs --workers --root --journal; do grep -qF -- "$option" out && pass || fail "help run: no $option in $(cat out)"; done
+tells "help run" out --inputs --workers --root --journal
 
 echo "$passed passed, $failed failed"
 [ "$failed" = 0 ]

@@ -1,11 +1,12 @@
 //! Sentences on calls.
 
 use crate::entry::Entry;
-use crate::listed::{it_has, listed};
-use crate::part::{Part, imported, part_named, part_names};
+use crate::listed::{it_has, list};
+use crate::note::Note;
+use crate::part::{Part, imported, part_named, push_parts};
 use crate::scene::Scene;
 use std::alloc::Global;
-use wdl_ast::{Call, InputDeclaration};
+use wdl_ast::{Call, Document, InputDeclaration};
 use wdl_value::NoMemory;
 
 /// The call that stands at a fault, or whose argument does.
@@ -21,39 +22,60 @@ fn call_at<'a>(scene: &Scene<'a>) -> Option<&'a Call> {
     last
 }
 
+/// The task or workflow that is called there.
+fn called_at<'a>(scene: &Scene<'a>) -> Option<Part<'a>> {
+    scene.callee(call_at(scene)?)
+}
+
+/// Appends what of a document can be called; its workflow only where that is wanted too.
+fn parts(
+    alloc: Global,
+    note: &mut Note,
+    document: &Document,
+    workflows: bool,
+) -> Result<(), NoMemory> {
+    let mut names = Vec::new(alloc);
+    push_parts(&mut names, document, workflows)?;
+    it_has(note, names.as_slice())
+}
+
 /// A task or a workflow of another document that is not there.
 fn unknown_member(
     alloc: Global,
+    note: &mut Note,
     scene: &Scene,
     namespace: &str,
     name: &str,
-) -> Result<String, NoMemory> {
+) -> Result<(), NoMemory> {
     let Some(other) = imported(scene.library, scene.doc, namespace) else {
-        return Ok(format!(in alloc; "no import has the name `{namespace}`")?);
+        return note.push_all(&["no import has the name `", namespace, "`"]);
     };
-    let names = part_names(alloc, &other.document, true)?;
-    let names = it_has(alloc, names.as_slice())?;
     let path = other.path.as_str();
-    Ok(format!(in alloc;
-        "the document `{path}` has no task or workflow `{name}`; {}",
-        names.as_str()
-    )?)
+    note.push_all(&[
+        "the document `",
+        path,
+        "` has no task or workflow `",
+        name,
+        "`; ",
+    ])?;
+    parts(alloc, note, &other.document, true)
 }
 
 /// 322.
-pub fn unknown_task(alloc: Global, scene: &Scene) -> Result<String, NoMemory> {
+pub fn unknown_task(alloc: Global, note: &mut Note, scene: &Scene) -> Result<(), NoMemory> {
     let name = scene.words;
     if let Some((namespace, member)) = name.split_once('.') {
-        return unknown_member(alloc, scene, namespace, member);
+        return unknown_member(alloc, note, scene, namespace, member);
     }
     if let Some(Part::Workflow(_)) = part_named(&scene.doc.document, name) {
-        return Ok(format!(in alloc;
-            "`{name}` is the workflow of this document: only that of an imported one can be called"
-        )?);
+        return note.push_all(&[
+            "`",
+            name,
+            "` is the workflow of this document: only that of an imported one can be called",
+        ]);
     }
-    let names = part_names(alloc, &scene.doc.document, false)?;
-    let names = it_has(alloc, names.as_slice())?;
-    Ok(format!(in alloc; "this document has no task `{name}`; {}", names.as_str())?)
+    note.push_all(&["this document has no task `", name, "`; "])?;
+    parts(alloc, note, &scene.doc.document, false)
 }
 
 /// Whether an input has to be given: it has no default, and its type is not optional.
@@ -74,41 +96,52 @@ fn gives(call: &Call, name: &str) -> bool {
     false
 }
 
-/// The required inputs that a call leaves out.
-fn left_out<'a>(alloc: Global, call: &Call, part: Part<'a>) -> Result<Vec<&'a str>, NoMemory> {
-    let mut names = Vec::new(alloc);
+/// Appends the names of the required inputs that a call leaves out.
+fn push_left_out<'a>(
+    names: &mut Vec<&'a str>,
+    call: &Call,
+    part: Part<'a>,
+) -> Result<(), NoMemory> {
     for input in part.inputs() {
         let name = input.name.name.as_str();
         if is_required(input) && !gives(call, name) {
             names.push(name)?;
         }
     }
-    Ok(names)
+    Ok(())
+}
+
+/// Appends the required inputs that a call leaves out.
+fn missing(alloc: Global, note: &mut Note, call: &Call, part: Part) -> Result<(), NoMemory> {
+    let mut names = Vec::new(alloc);
+    push_left_out(&mut names, call, part)?;
+    list(note, names.as_slice())
 }
 
 /// 323.
-pub fn input_missing(alloc: Global, scene: &Scene) -> Result<String, NoMemory> {
-    let (Some(call), Some(part)) = (call_at(scene), call_at(scene).and_then(|c| scene.callee(c)))
-    else {
-        return Ok(String::from_str(alloc, "this call leaves out a required input")?);
+pub fn input_missing(alloc: Global, note: &mut Note, scene: &Scene) -> Result<(), NoMemory> {
+    let (Some(call), Some(part)) = (call_at(scene), called_at(scene)) else {
+        return note.push("this call leaves out a required input");
     };
     let name = part.name().as_str();
-    let missing = left_out(alloc, call, part)?;
-    let missing = listed(alloc, missing.as_slice())?;
-    Ok(format!(in alloc;
-        "this call of `{name}` leaves out what it requires: {}",
-        missing.as_str()
-    )?)
+    note.push_all(&["this call of `", name, "` leaves out what it requires: "])?;
+    missing(alloc, note, call, part)
+}
+
+/// Appends the inputs that a task or workflow has.
+fn inputs(alloc: Global, note: &mut Note, part: Part) -> Result<(), NoMemory> {
+    let mut names = Vec::new(alloc);
+    part.push_inputs(&mut names)?;
+    it_has(note, names.as_slice())
 }
 
 /// 324.
-pub fn input_unknown(alloc: Global, scene: &Scene) -> Result<String, NoMemory> {
+pub fn input_unknown(alloc: Global, note: &mut Note, scene: &Scene) -> Result<(), NoMemory> {
     let name = scene.words;
-    let Some(part) = call_at(scene).and_then(|call| scene.callee(call)) else {
-        return Ok(format!(in alloc; "`{name}` is no input of what is called")?);
+    let Some(part) = called_at(scene) else {
+        return note.push_all(&["`", name, "` is no input of what is called"]);
     };
-    let names = part.input_names(alloc)?;
-    let names = it_has(alloc, names.as_slice())?;
     let callee = part.name().as_str();
-    Ok(format!(in alloc; "`{name}` is no input of `{callee}`; {}", names.as_str())?)
+    note.push_all(&["`", name, "` is no input of `", callee, "`; "])?;
+    inputs(alloc, note, part)
 }

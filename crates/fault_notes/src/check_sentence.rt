@@ -2,6 +2,7 @@
 
 use crate::call_sentence::{input_missing, input_unknown, unknown_task};
 use crate::name_sentence::{duplicate, not_a_value, unknown_name, unknown_type};
+use crate::note::Note;
 use crate::scene::Scene;
 use crate::value_sentence::{
     bad_arguments, bad_operands, expected, members_differ, no_coercion, no_member,
@@ -49,47 +50,48 @@ fn fixed(code: u16) -> &'static str {
     }
 }
 
-/// The text at a fault with what is said of it.
-fn of_words(alloc: Global, scene: &Scene, code: u16) -> Result<String, NoMemory> {
-    let quote = scene.quote(alloc)?;
-    let said = behind_words(code);
-    Ok(format!(in alloc; "{} {said}", quote.as_str())?)
+/// Appends the text at a fault with what is said of it.
+fn of_words(note: &mut Note, scene: &Scene, code: u16) -> Result<(), NoMemory> {
+    scene.quote(note)?;
+    note.push(" ")?;
+    note.push(behind_words(code))
 }
 
-fn sentence_on(alloc: Global, scene: &Scene, code: u16) -> Result<String, NoMemory> {
+fn sentence_on(alloc: Global, note: &mut Note, scene: &Scene, code: u16) -> Result<(), NoMemory> {
     match code {
-        301 => unknown_name(alloc, scene),
-        303 => no_coercion(alloc, scene),
-        304 => bad_operands(alloc, scene),
-        305 => bad_arguments(alloc, scene),
-        306 => no_member(alloc, scene),
-        307 => not_a_value(alloc, scene),
-        308 => expected(alloc, scene, PLACEHOLDER),
-        310 => members_differ(alloc, scene),
-        321 => duplicate(alloc, scene),
-        322 => unknown_task(alloc, scene),
-        323 => input_missing(alloc, scene),
-        324 => input_unknown(alloc, scene),
-        325 => expected(alloc, scene, "a Boolean as the condition of `if`"),
-        326 => expected(alloc, scene, "an array to scatter over"),
-        329 => unknown_type(alloc, scene),
-        302 | 309 | 311 | 312 | 320 | 330 => of_words(alloc, scene, code),
-        _ => Ok(String::from_str(alloc, fixed(code))?),
+        301 => unknown_name(alloc, note, scene),
+        303 => no_coercion(note, scene),
+        304 => bad_operands(note, scene),
+        305 => bad_arguments(note, scene),
+        306 => no_member(alloc, note, scene),
+        307 => not_a_value(alloc, note, scene),
+        308 => expected(note, scene, PLACEHOLDER),
+        310 => members_differ(alloc, note, scene),
+        321 => duplicate(note, scene),
+        322 => unknown_task(alloc, note, scene),
+        323 => input_missing(alloc, note, scene),
+        324 => input_unknown(alloc, note, scene),
+        325 => expected(note, scene, "a Boolean as the condition of `if`"),
+        326 => expected(note, scene, "an array to scatter over"),
+        329 => unknown_type(alloc, note, scene),
+        302 | 309 | 311 | 312 | 320 | 330 => of_words(note, scene, code),
+        _ => note.push(fixed(code)),
     }
 }
 
-/// The sentence on a code of 301 to 330. Where there is no library it names nothing of it.
+/// Appends the sentence on a code of 301 to 330. Where there is no library it names nothing of it.
 pub fn check_sentence(
     alloc: Global,
+    note: &mut Note,
     code: u16,
     bytes: &[u8],
     span: Span,
     library: Option<&Library>,
-) -> Result<String, NoMemory> {
+) -> Result<(), NoMemory> {
     if let Some(library) = library {
         if let Some(scene) = Scene::new(alloc, library, bytes, span)? {
-            return sentence_on(alloc, &scene, code);
+            return sentence_on(alloc, note, &scene, code);
         }
     }
-    Ok(String::from_str(alloc, fixed(code))?)
+    note.push(fixed(code))
 }

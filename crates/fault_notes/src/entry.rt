@@ -1,7 +1,6 @@
 //! What stands in a task or a workflow, as one list.
 
 use crate::part::Part;
-use std::alloc::Global;
 use wdl_ast::{
     Call, Conditional, Declaration, Ident, InputDeclaration, Scatter, Statement, TaskElement,
     WorkflowElement,
@@ -147,33 +146,31 @@ fn push_workflow_element<'a>(
     }
 }
 
-fn task_entries<'a>(
-    alloc: Global,
+fn push_task<'a>(
+    entries: &mut Vec<Entry<'a>>,
     elements: &'a [TaskElement],
-) -> Result<Vec<Entry<'a>>, NoMemory> {
-    let mut entries = Vec::new(alloc);
+) -> Result<(), NoMemory> {
     for element in elements {
-        push_task_element(&mut entries, element)?;
+        push_task_element(entries, element)?;
     }
-    Ok(entries)
+    Ok(())
 }
 
-fn workflow_entries<'a>(
-    alloc: Global,
+fn push_workflow<'a>(
+    entries: &mut Vec<Entry<'a>>,
     elements: &'a [WorkflowElement],
-) -> Result<Vec<Entry<'a>>, NoMemory> {
-    let mut entries = Vec::new(alloc);
+) -> Result<(), NoMemory> {
     for element in elements {
-        push_workflow_element(&mut entries, element)?;
+        push_workflow_element(entries, element)?;
     }
-    Ok(entries)
+    Ok(())
 }
 
-/// What stands in a task or a workflow, in the order of the text, each block before what stands in
-/// it.
-pub fn entries_of<'a>(alloc: Global, part: Part<'a>) -> Result<Vec<Entry<'a>>, NoMemory> {
+/// Appends what stands in a task or a workflow, in the order of the text, each block before what
+/// stands in it.
+pub fn push_part<'a>(entries: &mut Vec<Entry<'a>>, part: Part<'a>) -> Result<(), NoMemory> {
     match part {
-        Part::Task(task) => task_entries(alloc, task.elements.as_slice()),
-        Part::Workflow(workflow) => workflow_entries(alloc, workflow.elements.as_slice()),
+        Part::Task(task) => push_task(entries, task.elements.as_slice()),
+        Part::Workflow(workflow) => push_workflow(entries, workflow.elements.as_slice()),
     }
 }

@@ -1,5 +1,6 @@
 //! The line of the source in which a fault begins, and a line of carets below it.
 
+use crate::note::Note;
 use crate::position::bytes_before;
 use std::alloc::Global;
 use wdl_value::{NoMemory, Span};
@@ -61,12 +62,43 @@ fn cut_back(text: &str, most: usize) -> (&str, &'static str) {
     (&text[..text.floor_char_boundary(most)], "..")
 }
 
+/// What is shown of a line, with `..` where it is cut.
+#[derive(Clone, Copy)]
+struct Shown<'a> {
+    cut_before: &'static str,
+    before: &'a str,
+    marked: &'a str,
+    behind: &'a str,
+    cut_behind: &'static str,
+}
+
+impl<'a> Shown<'a> {
+    /// What is shown of a line in these pieces. Where its span is cut, nothing behind that is shown.
+    fn new(before: &'a str, marked: &'a str, behind: &'a str) -> Shown<'a> {
+        let (cut_before, before) = cut_front(before);
+        let (marked, cut_marked) = cut_back(marked, MOST_SHOWN);
+        let most = MOST_SHOWN.saturating_sub(marked.len());
+        let (behind, cut_behind) = if cut_marked.is_empty() {
+            cut_back(behind, most)
+        } else {
+            ("", cut_marked)
+        };
+        Shown {
+            cut_before,
+            before,
+            marked,
+            behind,
+            cut_behind,
+        }
+    }
+}
+
 /// Appends the characters of a line as they are shown: tabs stay, carriage returns go, and each
 /// other control character becomes U+FFFD, so that no document can steer a terminal.
-fn push_shown(line: &mut String, text: &str) -> Result<(), NoMemory> {
+fn push_shown(note: &mut Note, text: &str) -> Result<(), NoMemory> {
     for c in text.chars() {
         if c != '\r' {
-            line.push(if c.is_control() && c != '\t' {
+            note.push_char(if c.is_control() && c != '\t' {
                 '\u{FFFD}'
             } else {
                 c
@@ -77,27 +109,40 @@ fn push_shown(line: &mut String, text: &str) -> Result<(), NoMemory> {
 }
 
 /// Appends a mark for each character that is shown, and a tab for a tab.
-fn push_marks(line: &mut String, text: &str, mark: char) -> Result<(), NoMemory> {
+fn push_marks(note: &mut Note, text: &str, mark: char) -> Result<(), NoMemory> {
     for c in text.chars() {
         if c != '\r' {
-            line.push(if c == '\t' { '\t' } else { mark })?;
+            note.push_char(if c == '\t' { '\t' } else { mark })?;
         }
     }
     Ok(())
 }
 
 /// Appends a caret for each character of a span; one where it has none.
-fn push_carets(line: &mut String, marked: &str) -> Result<(), NoMemory> {
+fn push_carets(note: &mut Note, marked: &str) -> Result<(), NoMemory> {
     if marked.trim_ascii().is_empty() {
-        line.push('^')?;
-        return Ok(());
+        return note.push("^");
     }
-    push_marks(line, marked, '^')
+    push_marks(note, marked, '^')
 }
 
-/// The line in which a span begins, and below it a caret under each character of the span in that
-/// line. A long line is cut. Bytes that are not UTF-8 are shown as U+FFFD.
-pub fn excerpt(alloc: Global, bytes: &[u8], span: Span) -> Result<String, NoMemory> {
+/// Appends the line, and below it the carets.
+fn push_lines(note: &mut Note, shown: Shown) -> Result<(), NoMemory> {
+    note.push(shown.cut_before)?;
+    push_shown(note, shown.before)?;
+    push_shown(note, shown.marked)?;
+    push_shown(note, shown.behind)?;
+    note.push(shown.cut_behind)?;
+    note.push("\n")?;
+    push_marks(note, shown.cut_before, ' ')?;
+    push_marks(note, shown.before, ' ')?;
+    push_carets(note, shown.marked)?;
+    note.push("\n")
+}
+
+/// Appends the line in which a span begins, and below it a caret under each character of the span
+/// in that line. A long line is cut. Bytes that are not UTF-8 are shown as U+FFFD.
+pub fn excerpt(alloc: Global, note: &mut Note, bytes: &[u8], span: Span) -> Result<(), NoMemory> {
     let Pieces {
         before,
         marked,
@@ -106,22 +151,6 @@ pub fn excerpt(alloc: Global, bytes: &[u8], span: Span) -> Result<String, NoMemo
     let before = String::from_utf8_lossy(alloc, before)?;
     let marked = String::from_utf8_lossy(alloc, marked)?;
     let behind = String::from_utf8_lossy(alloc, behind)?;
-    let (more_before, before) = cut_front(before.as_str());
-    let (marked, more_marked) = cut_back(marked.as_str(), MOST_SHOWN);
-    let (behind, more_behind) = cut_back(behind.as_str(), MOST_SHOWN.saturating_sub(marked.len()));
-    let mut lines = String::from_str(alloc, more_before)?;
-    push_shown(&mut lines, before)?;
-    push_shown(&mut lines, marked)?;
-    if more_marked.is_empty() {
-        push_shown(&mut lines, behind)?;
-        lines.push_str(more_behind)?;
-    } else {
-        lines.push_str(more_marked)?;
-    }
-    lines.push('\n')?;
-    push_marks(&mut lines, more_before, ' ')?;
-    push_marks(&mut lines, before, ' ')?;
-    push_carets(&mut lines, marked)?;
-    lines.push('\n')?;
-    Ok(lines)
+    let shown = Shown::new(before.as_str(), marked.as_str(), behind.as_str());
+    push_lines(note, shown)
 }

@@ -1,7 +1,7 @@
 //! Sentences on imports.
 
+use crate::note::Note;
 use crate::quoted::words_at;
-use std::alloc::Global;
 use wdl_value::{NoMemory, Span};
 
 /// The sentences that say the same of each import.
@@ -25,21 +25,24 @@ fn fixed(code: u16) -> &'static str {
     }
 }
 
-/// The sentence on a code of 201 to 207.
+/// Appends the sentence on a code of 201 to 207.
 pub fn import_sentence(
-    alloc: Global,
+    note: &mut Note,
     code: u16,
     bytes: &[u8],
     span: Span,
-) -> Result<String, NoMemory> {
+) -> Result<(), NoMemory> {
     let words = words_at(bytes, span);
     match code {
-        204 => Ok(format!(in alloc;
-            "struct `{words}` has other members than the struct of this name that is imported or \
-             declared before; give one another name, as by `alias {words} as Other` behind its \
-             import"
-        )?),
-        206 => Ok(format!(in alloc; "`{words}` is no struct of the imported document")?),
-        _ => Ok(String::from_str(alloc, fixed(code))?),
+        204 => note.push_all(&[
+            "struct `",
+            words,
+            "` has other members than the struct of this name that is imported or declared \
+             before; give one another name, as by `alias ",
+            words,
+            " as Other` behind its import",
+        ]),
+        206 => note.push_all(&["`", words, "` is no struct of the imported document"]),
+        _ => note.push(fixed(code)),
     }
 }

@@ -4,6 +4,7 @@
 
 mod call_sentence;
 mod check_sentence;
+mod document;
 mod entry;
 mod excerpt;
 mod function;
@@ -21,6 +22,6 @@ mod text_sentence;
 mod type_text;
 mod value_sentence;
 
+pub use document::document_note;
 pub use laws::columns_count_characters;
-pub use note::document_note;
 pub use position::{Position, position_of};

@@ -1,6 +1,6 @@
 //! Names in a sentence.
 
-use std::alloc::Global;
+use crate::note::Note;
 use wdl_value::NoMemory;
 
 /// The most names that a sentence lists.
@@ -17,27 +17,24 @@ fn between(next: usize, last: usize) -> &'static str {
     }
 }
 
-/// Names in backquotes with commas and an `and`; of more than twelve the first twelve.
-pub fn listed(alloc: Global, names: &[&str]) -> Result<String, NoMemory> {
-    let mut text = String::new(alloc);
+/// Appends names in backquotes with commas and an `and`; of more than twelve the first twelve.
+pub fn list(note: &mut Note, names: &[&str]) -> Result<(), NoMemory> {
     let last = names.len().saturating_sub(1);
     for (next, name) in names.iter().take(MOST_LISTED).enumerate() {
-        text.push_str(between(next, last))?;
-        text.push('`')?;
-        text.push_str(name)?;
-        text.push('`')?;
+        note.push(between(next, last))?;
+        note.push_quoted(name)?;
     }
     if MOST_LISTED < names.len() {
-        text.push_str(" and more")?;
+        note.push(" and more")?;
     }
-    Ok(text)
+    Ok(())
 }
 
-/// `it has` with these names, or `it has none`.
-pub fn it_has(alloc: Global, names: &[&str]) -> Result<String, NoMemory> {
+/// Appends `it has` with these names, or `it has none`.
+pub fn it_has(note: &mut Note, names: &[&str]) -> Result<(), NoMemory> {
     if names.is_empty() {
-        return Ok(String::from_str(alloc, "it has none")?);
+        return note.push("it has none");
     }
-    let names = listed(alloc, names)?;
-    Ok(format!(in alloc; "it has {}", names.as_str())?)
+    note.push("it has ")?;
+    list(note, names)
 }

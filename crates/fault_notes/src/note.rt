@@ -1,81 +1,55 @@
-//! The note of a fault in a document.
+//! A note as it is written: what stands in it already, and more behind it.
 
-ghost use Rattle.std.specs.Prelude.{◌≡◌, IfOk, string_bytes};
-ghost use Rattle.fault_notes.specs.Notes.{Begins, head_of};
-
-use crate::check_sentence::check_sentence;
-use crate::excerpt::excerpt;
-use crate::import_sentence::import_sentence;
-use crate::position::{Position, position_of};
-use crate::subset_sentence::subset_sentence;
-use crate::text_sentence::text_sentence;
-use report_text::code_text;
 use std::alloc::Global;
-use wdl_library::Library;
-use wdl_value::{NoMemory, Span};
+use std::fmt::Write;
+use wdl_value::NoMemory;
 
-/// The sentence on a code: what the fault is, and what was expected.
-fn sentence(
-    alloc: Global,
-    code: u16,
-    bytes: &[u8],
-    span: Span,
-    library: Option<&Library>,
-) -> Result<String, NoMemory> {
-    match code / 100 {
-        1 => text_sentence(alloc, code, bytes, span),
-        2 => import_sentence(alloc, code, bytes, span),
-        3 => check_sentence(alloc, code, bytes, span, library),
-        _ => Ok(String::from_str(alloc, subset_sentence(code))?),
+/// The sentence and the lines of a note, piece by piece.
+///
+/// Where a call ends with [`NoMemory`], the note may hold some of the pieces of that call.
+#[derive(Drop)]
+pub struct Note {
+    text: String,
+}
+
+impl Note {
+    /// A note without text.
+    pub fn new(alloc: Global) -> Note {
+        Note {
+            text: String::new(alloc),
+        }
     }
-}
 
-/// The place of a fault, and its code with the word.
-fn head(alloc: Global, path: &str, bytes: &[u8], code: u16, start: u32) -> Result<String, NoMemory>
-    ensures { IfOk result (λ t. string_bytes t ≡ head_of path.now bytes.now start code) }
-{
-    let Position { line, column } = position_of(bytes, start);
-    let rule = code_text(alloc, code)?;
-    let rule = rule.as_str();
-    Ok(format!(in alloc; "{path}:{line}:{column}: error {rule}: ")?)
-}
+    /// The text so far.
+    pub fn as_str(&self) -> &str {
+        self.text.as_str()
+    }
 
-/// The sentence, the line of the document and the carets.
-fn told(
-    alloc: Global,
-    bytes: &[u8],
-    code: u16,
-    span: Span,
-    library: Option<&Library>,
-) -> Result<String, NoMemory> {
-    let sentence = sentence(alloc, code, bytes, span, library)?;
-    let excerpt = excerpt(alloc, bytes, span)?;
-    Ok(format!(in alloc; "{}\n{}", sentence.as_str(), excerpt.as_str())?)
-}
+    /// Appends a text.
+    pub fn push(&mut self, text: &str) -> Result<(), NoMemory> {
+        Ok(self.text.push_str(text)?)
+    }
 
-/// The note of a fault in the document at a path, for a person: its place with the code and a
-/// sentence, the line of the document in which the span begins, and a line of carets under the
-/// span. Each of the three ends with a newline.
-///
-/// `code` is one of 101 to 330 or 601 to 613; `bytes` are those of the document, and `span` is the
-/// part of it in which the rule of the code is broken. For the codes from 301 on the sentence names
-/// what the library has: with no library it says less.
-///
-/// It begins with `PATH:LINE:COLUMN: error CODE WORD: `, where line and column are those of
-/// `position_of`. Nothing is promised of what follows.
-pub fn document_note(
-    alloc: Global,
-    path: &str,
-    bytes: &[u8],
-    code: u16,
-    span: Span,
-    library: Option<&Library>,
-) -> Result<String, NoMemory>
-    ensures place { IfOk result (λ note. Begins (head_of path.now bytes.now span.start code) (string_bytes note)) }
-{
-    let head = head(alloc, path, bytes, code, span.start)?;
-    let head = head.as_str();
-    let told = told(alloc, bytes, code, span, library)?;
-    let told = told.as_str();
-    Ok(format!(in alloc; "{head}{told}")?)
+    /// Appends a character.
+    pub fn push_char(&mut self, c: char) -> Result<(), NoMemory> {
+        Ok(self.text.push(c)?)
+    }
+
+    /// Appends a number in decimal.
+    pub fn push_number(&mut self, number: usize) -> Result<(), NoMemory> {
+        Ok(write!(self.text, "{number}")?)
+    }
+
+    /// Appends a text in backquotes.
+    pub fn push_quoted(&mut self, text: &str) -> Result<(), NoMemory> {
+        self.push_all(&["`", text, "`"])
+    }
+
+    /// Appends some texts, one behind the other.
+    pub fn push_all(&mut self, pieces: &[&str]) -> Result<(), NoMemory> {
+        for piece in pieces {
+            self.push(piece)?;
+        }
+        Ok(())
+    }
 }

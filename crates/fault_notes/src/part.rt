@@ -1,8 +1,7 @@
 //! The tasks and workflows of a library, as they are written.
 
-use std::alloc::Global;
 use wdl_ast::{
-    CallTarget, Declaration, Document, InputDeclaration, Section, TaskElement, TaskSection,
+    CallTarget, Declaration, Document, Ident, InputDeclaration, Section, TaskElement, TaskSection,
     Workflow, WorkflowElement,
 };
 use wdl_library::{Doc, Library};
@@ -25,11 +24,17 @@ fn part_of(section: &Section) -> Option<Part<'_>> {
 }
 
 impl<'a> Part<'a> {
-    pub fn name(self) -> &'a Name {
+    /// Its name, where it stands.
+    pub fn ident(self) -> &'a Ident {
         match self {
-            Part::Task(task) => &task.name.name,
-            Part::Workflow(workflow) => &workflow.name.name,
+            Part::Task(task) => &task.name,
+            Part::Workflow(workflow) => &workflow.name,
         }
+    }
+
+    /// Its name.
+    pub fn name(self) -> &'a Name {
+        &self.ident().name
     }
 
     /// Whether a byte stands in it.
@@ -77,22 +82,20 @@ impl<'a> Part<'a> {
         None
     }
 
-    /// The names of its inputs.
-    pub fn input_names(self, alloc: Global) -> Result<Vec<&'a str>, NoMemory> {
-        let mut names = Vec::new(alloc);
+    /// Appends the names of its inputs.
+    pub fn push_inputs(self, names: &mut Vec<&'a str>) -> Result<(), NoMemory> {
         for input in self.inputs() {
             names.push(input.name.name.as_str())?;
         }
-        Ok(names)
+        Ok(())
     }
 
-    /// The names of its outputs.
-    pub fn output_names(self, alloc: Global) -> Result<Vec<&'a str>, NoMemory> {
-        let mut names = Vec::new(alloc);
+    /// Appends the names of its outputs.
+    pub fn push_outputs(self, names: &mut Vec<&'a str>) -> Result<(), NoMemory> {
         for output in self.outputs() {
             names.push(output.name.name.as_str())?;
         }
-        Ok(names)
+        Ok(())
     }
 }
 
@@ -156,13 +159,12 @@ pub fn part_named<'a>(document: &'a Document, name: &str) -> Option<Part<'a>> {
     None
 }
 
-/// The names of the tasks of a document, and of its workflow where that can be called too.
-pub fn part_names<'a>(
-    alloc: Global,
+/// Appends the names of the tasks of a document, and of its workflow where that can be called too.
+pub fn push_parts<'a>(
+    names: &mut Vec<&'a str>,
     document: &'a Document,
     workflows: bool,
-) -> Result<Vec<&'a str>, NoMemory> {
-    let mut names = Vec::new(alloc);
+) -> Result<(), NoMemory> {
     for section in document.sections.as_slice() {
         match section {
             Section::Task(task) => names.push(task.name.name.as_str())?,
@@ -170,7 +172,7 @@ pub fn part_names<'a>(
             _ => {}
         }
     }
-    Ok(names)
+    Ok(())
 }
 
 /// The document that an import of this one names.

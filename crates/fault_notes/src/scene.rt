@@ -1,6 +1,7 @@
 //! A fault in a library, with what stands around it.
 
-use crate::entry::{Entry, entries_of};
+use crate::entry::{Entry, push_part};
+use crate::note::Note;
 use crate::part::{Part, callee, part_at};
 use crate::quoted::{text_before, words_at};
 use crate::type_text::type_text;
@@ -25,12 +26,19 @@ pub struct Scene<'a> {
     pub entries: Vec<Entry<'a>>,
 }
 
-/// A type outside the block in which its name is declared.
-fn gathered(alloc: Global, block: Entry, inside: String) -> Result<String, NoMemory> {
+/// A type as it is declared, and where its name stands.
+#[derive(Clone, Copy)]
+pub struct Declared<'a> {
+    tree: &'a TypeTree,
+    at: u32,
+}
+
+/// Appends what follows a type outside the block in which its name is declared.
+fn push_outside(note: &mut Note, block: Entry) -> Result<(), NoMemory> {
     match block {
-        Entry::Scatter(_) => Ok(format!(in alloc; "Array[{}]", inside.as_str())?),
-        _ if inside.as_str().ends_with('?') => Ok(inside),
-        _ => Ok(format!(in alloc; "{}?", inside.as_str())?),
+        Entry::Scatter(_) => note.push("]"),
+        _ if note.as_str().ends_with('?') => Ok(()),
+        _ => note.push("?"),
     }
 }
 
@@ -54,10 +62,10 @@ impl<'a> Scene<'a> {
         let Some(doc) = library.docs.as_slice().get(span.doc as usize) else {
             return Ok(None);
         };
-        let entries = match part_at(&doc.document, span.start) {
-            Some(part) => entries_of(alloc, part)?,
-            None => Vec::new(alloc),
-        };
+        let mut entries = Vec::new(alloc);
+        if let Some(part) = part_at(&doc.document, span.start) {
+            push_part(&mut entries, part)?;
+        }
         Ok(Some(Scene {
             library,
             doc,
@@ -69,12 +77,14 @@ impl<'a> Scene<'a> {
         }))
     }
 
-    /// The text at the fault in backquotes; of a long one its beginning.
-    pub fn quote(&self, alloc: Global) -> Result<String, NoMemory> {
+    /// Appends the text at the fault in backquotes; of a long one its beginning.
+    pub fn quote(&self, note: &mut Note) -> Result<(), NoMemory> {
         let shown = &self.words[..self.words.floor_char_boundary(MOST_QUOTED)];
         let long = self.span.end.saturating_sub(self.span.start) as usize;
         let more = if shown.len() < long { " .." } else { "" };
-        Ok(format!(in alloc; "`{shown}{more}`")?)
+        note.push_all(&["`", shown])?;
+        note.push(more)?;
+        note.push("`")
     }
 
     /// The first input, declaration, call, item or output of that name.
@@ -127,33 +137,43 @@ impl<'a> Scene<'a> {
         }
     }
 
-    /// A type where the fault is, which is declared at another place: each scatter between the two
-    /// makes an array of it, and each `if` makes it optional.
-    fn seen_from(&self, alloc: Global, declared: String, at: u32) -> Result<String, NoMemory> {
-        let mut seen = declared;
-        for block in self.entries.iter().rev() {
-            if parts_from(*block, at, self.span.start) {
-                seen = gathered(alloc, *block, seen)?;
+    /// Appends an opening for each scatter between a place and the fault.
+    fn push_openings(&self, note: &mut Note, at: u32) -> Result<(), NoMemory> {
+        for block in &self.entries {
+            if let Entry::Scatter(_) = block {
+                if parts_from(*block, at, self.span.start) {
+                    note.push("Array[")?;
+                }
             }
         }
-        Ok(seen)
+        Ok(())
     }
 
-    /// The type that a name or `call.output` has where the fault is. None where that does not
+    /// Appends a type as it is where the fault is: each scatter between that and the place where
+    /// it is declared makes an array of it, and each `if` makes it optional.
+    pub fn push_type(&self, note: &mut Note, declared: Declared) -> Result<(), NoMemory> {
+        let Declared { tree, at } = declared;
+        self.push_openings(note, at)?;
+        type_text(note, tree)?;
+        for block in self.entries.iter().rev() {
+            if parts_from(*block, at, self.span.start) {
+                push_outside(note, *block)?;
+            }
+        }
+        Ok(())
+    }
+
+    /// The declaration of the type of a name or of `call.output`. None where the type does not
     /// follow from a declaration.
-    pub fn type_of(&self, alloc: Global, name: &str) -> Result<Option<String>, NoMemory> {
+    pub fn declared(&self, name: &str) -> Option<Declared<'a>> {
         let (first, output) = match name.split_once('.') {
             Some((call, output)) => (call, Some(output)),
             None => (name, None),
         };
-        let Some(entry) = self.entry_named(first) else {
-            return Ok(None);
-        };
-        let (Some(tree), Some(ident)) = (self.declared_type(entry, output), entry.name()) else {
-            return Ok(None);
-        };
-        let declared = type_text(alloc, tree)?;
-        Ok(Some(self.seen_from(alloc, declared, ident.span.start)?))
+        let entry = self.entry_named(first)?;
+        let tree = self.declared_type(entry, output)?;
+        let at = entry.name()?.span.start;
+        Some(Declared { tree, at })
     }
 
     /// The struct of that name, as the document sees it.

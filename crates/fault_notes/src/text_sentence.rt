@@ -1,45 +1,60 @@
 //! Sentences on tokens and grammar.
 
+use crate::note::Note;
 use crate::quoted::{text_behind, words_at};
-use std::alloc::Global;
 use wdl_value::{NoMemory, Span, is_reserved};
 
 /// The most bytes of a document.
 const MOST_BYTES: u32 = 1_048_576;
 
-fn stray(alloc: Global, words: &str) -> Result<String, NoMemory> {
+fn stray(note: &mut Note, words: &str) -> Result<(), NoMemory> {
     match words.as_bytes() {
-        [] => Ok(String::from_str(alloc, "this character is not allowed here")?),
-        [first, ..] if first.is_ascii_digit() => Ok(format!(in alloc;
-            "`{words}` is no number: no digit, letter or `_` stands right behind a number, and a \
-             decimal number has no leading zero"
-        )?),
-        _ => Ok(format!(in alloc; "`{words}` is no part of the language")?),
+        [] => note.push("this character is not allowed here"),
+        [first, ..] if first.is_ascii_digit() => note.push_all(&[
+            "`",
+            words,
+            "` is no number: no digit, letter or `_` stands right behind a number, and a decimal \
+             number has no leading zero",
+        ]),
+        _ => note.push_all(&["`", words, "` is no part of the language"]),
     }
 }
 
-fn too_long(alloc: Global, words: &str, span: Span) -> Result<String, NoMemory> {
+fn too_long(note: &mut Note, words: &str, span: Span) -> Result<(), NoMemory> {
     if span.start == MOST_BYTES {
-        return Ok(String::from_str(
-            alloc,
-            "the document is too long: expected at most 1,048,576 bytes",
-        )?);
+        return note.push("the document is too long: expected at most 1,048,576 bytes");
     }
-    Ok(format!(in alloc; "the word `{words}..` is too long: expected at most 128 characters")?)
+    note.push_all(&[
+        "the word `",
+        words,
+        "..` is too long: expected at most 128 characters",
+    ])
 }
 
-fn unexpected(alloc: Global, words: &str, at_end: bool) -> Result<String, NoMemory> {
-    if at_end {
-        return Ok(format!(in alloc;
-            "`{words}` is not expected here, or the document ends too early behind it"
-        )?);
+fn unexpected(note: &mut Note, words: &str, at_end: bool) -> Result<(), NoMemory> {
+    note.push_quoted(words)?;
+    note.push(" is not expected here")?;
+    note.push(if at_end {
+        ", or the document ends too early behind it"
+    } else if is_reserved(words) {
+        "; it is a reserved word, which cannot be a name"
+    } else {
+        ""
+    })
+}
+
+/// What of WDL this language leaves out.
+fn left_out(note: &mut Note, words: &str, code: u16) -> Result<(), NoMemory> {
+    if code > 121 {
+        note.push("the function ")?;
     }
-    if is_reserved(words) {
-        return Ok(format!(in alloc;
-            "`{words}` is not expected here; it is a reserved word, which cannot be a name"
-        )?);
-    }
-    Ok(format!(in alloc; "`{words}` is not expected here")?)
+    note.push_quoted(words)?;
+    note.push(match code {
+        120 => ": Float is not supported; compute it in a command, and hand it on as a String",
+        121 => ": Object is not supported; declare a struct",
+        122 => " is not supported; use `sed` in a command",
+        _ => " is not supported; use one for lines, tables or maps, as `read_map`",
+    })
 }
 
 /// The sentences that say the same of each document.
@@ -58,32 +73,19 @@ fn fixed(code: u16) -> &'static str {
     }
 }
 
-/// The sentence on a code of 101 to 123.
-pub fn text_sentence(
-    alloc: Global,
-    code: u16,
-    bytes: &[u8],
-    span: Span,
-) -> Result<String, NoMemory> {
+/// Appends the sentence on a code of 101 to 123.
+pub fn text_sentence(note: &mut Note, code: u16, bytes: &[u8], span: Span) -> Result<(), NoMemory> {
     let words = words_at(bytes, span);
     match code {
-        102 => stray(alloc, words),
-        106 => Ok(format!(in alloc;
-            "the number `{words}` is too large: expected at most 9223372036854775807"
-        )?),
-        107 => too_long(alloc, words, span),
-        110 => unexpected(alloc, words, text_behind(bytes, span).is_empty()),
-        120 => Ok(format!(in alloc;
-            "`{words}`: Float is not supported; compute it in a command, and hand it on as a String"
-        )?),
-        121 => Ok(format!(in alloc; "`{words}`: Object is not supported; declare a struct")?),
-        122 => Ok(format!(in alloc;
-            "the function `{words}` is not supported; use `sed` in a command"
-        )?),
-        123 => Ok(format!(in alloc;
-            "the function `{words}` is not supported; use one for lines, tables or maps, as \
-             `read_map`"
-        )?),
-        _ => Ok(String::from_str(alloc, fixed(code))?),
+        102 => stray(note, words),
+        106 => note.push_all(&[
+            "the number `",
+            words,
+            "` is too large: expected at most 9223372036854775807",
+        ]),
+        107 => too_long(note, words, span),
+        110 => unexpected(note, words, text_behind(bytes, span).is_empty()),
+        120..=123 => left_out(note, words, code),
+        _ => note.push(fixed(code)),
     }
 }

@@ -2,28 +2,33 @@
 
 use crate::entry::Entry;
 use crate::function::usage_of;
-use crate::listed::listed;
+use crate::listed::list;
+use crate::note::Note;
 use crate::quoted::text_behind;
-use crate::scene::Scene;
+use crate::scene::{Declared, Scene};
 use crate::type_text::type_text;
 use std::alloc::Global;
 use wdl_ast::{Argument, Call, Declaration, Ident, InputDeclaration, TypeTree};
 use wdl_value::{NoMemory, Span, StructDef, is_identifier};
 
 /// What stands at a fault: its text, and its type where a declaration says it.
-pub fn found(alloc: Global, scene: &Scene) -> Result<String, NoMemory> {
-    let quote = scene.quote(alloc)?;
-    let quote = quote.as_str();
-    match scene.type_of(alloc, scene.words)? {
-        Some(ty) => Ok(format!(in alloc; "found {quote} of type `{}`", ty.as_str())?),
-        None => Ok(format!(in alloc; "found {quote}")?),
+fn found(note: &mut Note, scene: &Scene) -> Result<(), NoMemory> {
+    note.push("found ")?;
+    scene.quote(note)?;
+    match scene.declared(scene.words) {
+        Some(declared) => {
+            note.push(" of type `")?;
+            scene.push_type(note, declared)?;
+            note.push("`")
+        }
+        None => Ok(()),
     }
 }
 
 /// What was wanted at a fault, and what was found there.
-pub fn expected(alloc: Global, scene: &Scene, wanted: &str) -> Result<String, NoMemory> {
-    let found = found(alloc, scene)?;
-    Ok(format!(in alloc; "expected {wanted}, {}", found.as_str())?)
+pub fn expected(note: &mut Note, scene: &Scene, wanted: &str) -> Result<(), NoMemory> {
+    note.push_all(&["expected ", wanted, ", "])?;
+    found(note, scene)
 }
 
 /// What a value is for: a name, and its type.
@@ -92,42 +97,51 @@ fn wanted_by<'a>(scene: &Scene<'a>, entry: Entry<'a>) -> Option<Wanted<'a>> {
     }
 }
 
-/// 303.
-pub fn no_coercion(alloc: Global, scene: &Scene) -> Result<String, NoMemory> {
-    let found = found(alloc, scene)?;
-    let found = found.as_str();
+/// What the value at a fault is for.
+fn wanted_at<'a>(scene: &Scene<'a>) -> Option<Wanted<'a>> {
     for entry in &scene.entries {
-        if let Some(Wanted { name, ty }) = wanted_by(scene, *entry) {
-            let name = name.name.as_str();
-            let ty = type_text(alloc, ty)?;
-            return Ok(format!(in alloc; "`{name}`: expected `{}`, {found}", ty.as_str())?);
+        if let Some(wanted) = wanted_by(scene, *entry) {
+            return Some(wanted);
         }
     }
-    Ok(format!(in alloc; "this value has not the type that is wanted here: {found}")?)
+    None
+}
+
+/// Appends the name and the type that a value is for.
+fn push_wanted(note: &mut Note, wanted: Wanted) -> Result<(), NoMemory> {
+    note.push_all(&["`", wanted.name.name.as_str(), "`: expected `"])?;
+    type_text(note, wanted.ty)?;
+    note.push("`, ")
+}
+
+/// 303.
+pub fn no_coercion(note: &mut Note, scene: &Scene) -> Result<(), NoMemory> {
+    match wanted_at(scene) {
+        Some(wanted) => push_wanted(note, wanted)?,
+        None => note.push("this value has not the type that is wanted here: ")?,
+    }
+    found(note, scene)
 }
 
 /// 304.
-pub fn bad_operands(alloc: Global, scene: &Scene) -> Result<String, NoMemory> {
+pub fn bad_operands(note: &mut Note, scene: &Scene) -> Result<(), NoMemory> {
     if scene.before.ends_with("if") {
-        return expected(alloc, scene, "a Boolean behind `if`");
+        return expected(note, scene, "a Boolean behind `if`");
     }
-    let quote = scene.quote(alloc)?;
-    Ok(format!(in alloc;
-        "{}: the operator does not take values of these types",
-        quote.as_str()
-    )?)
+    scene.quote(note)?;
+    note.push(": the operator does not take values of these types")
 }
 
 /// 305.
-pub fn bad_arguments(alloc: Global, scene: &Scene) -> Result<String, NoMemory> {
-    let quote = scene.quote(alloc)?;
-    let quote = quote.as_str();
+pub fn bad_arguments(note: &mut Note, scene: &Scene) -> Result<(), NoMemory> {
+    scene.quote(note)?;
     let (name, _) = scene.words.split_once('(').unwrap_or((scene.words, ""));
     let usage = usage_of(name.trim());
     if usage.is_empty() {
-        return Ok(format!(in alloc; "{quote}: the function does not take these arguments")?);
+        return note.push(": the function does not take these arguments");
     }
-    Ok(format!(in alloc; "{quote}: expected `{usage}`")?)
+    note.push(": expected ")?;
+    note.push_quoted(usage)
 }
 
 /// Whether a character belongs to a name or to `call.output`.
@@ -145,57 +159,74 @@ fn owner_of<'a>(scene: &Scene<'a>) -> &'a str {
     owner.strip_prefix(others).unwrap_or("")
 }
 
-/// The members of a struct in a sentence.
-fn members_of(alloc: Global, def: &StructDef) -> Result<String, NoMemory> {
+/// Appends the members of a struct.
+fn members(alloc: Global, note: &mut Note, def: &StructDef) -> Result<(), NoMemory> {
     let mut names = Vec::new(alloc);
     for member in def.members.as_slice() {
         names.push(member.name.as_str())?;
     }
-    listed(alloc, names.as_slice())
+    list(note, names.as_slice())
 }
 
 /// A member that a value of that type does not have.
-fn no_member_of(alloc: Global, scene: &Scene, ty: &str) -> Result<String, NoMemory> {
+fn no_member_of(alloc: Global, note: &mut Note, scene: &Scene, ty: &str) -> Result<(), NoMemory> {
     let words = scene.words;
     if let Some(def) = scene.struct_named(ty) {
-        let members = members_of(alloc, def)?;
-        return Ok(format!(in alloc;
-            "`{words}` is no member of struct `{ty}`; it has {}",
-            members.as_str()
-        )?);
+        note.push_all(&["`", words, "` is no member of struct `", ty, "`; it has "])?;
+        return members(alloc, note, def);
     }
     if ty.starts_with("Pair[") {
-        return Ok(format!(in alloc;
-            "`{words}` is no member of a pair; it has `left` and `right`"
-        )?);
+        return note.push_all(&[
+            "`",
+            words,
+            "` is no member of a pair; it has `left` and `right`",
+        ]);
     }
-    Ok(format!(in alloc; "`{words}`: a value of type `{ty}` has no members")?)
+    note.push_all(&["`", words, "`: a value of type `", ty, "` has no members"])
+}
+
+/// A member that a value of a declared type does not have.
+fn no_member_of_declared(
+    alloc: Global,
+    note: &mut Note,
+    scene: &Scene,
+    declared: Declared,
+) -> Result<(), NoMemory> {
+    let mut ty = Note::new(alloc);
+    scene.push_type(&mut ty, declared)?;
+    no_member_of(alloc, note, scene, ty.as_str())
 }
 
 /// 306.
-pub fn no_member(alloc: Global, scene: &Scene) -> Result<String, NoMemory> {
-    if let Some(ty) = scene.type_of(alloc, owner_of(scene))? {
-        return no_member_of(alloc, scene, ty.as_str());
+pub fn no_member(alloc: Global, note: &mut Note, scene: &Scene) -> Result<(), NoMemory> {
+    if let Some(declared) = scene.declared(owner_of(scene)) {
+        return no_member_of_declared(alloc, note, scene, declared);
     }
-    let words = scene.words;
-    Ok(format!(in alloc;
-        "`{words}` is no member of this value: a pair has `left` and `right`, and a struct its own"
-    )?)
+    note.push_all(&[
+        "`",
+        scene.words,
+        "` is no member of this value: a pair has `left` and `right`, and a struct its own",
+    ])
 }
 
 /// A struct literal with a member too few, a foreign one or one twice.
-fn bad_literal(alloc: Global, scene: &Scene) -> Result<String, NoMemory> {
+fn bad_literal(alloc: Global, note: &mut Note, scene: &Scene) -> Result<(), NoMemory> {
     let words = scene.words;
     if let Some(def) = scene.struct_named(words) {
         if text_behind(scene.bytes, scene.span).starts_with('{') {
-            let members = members_of(alloc, def)?;
-            return Ok(format!(in alloc;
-                "this `{words}` lacks a member that it requires; it has {}",
-                members.as_str()
-            )?);
+            note.push_all(&[
+                "this `",
+                words,
+                "` lacks a member that it requires; it has ",
+            ])?;
+            return members(alloc, note, def);
         }
     }
-    Ok(format!(in alloc; "`{words}` is no member of the struct, or is given twice")?)
+    note.push_all(&[
+        "`",
+        words,
+        "` is no member of the struct, or is given twice",
+    ])
 }
 
 /// What has no common type in a literal or a choice; none where a struct literal is at fault.
@@ -212,10 +243,11 @@ fn without_type(words: &str) -> Option<&'static str> {
 }
 
 /// 310.
-pub fn members_differ(alloc: Global, scene: &Scene) -> Result<String, NoMemory> {
+pub fn members_differ(alloc: Global, note: &mut Note, scene: &Scene) -> Result<(), NoMemory> {
     let Some(what) = without_type(scene.words) else {
-        return bad_literal(alloc, scene);
+        return bad_literal(alloc, note, scene);
     };
-    let quote = scene.quote(alloc)?;
-    Ok(format!(in alloc; "{what} have no common type: {}", quote.as_str())?)
+    note.push(what)?;
+    note.push(" have no common type: ")?;
+    scene.quote(note)
 }

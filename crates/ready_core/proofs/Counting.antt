@@ -1,10 +1,15 @@
 -- How many elements of a list pass a test.
-use Rattle.std.proofs.Common.{suc, ◌≡◌, ◌<◌, ◌+◌, ℕ, Bool, true, false, cond, List, [], ◌∷◌, ◌++◌, Contains, length, take, drop, remove, count_by, slice_index_or, arith, sym, ap, ◌∙◌, refl, ◌⊎◌, inl, inr}
+use Rattle.std.proofs.Common.{zero, suc, ◌≡◌, ◌<◌, ◌≤◌, ◌+◌, ℕ, Bool, true, false, cond, ◌&&◌, not, map, reverse, List, [], ◌∷◌, ◌++◌, Contains, length, take, drop, remove, count_by, slice_index_or, arith, sym, ap, ◌∙◌, refl, ◌⊎◌, inl, inr}
 use Rattle.std.specs.List.{list_all, list_any}
-use Rattle.std.proofs.lemmas.Bool.{or_parts, and_parts}
+use Rattle.std.proofs.lemmas.Bool.{false≢true, and_from, or_cases, or_parts, and_parts}
 use Rattle.std.proofs.lemmas.List.{set-get_or, set_split}
+use Rattle.std.proofs.lemmas.List.Sorted.{IsPermutation-reverse, sum_by-IsPermutation}
 use Rattle.std.proofs.lemmas.List.Sums.{sum_by-append, sum_by-cons, sum_by_push}
 use Rattle.flow_laws.proofs.Elements.{contains_first, contains_later, first_or_later, none_within}
+
+pub zero_if : (n : ℕ) → (0 < n → ⊥) → n ≡ 0
+zero_if zero h = refl
+zero_if (suc n) h = absurd (h (omega arith))
 
 module _ {A : Type 0} (p : A → Bool) where
   abbrev one : A → ℕ
@@ -55,3 +60,52 @@ module _ {A : Type 0} (p : A → Bool) where
       by_case : p y ≡ true → (Contains xs x → p x ≡ true) → (y ≡ x) ⊎ Contains xs x → p x ≡ true
       by_case here rest (inl same) = ap p (sym same) ∙ here
       by_case here rest (inr d) = rest d
+
+  -- where some pass, one does
+  pub any_counts : (xs : List A) → 0 < count_by p xs → list_any p xs ≡ true
+  any_counts xs some = by_test (list_any p xs) refl
+    where
+      by_test : (b : Bool) → list_any p xs ≡ b → b ≡ true
+      by_test true e = refl
+      by_test false e = absurd (omega (arith, some, none_counts xs e))
+
+  pub counts_any : (xs : List A) → list_any p xs ≡ true → 0 < count_by p xs
+  counts_any [] h = absurd (false≢true h)
+  counts_any (x ∷ xs) h = by_case (counts_any xs) (or_cases (p x) (list_any p xs) h)
+    where
+      by_case : (list_any p xs ≡ true → 0 < count_by p xs) → (p x ≡ true) ⊎ (list_any p xs ≡ true) → 0 < count_by p (x ∷ xs)
+      by_case rest (inl e) = omega (arith, count_cons x xs, ap (λ b. cond {A = ℕ} b 1 0) e)
+      by_case rest (inr e) = omega (arith, count_cons x xs, rest e)
+
+  pub all_pass : (xs : List A) → ((x : A) → Contains xs x → p x ≡ true) → list_all p xs ≡ true
+  all_pass [] h = refl
+  all_pass (x ∷ xs) h = and_from (p x) (list_all p xs) (h x (contains_first x xs)) (all_pass xs (λ y c. h y (contains_later x xs y c)))
+
+  pub count_joined : (xs ys : List A) → count_by p (xs ++ ys) ≡ count_by p xs + count_by p ys
+  count_joined = sum_by-append one
+
+  pub count_turned : (xs : List A) → count_by p (reverse xs) ≡ count_by p xs
+  count_turned xs = sum_by-IsPermutation one xs (reverse xs) (IsPermutation-reverse xs)
+
+-- Those that pass and those that do not are all.
+module _ {A : Type 0} (p q : A → Bool) where
+  split_one : (a b : Bool) → cond {A = ℕ} (a && b) 1 0 + cond {A = ℕ} (a && not b) 1 0 ≡ cond a 1 0
+  split_one true true = refl
+  split_one true false = refl
+  split_one false b = refl
+
+  pub count_split : (xs : List A) → count_by (λ x. p x && q x) xs + count_by (λ x. p x && not (q x)) xs ≡ count_by p xs
+  count_split [] = refl
+  count_split (x ∷ xs) =
+      omega (arith, count_cons (λ y. p y && q y) x xs, count_cons (λ y. p y && not (q y)) x xs, count_cons p x xs, split_one (p x) (q x), count_split xs)
+
+  pub count_both : (xs : List A) → count_by (λ x. p x && q x) xs ≤ count_by p xs
+  count_both xs = omega (arith, count_split xs)
+
+pub count_mapped : {A B : Type 0} (f : A → B) (p : B → Bool) (xs : List A) → count_by p (map f xs) ≡ count_by (λ x. p (f x)) xs
+count_mapped f p [] = refl
+count_mapped f p (x ∷ xs) = omega (arith, count_cons p (f x) (map f xs), count_cons (λ y. p (f y)) x xs, count_mapped f p xs)
+
+pub count_same : {A : Type 0} (p q : A → Bool) → ((x : A) → p x ≡ q x) → (xs : List A) → count_by p xs ≡ count_by q xs
+count_same p q h [] = refl
+count_same p q h (x ∷ xs) = omega (arith, count_cons p x xs, count_cons q x xs, ap (λ b. cond {A = ℕ} b 1 0) (h x), count_same p q h xs)

@@ -1,8 +1,11 @@
-mod Counting
-mod Counted
-mod Leftover
-mod Marking
-mod Runs
-mod Standing
-mod Turning
-mod Running
+pub mod Counted
+pub mod Counting
+pub mod Coursing
+pub mod Faults
+pub mod Paired
+pub mod Planned
+pub mod Running
+pub mod Runs
+pub mod Shared
+pub mod Standing
+pub mod Turning

@@ -1,5 +1,5 @@
 -- The fields of a core, from one call to the next.
-use Rattle.std.proofs.Common.{zero, suc, false, ◌⊎◌, None, IfSome, IfNone, ◌≡◌, ℕ, ◌+◌, ◌<◌, ◌≤◌, true, List, [], ◌∷◌, ◌++◌, Contains, Option, Some, IsSome, is_some, length, length-append, remove, slice_get, slice_index_or, vec_capacity, vec_len, arith, sym, ap, ◌∙◌, subst, refl}
+use Rattle.std.proofs.Common.{zero, suc, false, ◌⊎◌, cond, not, ◌&&◌, ◌||◌, None, IfSome, IfNone, ◌≡◌, ℕ, Bool, ◌+◌, ◌<◌, ◌≤◌, true, List, [], ◌∷◌, ◌++◌, Contains, Option, Some, IsSome, is_some, length, length-append, remove, slice_index_or, vec_capacity, vec_len, arith, sym, ap, ◌∙◌, subst, refl}
 use Rattle.std.proofs.lemmas.Bool.{false≢true}
 use Rattle.std.proofs.lemmas.List.Elements.{All-contains}
 use Rattle.wdl_base.specs.declared.entry.Entry.{Entry}
@@ -8,24 +8,27 @@ use Rattle.wdl_base.specs.declared.request.Request.{Request}
 use Rattle.wdl_base.specs.declared.step.Step.{Step}
 use Rattle.wdl_base.specs.declared.step.Step.TheVariants as step
 use Rattle.wdl_base.specs.Same.{same_request}
-use Rattle.wdl_typed.specs.declared.flow.FlowDef.{FlowDef}
 use Rattle.wdl_typed.specs.Flow.{Flowing, too_many}
-use Rattle.wdl_typed.specs.Journal.{inputs_fit}
 use Rattle.flow_laws.proofs.SameRequests.{request_itself, request_same}
+use Rattle.ready_core.specs.declared.course.Course.{Course}
+use Rattle.ready_core.specs.declared.course.Course.TheVariants.{Planned, Past}
 use Rattle.ready_core.specs.declared.log.Log.{Log}
-use Rattle.ready_core.specs.declared.turn.Over.{Over}
 use Rattle.ready_core.specs.declared.turn.Turn.{Turn}
 use Rattle.ready_core.specs.Cores as core
-use Rattle.ready_core.specs.Cores.{CoreState, Origin, flow_at, idle_at, met_after, requests, started}
-use Rattle.ready_core.specs.Inside.{IsRun, Stands, origin_of, state}
-use Rattle.ready_core.specs.Logs.{HasRoom, IsEmpty, IsLarger, IsPlaceOf, IsWider, Settles, Takes}
+use Rattle.ready_core.specs.Cores.{CoreState, Origin, all_taken, flow_at, has_fault, idle_at, is_taken, met_after, requests}
+use Rattle.ready_core.specs.Courses.{IsAwaited, IsOnCourse, kept, origin_of}
+use Rattle.ready_core.specs.Inside.{HasRoomFor, IsRun, Stands, state}
+use Rattle.ready_core.specs.Logs.{HasRoom, IsEmpty, IsPlaceOf, IsWider, Settles, Takes}
 use Rattle.ready_core.specs.Rows.{TakenJob}
 use Rattle.ready_core.specs.Turns as turns
-use Rattle.ready_core.specs.Turns.{IsFreshTurn, IsTurn, earlier}
+use Rattle.ready_core.specs.Turns.{AreShared, IsFirst, IsFollowed, IsNext, IsRoomier, IsSight, IsTurn, earlier, gathered, is_closed}
 use Rattle.ready_core.proofs.Counted.{requested}
+use Rattle.ready_core.proofs.Counting.{passes_at}
+use Rattle.ready_core.proofs.Paired.{paired_request}
 use Rattle.ready_core.proofs.Runs.{differ, grow}
+use Rattle.ready_core.proofs.Shared.{all_were_taken, may_take, shared_settled, shared_taken}
 use Rattle.ready_core.proofs.Standing.{IsOut, out_fresh, out_held, out_job, settled_stands, started_stands, taken_stands, was_out, without}
-use Rattle.ready_core.proofs.Turning.{Taking, fault_later, fault_met, none_ready, taking}
+use Rattle.ready_core.proofs.Turning.{fault_later, fault_met, few_before, no_fault_before, open_parts}
 
 -- ---- room
 
@@ -37,97 +40,194 @@ room_taken m n a b j h e t =
       steps = omega (arith, h.steps, e, t.steps_len, t.steps_room);
     }
 
-room_settled : (n : ℕ) (at : ℕ) (a b : Log) → HasRoom n (n + 1) a → Settles a at b → HasRoom n n b
-room_settled n at a b h s =
+room_settled : (m n : ℕ) (at : ℕ) (e : Entry) (a b : Log) → HasRoom m (m + 1) a → n ≤ m → Settles a at e b → HasRoom n n b
+room_settled m n at e a b h less s =
     record {
-      taken = subst (λ (v : _). vec_len v + n ≤ vec_capacity v) (sym s.taken) h.taken;
-      out = omega (arith, h.out, s.out_len, s.out_room);
-      steps = omega (arith, h.steps, s.steps_len, s.steps_room);
+      taken = subst (λ (v : _). vec_len v + n ≤ vec_capacity v) (sym s.taken) (omega (arith, h.taken, less));
+      out = omega (arith, h.out, less, s.out_len, s.out_room);
+      steps = omega (arith, h.steps, less, s.steps_len, s.steps_room);
     }
+
+room_wider : (n : ℕ) (a b : Log) → HasRoom n n a → IsWider a b → HasRoom n n b
+room_wider n a b h w =
+    record {
+      taken = omega (arith, h.taken, w.taken_len, w.taken_room);
+      out = omega (arith, h.out, w.out_len, w.out_room);
+      steps = omega (arith, h.steps, w.steps_len, w.steps_room);
+    }
+
+pub room_first : (n m k : ℕ) (log : Log) → HasRoom (m + k) (m + k + 1) log → m ≡ n → HasRoom n n log
+room_first n m k log h e = record { taken = omega (arith, h.taken, e); out = omega (arith, h.out, e); steps = omega (arith, h.steps, e) }
 
 -- ---- states
 
 abbrev stated : Origin → List Entry → List TakenJob → List TakenJob → List Step → CoreState
 stated o j taken out steps = record { origin = o; journal = j; taken = taken; out = out; steps = steps }
 
-same_state : (o : Origin) {j k : List Entry} {t u out more : List TakenJob} {s r : List Step} → j ≡ k → t ≡ u → out ≡ more → s ≡ r → stated o j t out s ≡ stated o k u more r
-same_state o {j} {k} {t} {u} {out} {more} {s} {r} a b c d =
-    ap (λ x. stated o x t out s) a ∙ ap (λ x. stated o k x out s) b ∙ ap (λ x. stated o k u x s) c ∙ ap (stated o k u more) d
+same_state : {o p : Origin} {j k : List Entry} {t u out more : List TakenJob} {s r : List Step} → o ≡ p → j ≡ k → t ≡ u → out ≡ more → s ≡ r → stated o j t out s ≡ stated p k u more r
+same_state {o} {p} {j} {k} {t} {u} {out} {more} {s} {r} z a b c d =
+    ap (λ x. stated x j t out s) z ∙ ap (λ x. stated p x t out s) a ∙ ap (λ x. stated p k x out s) b ∙ ap (λ x. stated p k u x s) c ∙ ap (stated p k u more) d
+
+-- The fields have another course, a wider log and a roomier turn.
+pub state_kept : (s then_ : Course) (log wide : Log) → origin_of then_ ≡ origin_of s → IsWider log wide → state then_ wide ≡ state s log
+state_kept s then_ log wide same w = same_state same w.journal w.taken w.out w.steps
+
+module _ (s then_ : Course) (log wide : Log) (t roomy : Turn) (same : origin_of then_ ≡ origin_of s) (w : IsWider log wide) (r : IsRoomier t roomy) where
+  module _ (run : IsRun s log t) (on : IsOnCourse then_ t.many log.journal.items) where
+    turn_kept : IsTurn (origin_of s).checked (flow_at (origin_of s) log.journal.items) log.journal.items log.out.items roomy
+    turn_kept =
+        let i = run.turn in
+        record {
+          even = i.even;
+          closed = λ h. r.ready ∙ i.closed h;
+          shared = λ h. subst (AreShared (flow_at (origin_of s) log.journal.items) log.journal.items log.out.items) (sym r.ready) (i.shared h);
+          fault = subst (turns.IsFaultOf (flow_at (origin_of s) log.journal.items)) (sym r.fault) i.fault;
+          many = r.many ∙ i.many;
+          outcome = r.outcome ∙ i.outcome;
+        }
+
+    -- what a run keeps, as a property of what it is of and of its lists
+    abbrev Keeps : Origin → List Entry → List TakenJob → List TakenJob → Type 0
+    Keeps o j taken out =
+        IsSome o.checked.main × Stands o j taken out × IsTurn o.checked (flow_at o j) j out roomy × (is_some roomy.fault ≡ met_after (flow_at o) [] j) × IsOnCourse then_ roomy.many j
+
+    keeps : Keeps (origin_of s) log.journal.items log.taken.items log.out.items
+    keeps = (run.main, run.stands, turn_kept, ap is_some r.fault ∙ run.met, subst (λ b. IsOnCourse then_ b log.journal.items) (sym r.many) on)
+
+    moved : Keeps (origin_of then_) wide.journal.items wide.taken.items wide.out.items
+    moved =
+        subst (λ o. Keeps o wide.journal.items wide.taken.items wide.out.items) (sym same)
+        (subst (λ j. Keeps (origin_of s) j wide.taken.items wide.out.items) (sym w.journal)
+        (subst (λ x. Keeps (origin_of s) log.journal.items x wide.out.items) (sym w.taken)
+        (subst (Keeps (origin_of s) log.journal.items log.taken.items) (sym w.out) keeps)))
+
+    pub run_kept : IsRun then_ wide roomy
+    run_kept =
+        record {
+          main = moved.0;
+          stands = moved.1;
+          turn = moved.2;
+          met = moved.3;
+          room = subst (λ n. HasRoom n n wide) (sym r.length) (room_wider (vec_len t.ready) log wide run.room w);
+          course = moved.4;
+        }
 
 -- ---- the beginning
 
-pub run_started : (o : Over) (none log : Log) (t : Turn) → IsSome o.checked.main
-    → ((k : ℕ) (main : FlowDef) → o.checked.main ≡ Some k → slice_get o.checked.flows k ≡ Some main → inputs_fit o.checked.structs main.inputs o.inputs ≡ true)
-    → IsEmpty none → IsLarger none log → IsFreshTurn o.checked (flow_at (origin_of o) none.journal.items) none.taken.items t → HasRoom (vec_len t.ready) (vec_len t.ready + 1) log → IsRun o log t
-run_started o none log t main fit empty larger fresh room =
-    let journal : log.journal.items ≡ [] = ap (λ (v : _). v.items) larger.journal ∙ empty.journal in
-    let taken : log.taken.items ≡ [] = larger.wider.taken ∙ empty.taken in
-    let out : log.out.items ≡ [] = larger.wider.out ∙ empty.out in
+-- what the flow comes to, as a turn
+turn_of : (o : Origin) (j : List Entry) (out : List TakenJob) (t : Turn) → IsSight o.checked (flow_at o j) t → (is_closed (flow_at o j) ≡ false → AreShared (flow_at o j) j out t.ready.items) → IsTurn o.checked (flow_at o j) j out t
+turn_of o j out t s h = record { even = s.even; closed = s.closed; shared = h; fault = s.fault; many = s.many; outcome = s.outcome }
+
+pub run_started : (s : Course) (none log : Log) (t : Turn) → IsSome (origin_of s).checked.main → IsOnCourse s t.many [] → IsFirst (origin_of s) t → IsEmpty none → IsWider none log
+    → HasRoom (vec_len t.ready) (vec_len t.ready) log → IsRun s log t
+run_started s none log t main on first empty wider room =
+    let o = origin_of s in
+    let journal : log.journal.items ≡ [] = wider.journal ∙ empty.journal in
+    let taken : log.taken.items ≡ [] = wider.taken ∙ empty.taken in
+    let out : log.out.items ≡ [] = wider.out ∙ empty.out in
     record {
       main = main;
-      fit = fit;
       stands =
-          subst (λ (x : List Entry). Stands (origin_of o) x log.taken.items log.out.items) (sym journal)
-          (subst (λ (x : List TakenJob). Stands (origin_of o) [] x log.out.items) (sym taken) (subst (Stands (origin_of o) [] []) (sym out) (started_stands (origin_of o))));
+          subst (λ (x : List Entry). Stands o x log.taken.items log.out.items) (sym journal)
+          (subst (λ (x : List TakenJob). Stands o [] x log.out.items) (sym taken) (subst (Stands o [] []) (sym out) (started_stands o)));
       turn =
-          subst (λ (x : List Entry). IsTurn o.checked (flow_at (origin_of o) x) log.taken.items t) (empty.journal ∙ sym journal)
-          (subst (λ (x : List TakenJob). IsTurn o.checked (flow_at (origin_of o) none.journal.items) x t) (empty.taken ∙ sym taken) fresh.turn);
-      met =
-          subst (λ (x : List Entry). is_some t.fault ≡ met_after (flow_at (origin_of o)) [] x) (sym journal)
-          (fresh.shows ∙ ap (λ (x : List Entry). core.shows_fault (flow_at (origin_of o) x)) empty.journal);
-      room = record { taken = room.taken; out = room.out; steps = omega (arith, room.steps) };
+          subst (λ (x : List Entry). IsTurn o.checked (flow_at o x) x log.out.items t) (sym journal)
+          (subst (λ (x : List TakenJob). IsTurn o.checked (flow_at o []) [] x t) (sym out) (turn_of o [] [] t first.sight first.ready));
+      met = subst (λ (x : List Entry). is_some t.fault ≡ met_after (flow_at o) [] x) (sym journal) first.sight.shows;
+      room = room;
+      course = subst (IsOnCourse s t.many) (sym journal) on;
     }
+
+pub state_started : (s : Course) (none log : Log) (o : Origin) → origin_of s ≡ o → IsEmpty none → IsWider none log → state s log ≡ core.started o
+state_started s none log o is empty wider =
+    same_state is (wider.journal ∙ empty.journal) (wider.taken ∙ empty.taken) (wider.out ∙ empty.out) (wider.steps ∙ empty.steps)
 
 -- ---- taking a job
 
-pub run_idle : (o : Over) (log : Log) (t : Turn) → IsRun o log t → t.ready.items ≡ [] → idle_at (state o log) ≡ true
-run_idle o log t r none = none_ready (flow_at (origin_of o) log.journal.items) log.taken.items t.ready.items r.turn.even r.turn.ready none
+idle_if : (f : Flowing) (taken : List TakenJob) → (is_closed f ≡ false → all_taken f taken ≡ true) → core.idle f taken ≡ true
+idle_if f taken h = by_test (has_fault f) (too_many f) h
+  where
+    by_test : (a b : Bool) → ((a || b) ≡ false → all_taken f taken ≡ true) → (a || (b || all_taken f taken)) ≡ true
+    by_test true b k = refl
+    by_test false true k = refl
+    by_test false false k = k refl
 
-module _ (o : Over) (log next : Log) (t after : Turn) (j : TakenJob) (r : IsRun o log t) (takes : Takes log j next) (ready : t.ready.items ≡ after.ready.items ++ j ∷ []) where
+pub run_idle : (s : Course) (log : Log) (t : Turn) → IsRun s log t → t.ready.items ≡ [] → idle_at (state s log) ≡ true
+run_idle s log t r none =
+    let f = flow_at (origin_of s) log.journal.items in
+    idle_if f log.taken.items
+    (λ h. all_were_taken f log.journal.items log.out.items log.taken.items (r.turn.even (open_parts f h).1)
+    (subst (AreShared f log.journal.items log.out.items) none (r.turn.shared h)) r.stands.balances)
+
+module _ (s : Course) (log next : Log) (t after : Turn) (j : TakenJob) (r : IsRun s log t) (takes : Takes log j next) (ready : t.ready.items ≡ after.ready.items ++ j ∷ []) where
+  abbrev o : Origin
+  o = origin_of s
+
   abbrev before : Flowing
-  before = flow_at (origin_of o) log.journal.items
+  before = flow_at o log.journal.items
 
-  abbrev take_of : Taking before log.taken.items j after.ready.items
-  take_of = taking before log.taken.items t.ready.items after.ready.items j r.turn.even (differ (origin_of o) r.main log.journal.items) r.turn.ready ready
+  some_ready : (xs : List TakenJob) → xs ++ j ∷ [] ≡ [] → ⊥
+  some_ready xs e = omega (arith, ap length e, length-append xs (j ∷ []))
 
-  kept : next.journal.items ≡ log.journal.items
-  kept = ap (λ (v : _). v.items) takes.journal
+  not_closed : is_closed before ≡ false
+  not_closed = by_test (is_closed before) refl
+    where
+      by_test : (b : Bool) → is_closed before ≡ b → b ≡ false
+      by_test true e = absurd (some_ready after.ready.items (sym ready ∙ r.turn.closed e))
+      by_test false e = refl
 
-  stands_next : Stands (origin_of o) next.journal.items next.taken.items next.out.items
+  shared : AreShared before log.journal.items log.out.items (after.ready.items ++ j ∷ [])
+  shared = subst (AreShared before log.journal.items log.out.items) ready (r.turn.shared not_closed)
+
+  may : core.MayTake before log.taken.items j
+  may = may_take before log.journal.items log.out.items log.taken.items after.ready.items j shared r.stands.balances (differ o r.main log.journal.items)
+
+  kept_journal : next.journal.items ≡ log.journal.items
+  kept_journal = ap (λ (v : _). v.items) takes.journal
+
+  stands_next : Stands o next.journal.items next.taken.items next.out.items
   stands_next =
-      subst (λ (x : List Entry). Stands (origin_of o) x next.taken.items next.out.items) (sym kept)
-      (subst (λ (x : List TakenJob). Stands (origin_of o) log.journal.items x next.out.items) (sym takes.taken)
-      (subst (Stands (origin_of o) log.journal.items (log.taken.items ++ j ∷ [])) (sym takes.out)
-      (taken_stands (origin_of o) log.journal.items log.taken.items log.out.items j r.stands take_of.few take_of.may)))
+      subst (λ (x : List Entry). Stands o x next.taken.items next.out.items) (sym kept_journal)
+      (subst (λ (x : List TakenJob). Stands o log.journal.items x next.out.items) (sym takes.taken)
+      (subst (Stands o log.journal.items (log.taken.items ++ j ∷ [])) (sym takes.out)
+      (taken_stands o log.journal.items log.taken.items log.out.items j r.stands (open_parts before not_closed).1 may)))
 
-  pub run_taken : after.fault ≡ t.fault → after.many ≡ t.many → after.outcome ≡ t.outcome → vec_len after.ready + 1 ≡ vec_len t.ready → IsRun o next after
+  pub run_taken : after.fault ≡ t.fault → after.many ≡ t.many → after.outcome ≡ t.outcome → vec_len after.ready + 1 ≡ vec_len t.ready → IsRun s next after
   run_taken fault many outcome len =
       record {
         main = r.main;
-        fit = r.fit;
         stands = stands_next;
         turn =
-            subst (λ (x : List Entry). IsTurn o.checked (flow_at (origin_of o) x) next.taken.items after) (sym kept)
-            (subst (λ (x : List TakenJob). IsTurn o.checked before x after) (sym takes.taken)
+            subst (λ (x : List Entry). IsTurn o.checked (flow_at o x) x next.out.items after) (sym kept_journal)
+            (subst (λ (x : List TakenJob). IsTurn o.checked before log.journal.items x after) (sym takes.out)
             (record {
-              ready = take_of.ready;
               even = r.turn.even;
-              fault = subst (λ (x : _). turns.IsFaultOf before x) (sym fault) r.turn.fault;
+              closed = λ h. absurd (false≢true (sym not_closed ∙ h));
+              shared = λ h. shared_taken before log.journal.items log.out.items log.taken.items after.ready.items j shared;
+              fault = subst (turns.IsFaultOf before) (sym fault) r.turn.fault;
               many = many ∙ r.turn.many;
               outcome = outcome ∙ r.turn.outcome;
             }));
-        met = ap is_some fault ∙ r.met ∙ ap (met_after (flow_at (origin_of o)) []) (sym kept);
+        met = ap is_some fault ∙ r.met ∙ ap (met_after (flow_at o) []) (sym kept_journal);
         room = room_taken (vec_len t.ready) (vec_len after.ready) log next j r.room len takes;
+        course = subst (λ b. IsOnCourse s b next.journal.items) (sym many) (subst (IsOnCourse s t.many) (sym kept_journal) r.course);
       }
 
-  pub state_taken : core.Takes (state o log) j (state o next)
+  busy : idle_at (state s log) ≡ false
+  busy = by_test (has_fault before) (too_many before) (open_parts before not_closed) (all_taken before log.taken.items) refl
+    where
+      by_test : (a b : Bool) → (a ≡ false) × (b ≡ false) → (c : Bool) → all_taken before log.taken.items ≡ c → (a || (b || c)) ≡ false
+      by_test a b p true e = absurd (false≢true (sym may.1 ∙ passes_at (is_taken log.taken.items) before.jobs e j.request (paired_request before.jobs before.codes j may.0)))
+      by_test a b p false e = ap (λ x. x || (b || false)) p.0 ∙ ap (λ x. x || false) p.1
+
+  pub state_taken : core.Takes (state s log) j (state s next)
   state_taken =
       record {
-        busy = take_of.busy;
-        may = take_of.may;
+        busy = busy;
+        may = may;
         few = stands_next.few;
         origin = refl;
-        after = same_state (origin_of o) kept takes.taken takes.out takes.steps;
+        after = same_state refl kept_journal takes.taken takes.out takes.steps;
       }
 
 -- ---- what is out
@@ -163,9 +263,19 @@ none_out out r none c =
 pub place_held : (out : List TakenJob) (at : ℕ) (r : Request) → IsPlaceOf out r (Some at) → Contains (requests out) r
 place_held out at r place = out_held out at r (some_out out at r place)
 
-pub place_job : (o : Over) (log : Log) (t : Turn) (at : ℕ) (r : Request) → IsRun o log t → IsPlaceOf log.out.items r (Some at) → Contains (flow_at (origin_of o) log.journal.items).jobs r
-place_job o log t at r run place =
-    out_job (flow_at (origin_of o) log.journal.items) log.out.items log.journal.items log.taken.items at r run.stands.jobs run.stands.balances (some_out log.out.items at r place)
+pub place_job : (s : Course) (log : Log) (t : Turn) (at : ℕ) (r : Request) → IsRun s log t → IsPlaceOf log.out.items r (Some at) → Contains (flow_at (origin_of s) log.journal.items).jobs r
+place_job s log t at r run place =
+    out_job (flow_at (origin_of s) log.journal.items) log.out.items log.journal.items log.taken.items at r run.stands.jobs run.stands.balances (some_out log.out.items at r place)
+
+-- what is out is awaited
+pub held_awaited : (s : Course) (log : Log) (t : Turn) (r : Request) → IsRun s log t → Contains (requests log.out.items) r → IsAwaited (flow_at (origin_of s) log.journal.items) log.journal.items r
+held_awaited s log t r run c =
+    let q = requested log.out.items r c in
+    let w : IsOut log.out.items q.1.0 r = record { job = q.0; within = q.1.1; is = q.1.2; same = q.2 } in
+    record {
+      job = out_job (flow_at (origin_of s) log.journal.items) log.out.items log.journal.items log.taken.items q.1.0 r run.stands.jobs run.stands.balances w;
+      fresh = out_fresh log.out.items log.journal.items log.taken.items q.1.0 r run.stands.once run.stands.balances w;
+    }
 
 -- ---- faults
 
@@ -179,68 +289,129 @@ fault_none f None h = h
 
 -- ---- settling an answer
 
-module _ (o : Over) (log wide next : Log) (t fresh after : Turn) (at : ℕ) (e : Entry) (r : IsRun o log t) (place : IsPlaceOf log.out.items e.request (Some at)) (wider : IsWider log wide)
-    (entry : wide.journal.items ≡ log.journal.items ++ e ∷ []) (is : IsFreshTurn o.checked (flow_at (origin_of o) (log.journal.items ++ e ∷ [])) log.taken.items fresh) (settles : Settles wide at next) where
-  at_place : slice_index_or log.out.items at settles.job ≡ settles.job
-  at_place = subst (λ (x : List TakenJob). slice_index_or x at settles.job ≡ settles.job) wider.out settles.is_job
+-- A flow that is open was open before.
+open_before : (o : Origin) → IsSome o.checked.main → (j : List Entry) (e : Entry) → is_closed (flow_at o (j ++ e ∷ [])) ≡ false → is_closed (flow_at o j) ≡ false
+open_before o main j e h =
+    let g = grow o main j (e ∷ []) in
+    let p = open_parts (flow_at o (j ++ e ∷ [])) h in
+    both (has_fault (flow_at o j)) (too_many (flow_at o j)) (no_fault_before (flow_at o j).faults (flow_at o (j ++ e ∷ [])).faults g.faults p.0)
+    (few_before (flow_at o j) (flow_at o (j ++ e ∷ [])) g p.1)
+  where
+    both : (a b : Bool) → a ≡ false → b ≡ false → (a || b) ≡ false
+    both a b x y = ap (λ c. c || b) x ∙ y
+
+pub moved_next : (o p : Origin) (j k : List Entry) (e f : Entry) (t : Turn) → p ≡ o → k ≡ j → e ≡ f → IsNext o j e t → IsNext p k f t
+moved_next o p j k e f t x y z h = subst (λ (a : Origin). IsNext a k f t) (sym x) (subst (λ (l : List Entry). IsNext o l f t) (sym y) (subst (λ (a : Entry). IsNext o j a t) z h))
+
+pub moved_on : (s : Course) (many : Bool) (j k : List Entry) (e f : Entry) → k ≡ j → e ≡ f → IsOnCourse s many (j ++ e ∷ []) → IsOnCourse s many (k ++ f ∷ [])
+moved_on s many j k e f y z h = subst (λ (l : List Entry). IsOnCourse s many (l ++ f ∷ [])) (sym y) (subst (λ (a : Entry). IsOnCourse s many (j ++ a ∷ [])) z h)
+
+kept_origin : (s : Course) → origin_of (kept s) ≡ origin_of s
+kept_origin (Planned plan stale) = refl
+kept_origin (Past o) = refl
+
+same_tests : (h m : Bool) → ((not m && h) || m) ≡ (h || m)
+same_tests true true = refl
+same_tests true false = refl
+same_tests false true = refl
+same_tests false false = refl
+
+closed_list : {A : Type 0} (b : Bool) (xs : List A) → b ≡ true → cond b [] xs ≡ []
+closed_list b xs h = ap (λ x. cond x [] xs) h
+
+open_list : {A : Type 0} (b : Bool) (xs : List A) → b ≡ false → cond b [] xs ≡ xs
+open_list b xs h = ap (λ x. cond x [] xs) h
+
+module _ (s : Course) (log next : Log) (t fresh after : Turn) (at : ℕ) (e : Entry) (r : IsRun s log t) (place : IsPlaceOf log.out.items e.request (Some at)) (is : IsNext (origin_of s) log.journal.items e fresh)
+    (settles : Settles log at e next) where
+  abbrev p : Origin
+  p = origin_of s
+
+  abbrev old : Flowing
+  old = flow_at p log.journal.items
+
+  abbrev new : Flowing
+  new = flow_at p (log.journal.items ++ e ∷ [])
 
   same_job : settles.job.request ≡ e.request
-  same_job = request_same settles.job.request e.request (place.1 settles.job at_place)
+  same_job = request_same settles.job.request e.request (place.1 settles.job settles.is_job)
 
   is_out : IsOut log.out.items at e.request
-  is_out = record { job = settles.job; within = place.0; is = at_place; same = same_job }
-
-  journal_next : next.journal.items ≡ log.journal.items ++ e ∷ []
-  journal_next = ap (λ (v : _). v.items) settles.journal ∙ entry
+  is_out = record { job = settles.job; within = place.0; is = settles.is_job; same = same_job }
 
   taken_next : next.taken.items ≡ log.taken.items
-  taken_next = ap (λ (v : _). v.items) settles.taken ∙ wider.taken
+  taken_next = ap (λ (v : _). v.items) settles.taken
 
-  out_next : next.out.items ≡ remove log.out.items at
-  out_next = settles.out ∙ ap (λ (x : List TakenJob). remove x at) wider.out
+  stands_then : Stands p (log.journal.items ++ e ∷ []) log.taken.items (remove log.out.items at)
+  stands_then = settled_stands p r.main log.journal.items log.taken.items log.out.items at e r.stands is_out
 
-  stands_then : Stands (origin_of o) (log.journal.items ++ e ∷ []) log.taken.items (remove log.out.items at)
-  stands_then = settled_stands (origin_of o) r.main log.journal.items log.taken.items log.out.items at e r.stands is_out
+  closed_same : (is_some fresh.fault || fresh.many) ≡ is_closed new
+  closed_same =
+      ap (λ b. b || fresh.many) is.sight.shows ∙ ap (λ b. core.shows_fault new || b) is.sight.many ∙ same_tests (has_fault new) (too_many new)
 
-  pub run_settled : HasRoom (vec_len fresh.ready) (vec_len fresh.ready + 1) wide → after.ready ≡ fresh.ready → after.fault ≡ earlier t.fault fresh.fault → after.many ≡ fresh.many → after.outcome ≡ fresh.outcome → IsRun o next after
-  run_settled room ready fault many outcome =
-      record {
-        main = r.main;
-        fit = r.fit;
-        stands =
-            subst (λ (x : List Entry). Stands (origin_of o) x next.taken.items next.out.items) (sym journal_next)
-            (subst (λ (x : List TakenJob). Stands (origin_of o) (log.journal.items ++ e ∷ []) x next.out.items) (sym taken_next)
-            (subst (Stands (origin_of o) (log.journal.items ++ e ∷ []) log.taken.items) (sym out_next) stands_then));
-        turn =
-            subst (λ (x : List Entry). IsTurn o.checked (flow_at (origin_of o) x) next.taken.items after) (sym journal_next)
-            (subst (λ (x : List TakenJob). IsTurn o.checked (flow_at (origin_of o) (log.journal.items ++ e ∷ [])) x after) (sym taken_next)
-            (record {
-              ready = ap (λ (v : _). v.items) ready ∙ is.turn.ready;
-              even = is.turn.even;
-              fault =
-                  subst (turns.IsFaultOf (flow_at (origin_of o) (log.journal.items ++ e ∷ []))) (sym fault)
-                  (fault_later (flow_at (origin_of o) log.journal.items) (flow_at (origin_of o) (log.journal.items ++ e ∷ [])) (grow (origin_of o) r.main log.journal.items (e ∷ [])).faults t.fault fresh.fault r.turn.fault is.turn.fault);
-              many = many ∙ is.turn.many;
-              outcome = outcome ∙ is.turn.outcome;
-            }));
-        met = ap is_some fault ∙ fault_met (flow_at (origin_of o)) log.journal.items e t.fault fresh.fault r.met is.shows ∙ ap (met_after (flow_at (origin_of o)) []) (sym journal_next);
-        room =
-            subst (λ (v : _). HasRoom (vec_len v) (vec_len v) next) (sym ready) (room_settled (vec_len fresh.ready) at wide next room settles);
-      }
+  shared_then : is_closed new ≡ false → AreShared new (log.journal.items ++ e ∷ []) (remove log.out.items at) (t.ready.items ++ fresh.ready.items)
+  shared_then h =
+      shared_settled old new log.journal.items log.out.items t.ready.items fresh.ready.items at e (differ p r.main log.journal.items) (r.turn.shared (open_before p r.main log.journal.items e h)) is_out (is.frees h)
 
-  pub state_settled : core.Settles (state o log) e (state o next)
+  module _ (followed : IsFollowed t fresh after) where
+    turn_then : IsTurn p.checked new (log.journal.items ++ e ∷ []) (remove log.out.items at) after
+    turn_then =
+        record {
+          even = is.sight.even;
+          closed = λ h. followed.ready ∙ closed_list (is_some fresh.fault || fresh.many) (t.ready.items ++ fresh.ready.items) (closed_same ∙ h);
+          shared =
+              λ h. subst (AreShared new (log.journal.items ++ e ∷ []) (remove log.out.items at))
+              (sym (followed.ready ∙ open_list (is_some fresh.fault || fresh.many) (t.ready.items ++ fresh.ready.items) (closed_same ∙ h))) (shared_then h);
+          fault =
+              subst (turns.IsFaultOf new) (sym followed.fault)
+              (fault_later old new (grow p r.main log.journal.items (e ∷ [])).faults t.fault fresh.fault r.turn.fault is.sight.fault);
+          many = followed.many ∙ is.sight.many;
+          outcome = followed.outcome ∙ is.sight.outcome;
+        }
+
+    abbrev Then : Origin → List Entry → List TakenJob → List TakenJob → Type 0
+    Then o j taken out = IsSome o.checked.main × Stands o j taken out × IsTurn o.checked (flow_at o j) j out after × (is_some after.fault ≡ met_after (flow_at o) [] j)
+
+    all_then : Then p (log.journal.items ++ e ∷ []) log.taken.items (remove log.out.items at)
+    all_then = (
+      r.main,
+      stands_then,
+      turn_then,
+      ap is_some followed.fault ∙ fault_met (flow_at p) log.journal.items e t.fault fresh.fault r.met is.sight.shows,
+    )
+
+    moved_then : Then (origin_of (kept s)) next.journal.items next.taken.items next.out.items
+    moved_then =
+        subst (λ o. Then o next.journal.items next.taken.items next.out.items) (sym (kept_origin s))
+        (subst (λ j. Then p j next.taken.items next.out.items) (sym settles.journal)
+        (subst (λ x. Then p (log.journal.items ++ e ∷ []) x next.out.items) (sym taken_next)
+        (subst (Then p (log.journal.items ++ e ∷ []) log.taken.items) (sym settles.out) all_then)))
+
+    pub run_settled : IsOnCourse (kept s) fresh.many (log.journal.items ++ e ∷ []) → HasRoomFor t log fresh → IsRun (kept s) next after
+    run_settled on room =
+        record {
+          main = moved_then.0;
+          stands = moved_then.1;
+          turn = moved_then.2;
+          met = moved_then.3;
+          room = room_settled (vec_len t.ready + vec_len fresh.ready) (vec_len after.ready) at e log next room.jobs followed.length settles;
+          course =
+              subst (IsOnCourse (kept s) after.many) (sym settles.journal)
+              (subst (λ b. IsOnCourse (kept s) b (log.journal.items ++ e ∷ [])) (sym followed.many) on);
+        }
+
+  pub state_settled : core.Settles (state s log) e (state (kept s) next)
   state_settled =
-      let s = r.stands in
+      let x = r.stands in
       record {
-        was_out = was_out log.out.items log.journal.items log.taken.items at e.request s.balances is_out;
+        was_out = was_out log.out.items log.journal.items log.taken.items at e.request x.balances is_out;
         held = out_held log.out.items at e.request is_out;
-        fresh = out_fresh log.out.items log.journal.items log.taken.items at e.request s.once s.balances is_out;
-        fed = ap (core.fed_at (origin_of o)) journal_next ∙ stands_then.fed;
-        out = omega (arith, s.counted, stands_then.counted, ap length out_next, ap length journal_next, length-append log.journal.items (e ∷ []));
-        left = without log.out.items next.out.items at e.request is_out out_next;
-        origin = refl;
+        fresh = out_fresh log.out.items log.journal.items log.taken.items at e.request x.once x.balances is_out;
+        fed = ap (λ (o : Origin). core.fed_at o next.journal.items) (kept_origin s) ∙ ap (core.fed_at p) settles.journal ∙ stands_then.fed;
+        out = omega (arith, x.counted, stands_then.counted, ap length settles.out, length-append log.journal.items (e ∷ []));
+        left = without log.out.items next.out.items at e.request is_out settles.out;
+        origin = kept_origin s;
         after =
-            same_state (origin_of o) journal_next taken_next refl
-            (settles.steps ∙ ap (λ (x : List Step). x ++ step.Settled settles.job.request.place ∷ []) wider.steps
-            ∙ ap (λ (q : Request). log.steps.items ++ step.Settled q.place ∷ []) same_job);
+            same_state (kept_origin s) settles.journal taken_next refl
+            (settles.steps ∙ ap (λ (q : Request). log.steps.items ++ step.Settled q.place ∷ []) same_job);
       }

@@ -1,5 +1,5 @@
 -- What a core keeps of its entries and jobs, as a job is taken and as an answer is settled.
-use Rattle.std.proofs.Common.{zero, suc, ◌≡◌, ℕ, ◌<◌, ◌≤◌, Bool, true, false, cond, ◌⊎◌, inl, inr, List, [], ◌∷◌, ◌++◌, Contains, IsSome, count_by, length, length-append, nat_lt, remove, slice_index_or, arith, sym, ap, ◌∙◌, subst, refl}
+use Rattle.std.proofs.Common.{◌≡◌, ℕ, ◌<◌, ◌≤◌, Bool, true, false, cond, ◌⊎◌, inl, inr, List, [], ◌∷◌, ◌++◌, Contains, IsSome, count_by, length, length-append, nat_lt, remove, slice_index_or, arith, sym, ap, ◌∙◌, subst, refl}
 use Rattle.std.proofs.lemmas.Bool.{false≢true, false_from_ne_true, ltb-false, or_parts, or_cases}
 use Rattle.std.proofs.lemmas.List.Edits.{length-remove}
 use Rattle.std.proofs.lemmas.List.Elements.{Contains-append_cases}
@@ -17,9 +17,9 @@ use Rattle.ready_core.specs.Cores.{AreHeld, AreWithout, CoreState, MayTake, Orig
 use Rattle.ready_core.specs.Inside.{AreJobs, AreTakenOnce, Balances, Stands}
 use Rattle.ready_core.specs.Rows.{TakenJob}
 use Rattle.ready_core.proofs.Counted.{no_more_taken, request_in, requested}
-use Rattle.ready_core.proofs.Counting.{count_cons, count_cut, count_push, counts, found, none_counts}
+use Rattle.ready_core.proofs.Counting.{count_cons, count_cut, count_push, counts, found, none_counts, zero_if}
 use Rattle.ready_core.proofs.Runs.{fed_more, grow}
-use Rattle.ready_core.proofs.Leftover.{paired_request, taking_same}
+use Rattle.ready_core.proofs.Paired.{paired_request, taking_same}
 
 -- ---- nothing
 
@@ -55,10 +55,6 @@ same_taking r t j h k =
     let a = taking_same r t h in
     let b = taking_same r j k in
     job_at j.request t.request.place t.request.attempt (b.0 ∙ sym a.0) (b.1 ∙ sym a.1)
-
-zero_if : (n : ℕ) → (0 < n → ⊥) → n ≡ 0
-zero_if zero h = refl
-zero_if (suc n) h = absurd (h (omega arith))
 
 once_more : (taken : List TakenJob) (t : TakenJob) → AreTakenOnce taken → is_taken taken t.request ≡ false → AreTakenOnce (taken ++ t ∷ [])
 unfolding AreTakenOnce
@@ -138,8 +134,15 @@ jobs_at f taken j h c = h j c
 pub out_job : (f : Flowing) (out : List TakenJob) (es : List Entry) (taken : List TakenJob) (at : ℕ) (r : Request) → AreJobs f taken → Balances out es taken → IsOut out at r → Contains f.jobs r
 out_job f out es taken at r jobs h w = let q = out_taken out es taken at r h w in subst (Contains f.jobs) q.2 (jobs_at f taken q.0 jobs q.1)
 
+-- without a row, no entry has that place and attempt
+pub none_counted : (es : List Entry) (r : Request) → has_row (table es) r.place r.attempt ≡ false → count_by (λ (e : Entry). is_job_at r.place r.attempt e.request) es ≡ 0
+none_counted [] r h = refl
+none_counted (e ∷ es) r h =
+    let q = or_parts (is_at r.place r.attempt (row_of e)) (has_row (table es) r.place r.attempt) h in
+    omega (arith, count_cons (λ (x : Entry). is_job_at r.place r.attempt x.request) e es, ap (λ b. cond {A = ℕ} b 1 0) q.0, none_counted es r q.1)
+
 -- where there is a row, an entry has that place and attempt
-row_counts : (es : List Entry) (r : Request) → has_row (table es) r.place r.attempt ≡ true → 0 < count_by (λ (e : Entry). is_job_at r.place r.attempt e.request) es
+pub row_counts : (es : List Entry) (r : Request) → has_row (table es) r.place r.attempt ≡ true → 0 < count_by (λ (e : Entry). is_job_at r.place r.attempt e.request) es
 row_counts [] r h = absurd (false≢true h)
 row_counts (e ∷ es) r h = by_case (row_counts es r) (or_cases (is_at r.place r.attempt (row_of e)) (has_row (table es) r.place r.attempt) h)
   where

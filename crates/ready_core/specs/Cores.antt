@@ -1,5 +1,5 @@
 -- What contracts see of a core, and its two transitions.
-use Rattle.std.specs.Prelude.{◌≡◌, ℕ, ◌+◌, ◌<◌, ◌≤◌, Bool, true, false, not, ◌&&◌, ◌||◌, ◌==◌, List, [], ◌∷◌, ◌++◌, Contains, count_by, length, map, remove, slice_index_or, if◌then◌else◌}
+use Rattle.std.specs.Prelude.{◌≡◌, ℕ, ◌+◌, ◌<◌, ◌≤◌, Bool, true, false, not, ◌&&◌, ◌||◌, ◌==◌, List, [], ◌∷◌, ◌++◌, Contains, count_by, length, map, remove, slice_index_or}
 use Rattle.std.specs.List.{list_all, list_any}
 use Rattle.wdl_base.specs.declared.entry.Entry.{Entry}
 use Rattle.wdl_base.specs.declared.place.Segment.{Segment}
@@ -12,6 +12,7 @@ use Rattle.wdl_value.specs.Tables.{has_row, table}
 use Rattle.wdl_typed.specs.declared.checked.Checked.{Checked}
 use Rattle.wdl_typed.specs.Flow.{Flowing, is_empty, too_many}
 use Rattle.wdl_typed.specs.Requests.{Successes}
+use Rattle.scatter_plan.specs.Plans.{cost_with}
 use Rattle.ready_core.specs.Flows.{flow_after, is_fed}
 use Rattle.ready_core.specs.Rows.{TakenJob}
 
@@ -27,6 +28,10 @@ flow_at o journal = flow_after o.checked o.inputs o.site journal
 
 abbrev pub fed_at : Origin → List Entry → Bool
 fed_at o journal = is_fed o.checked o.inputs o.site journal
+
+-- how many expressions the flow has whose names are all known, in the bodies that are entered, each once an instance
+abbrev pub cost_at : Origin → List Entry → ℕ
+cost_at o journal = cost_with o.checked o.inputs o.site (table journal)
 
 -- ---- jobs of a flow
 
@@ -60,11 +65,6 @@ idle f taken = has_fault f || (too_many f || all_taken f taken)
 -- a job of the flow whose place and attempt were not taken
 abbrev pub MayTake : Flowing → List TakenJob → TakenJob → Type 0
 MayTake f taken j = Contains (jobs_of f) j × (is_taken taken j.request ≡ false)
-
--- the jobs of a flow that were not taken
-abbrev pub left_over : List TakenJob → List TakenJob → List TakenJob
-left_over taken [] = []
-left_over taken (j ∷ js) = if is_taken taken j.request then left_over taken js else j ∷ left_over taken js
 
 -- ---- faults
 
@@ -112,6 +112,10 @@ started o = record { origin = o; journal = []; taken = []; out = []; steps = [] 
 -- the flow over the journal
 abbrev pub flow_of : CoreState → Flowing
 flow_of s = flow_at s.origin s.journal
+
+-- what that flow costs
+abbrev pub cost_of : CoreState → ℕ
+cost_of s = cost_at s.origin s.journal
 
 abbrev pub idle_at : CoreState → Bool
 idle_at s = idle (flow_of s) s.taken

@@ -7,7 +7,7 @@ use Rattle.wdl_typed.specs.declared.flow.FlowDef.{FlowDef}
 use Rattle.wdl_typed.specs.Bodies.{Library}
 use Rattle.wdl_typed.specs.Flow.{Flowing, nothing, is_clean, outputs_of, too_many}
 use Rattle.wdl_typed.specs.Journal.{fed_after, flow_over}
-use Rattle.wdl_plain.specs.Shown.{library_of}
+use Rattle.scatter_plan.specs.Plans.{library_in}
 
 abbrev pub flow_in : Library → Option ℕ → List Bind → List ℕ → List Entry → Flowing
 flow_in lib None given site journal = nothing
@@ -15,7 +15,7 @@ flow_in lib (Some k) given site journal = flow_over lib k given site journal
 
 -- the flow of the main workflow for these inputs, below this site
 unfoldable pub flow_after : Checked → List Bind → List ℕ → List Entry → Flowing
-flow_after c given site journal = flow_in (library_of c) c.main given site journal
+flow_after c given site journal = flow_in (library_in c) c.main given site journal
 
 -- Each entry's request is a job of the flow over the entries before it, and its place with its attempt is new.
 abbrev pub is_fed : Checked → List Bind → List ℕ → List Entry → Bool

@@ -1,27 +1,23 @@
 -- The fields of a core.
-use Rattle.std.specs.Prelude.{◌≡◌, ℕ, ◌+◌, ◌≤◌, true, Bool, List, [], Contains, Some, IsSome, count_by, is_some, length, slice_get, vec_len}
+use Rattle.std.specs.Prelude.{◌≡◌, ◌+◌, ◌≤◌, true, Bool, List, [], Contains, IsSome, count_by, is_some, length, ◌<◌, vec_capacity, vec_len}
 use Rattle.wdl_base.specs.declared.entry.Entry.{Entry}
 use Rattle.wdl_base.specs.declared.request.Request.{Request}
-use Rattle.wdl_typed.specs.declared.flow.FlowDef.{FlowDef}
 use Rattle.wdl_typed.specs.Flow.{Flowing}
-use Rattle.wdl_typed.specs.Journal.{inputs_fit}
+use Rattle.ready_core.specs.declared.course.Course.{Course}
 use Rattle.ready_core.specs.declared.log.Log.{Log}
 use Rattle.ready_core.specs.declared.ready.Core.TheInside.{Inside}
-use Rattle.ready_core.specs.declared.turn.Over.{Over}
 use Rattle.ready_core.specs.declared.turn.Turn.{Turn}
 use Rattle.ready_core.specs.Cores.{CoreState, Origin, fed_at, flow_at, is_taking, met_after}
+use Rattle.ready_core.specs.Courses.{IsOnCourse, origin_of}
 use Rattle.ready_core.specs.Logs.{HasRoom}
 use Rattle.ready_core.specs.Rows.{TakenJob}
 use Rattle.ready_core.specs.Turns.{IsTurn}
 
-abbrev pub origin_of : Over → Origin
-origin_of o = record { checked = o.checked; inputs = o.inputs; site = o.site }
-
-abbrev pub state : Over → Log → CoreState
-state o l = record { origin = origin_of o; journal = l.journal.items; taken = l.taken.items; out = l.out.items; steps = l.steps.items }
+abbrev pub state : Course → Log → CoreState
+state s l = record { origin = origin_of s; journal = l.journal.items; taken = l.taken.items; out = l.out.items; steps = l.steps.items }
 
 abbrev pub state_of : Inside → CoreState
-state_of c = state c.over c.log
+state_of c = state c.course c.log
 
 -- of the requests of each kind, those that were taken are those that are out and those that were settled
 unfoldable pub Balances : List TakenJob → List Entry → List TakenJob → Type 0
@@ -47,13 +43,19 @@ pub record Stands (o : Origin) (journal : List Entry) (taken out : List TakenJob
   pub few : length taken ≤ 20000
 
 -- what the fields of a core say of each other
-pub record IsRun (o : Over) (l : Log) (t : Turn) : Type 0 where
-  pub main : IsSome o.checked.main
-  pub fit : (k : ℕ) (main : FlowDef) → o.checked.main ≡ Some k → slice_get o.checked.flows k ≡ Some main → inputs_fit o.checked.structs main.inputs o.inputs ≡ true
-  pub stands : Stands (origin_of o) l.journal.items l.taken.items l.out.items
-  pub turn : IsTurn o.checked (flow_at (origin_of o) l.journal.items) l.taken.items t
-  pub met : is_some t.fault ≡ met_after (flow_at (origin_of o)) [] l.journal.items
+pub record IsRun (s : Course) (l : Log) (t : Turn) : Type 0 where
+  pub main : IsSome (origin_of s).checked.main
+  pub stands : Stands (origin_of s) l.journal.items l.taken.items l.out.items
+  pub turn : IsTurn (origin_of s).checked (flow_at (origin_of s) l.journal.items) l.journal.items l.out.items t
+  pub met : is_some t.fault ≡ met_after (flow_at (origin_of s)) [] l.journal.items
   pub room : HasRoom (vec_len t.ready) (vec_len t.ready) l
+  pub course : IsOnCourse s t.many l.journal.items
 
 abbrev pub IsCore : Inside → Type 0
-IsCore c = IsRun c.over c.log c.turn
+IsCore c = IsRun c.course c.log c.turn
+
+-- room for the jobs of a next turn, and for an answer
+pub record HasRoomFor (t : Turn) (l : Log) (next : Turn) : Type 0 where
+  pub ready : vec_len t.ready + vec_len next.ready ≤ vec_capacity t.ready
+  pub jobs : HasRoom (vec_len t.ready + vec_len next.ready) (vec_len t.ready + vec_len next.ready + 1) l
+  pub entry : vec_len l.journal < vec_capacity l.journal

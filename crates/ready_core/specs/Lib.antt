@@ -1,9 +1,9 @@
 pub mod Cores
+pub mod Courses
 pub mod Flows
 pub mod HandsBack
 pub mod Inside
 pub mod Launches
 pub mod Logs
-pub mod Marks
 pub mod Rows
 pub mod Turns

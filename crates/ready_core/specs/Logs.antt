@@ -1,5 +1,6 @@
 -- What the calls of a log do.
 use Rattle.std.specs.Prelude.{◌≡◌, ℕ, ◌+◌, ◌<◌, ◌≤◌, true, false, List, [], ◌∷◌, ◌++◌, All, Option, Some, None, length, remove, slice_index_or, vec_capacity, vec_len}
+use Rattle.wdl_base.specs.declared.entry.Entry.{Entry}
 use Rattle.wdl_base.specs.declared.request.Request.{Request}
 use Rattle.wdl_base.specs.declared.step.Step.TheVariants as step
 use Rattle.wdl_base.specs.Same.{same_request}
@@ -26,8 +27,9 @@ pub record HasRoom (m n : ℕ) (l : Log) : Type 0 where
   pub out : vec_len l.out + m ≤ vec_capacity l.out
   pub steps : vec_len l.steps + n ≤ vec_capacity l.steps
 
--- the same jobs and steps, with no less room
+-- the same entries, jobs and steps, with no less room
 pub record IsWider (a b : Log) : Type 0 where
+  pub journal : b.journal.items ≡ a.journal.items
   pub taken : b.taken.items ≡ a.taken.items
   pub out : b.out.items ≡ a.out.items
   pub steps : b.steps.items ≡ a.steps.items
@@ -37,11 +39,6 @@ pub record IsWider (a b : Log) : Type 0 where
   pub taken_room : vec_capacity a.taken ≤ vec_capacity b.taken
   pub out_room : vec_capacity a.out ≤ vec_capacity b.out
   pub steps_room : vec_capacity a.steps ≤ vec_capacity b.steps
-
--- the same entries too
-pub record IsLarger (a b : Log) : Type 0 where
-  pub journal : b.journal ≡ a.journal
-  pub wider : IsWider a b
 
 -- a job more
 pub record Takes (a : Log) (j : TakenJob) (b : Log) : Type 0 where
@@ -56,11 +53,11 @@ pub record Takes (a : Log) (j : TakenJob) (b : Log) : Type 0 where
   pub out_room : vec_capacity b.out ≡ vec_capacity a.out
   pub steps_room : vec_capacity b.steps ≡ vec_capacity a.steps
 
--- one job less out
-pub record Settles (a : Log) (at : ℕ) (b : Log) : Type 0 where
+-- an answer settled, whose job is no longer out
+pub record Settles (a : Log) (at : ℕ) (e : Entry) (b : Log) : Type 0 where
   pub job : TakenJob
   pub is_job : slice_index_or a.out.items at job ≡ job
-  pub journal : b.journal ≡ a.journal
+  pub journal : b.journal.items ≡ a.journal.items ++ e ∷ []
   pub taken : b.taken ≡ a.taken
   pub out : b.out.items ≡ remove a.out.items at
   pub steps : b.steps.items ≡ a.steps.items ++ step.Settled job.request.place ∷ []

@@ -5,15 +5,16 @@ ghost use Rattle.ready_core.specs.Rows.{is_usable, kept_as, launched};
 
 use std::alloc::Global;
 use std::marker::Model;
+use wdl_flow::Terms;
 use wdl_port::{LaunchFault, Launcher};
 use wdl_typed::Success;
 use wdl_value::{Entry, NoMemory, Place, Request, Source, same_request};
 
-/// A job that was taken: a request, and which statuses are successes of it. Only a core makes one.
+/// A job that was taken: a request, and its terms. Only a core makes one.
 #[derive(Debug, Drop)]
 pub struct Job {
     request: Request,
-    codes: Success,
+    terms: Terms,
 }
 
 impl Model for Job {
@@ -22,7 +23,7 @@ impl Model for Job {
 
     ghost Value = { TakenJob };
 
-    ghost view = { λ j. record { request = j.request; codes = successes_of j.codes } };
+    ghost view = { λ j. record { request = j.request; codes = successes_of j.terms } };
 }
 
 /// The answer of a job, as an entry of a journal. Only a job makes one.
@@ -54,10 +55,10 @@ pub struct NotKept {
 }
 
 impl Job {
-    pub(crate) fn new(request: Request, codes: Success) -> Job
-        ensures job { result ≡ record { request = request; codes = successes_of codes } }
+    pub(crate) fn new(request: Request, terms: Terms) -> Job
+        ensures job { result ≡ record { request = request; codes = successes_of terms } }
     {
-        Job { request, codes }
+        Job { request, terms }
     }
 
     /// A copy, for the core's own lists.
@@ -65,8 +66,8 @@ impl Job {
         ensures job { IfOk result (λ j. j ≡ self.now) }
     {
         let request = self.request.copy(alloc)?;
-        let codes = self.codes.copy(alloc)?;
-        Ok(Job { request, codes })
+        let terms = self.terms.copy(alloc)?;
+        Ok(Job { request, terms })
     }
 
     /// What is to be run. It takes no memory.
@@ -86,7 +87,12 @@ impl Job {
     pub fn codes(&self) -> &Success
         ensures codes { successes_of result.now ≡ self.now.codes }
     {
-        &self.codes
+        self.terms.successes()
+    }
+
+    /// How often the job may be tried again, which nothing that is promised depends on. It takes no memory.
+    pub fn retries(&self) -> u32 {
+        self.terms.retries()
     }
 
     /// Runs the command of the job. Where there is no answer, the job is handed back.
@@ -132,7 +138,7 @@ impl Job {
 pub fn is_usable_for(row: &Entry, job: &Job) -> bool
     ensures usable { result ≡ is_usable job.now row.now }
 {
-    same_request(&row.request, &job.request) && job.codes.holds(row.answer.status)
+    same_request(&row.request, &job.request) && job.codes().holds(row.answer.status)
 }
 
 impl Answered {

@@ -2,13 +2,14 @@
 //! out, and their answers.
 #![tactic(auto)]
 
+mod course;
 mod history;
 mod job;
 mod laws;
 mod log;
 mod pending;
 mod ready;
-mod taken;
+mod shown;
 mod turn;
 
 pub use history::{History, SettleFault};

@@ -1,5 +1,4 @@
-ghost use Rattle.std.specs.Prelude.{◌≡◌, ◌<◌, ◌≤◌, ◌+◌, ◌++◌, ◌∷◌, [], IfOk, OnErr, OnOk, MatchOption, vec_capacity, vec_len};
-ghost use Rattle.wdl_base.specs.declared.step.Step.TheVariants.{Took, Settled};
+ghost use Rattle.std.specs.Prelude.{◌≡◌, ◌<◌, ◌≤◌, ◌+◌, [], OnOk, length, vec_capacity, vec_len};
 ghost use Rattle.ready_core.specs.Logs as logs;
 
 use crate::history::History;
@@ -43,14 +42,17 @@ impl Log {
         }
     }
 
-    /// Makes room to take each of these jobs, and for one step more.
-    pub fn make_room(&mut self, ready: &Vec<Pending>) -> Result<(), NoMemory>
-        ensures same { logs.IsLarger self.old self.new }
-        ensures room { OnOk result (logs.HasRoom (vec_len ready.now) (vec_len ready.now + 1) self.new) }
+    /// Makes room to take each of these jobs, and to settle one answer more.
+    pub fn make_room(&mut self, ready: &[Pending], fresh: &[Pending]) -> Result<(), NoMemory>
+        ensures same { logs.IsWider self.old self.new }
+        ensures room { OnOk result (logs.HasRoom (length ready.now + length fresh.now) (length ready.now + length fresh.now + 1) self.new) }
+        ensures entry { OnOk result (vec_len self.new.journal < vec_capacity self.new.journal) }
     {
-        self.taken.reserve(ready.len())?;
-        self.out.reserve(ready.len())?;
-        self.steps.reserve(ready.len() + 1)?;
+        let jobs = ready.len() + fresh.len();
+        self.taken.reserve(jobs)?;
+        self.out.reserve(jobs)?;
+        self.steps.reserve(jobs + 1)?;
+        self.journal.reserve(1)?;
         Ok(())
     }
 
@@ -67,26 +69,16 @@ impl Log {
         taking.job
     }
 
-    /// Takes the job of that number from those that are out, since its answer is settled. There is room for the step.
-    pub fn settle(&mut self, at: usize)
+    /// Settles the answer of the job of that number among those that are out. There is room for the entry and the step.
+    pub fn settle(&mut self, at: usize, answered: Answered)
         requires within { at < vec_len self.old.out }
-        requires room { vec_len self.old.steps < vec_capacity self.old.steps }
-        ensures settles { logs.Settles self.old at self.new }
+        requires entry { vec_len self.old.journal < vec_capacity self.old.journal }
+        requires step { vec_len self.old.steps < vec_capacity self.old.steps }
+        ensures settles { logs.Settles self.old at answered self.new }
     {
         let job = self.out.remove(at);
+        self.journal.push_reserved(answered.into_entry());
         self.steps.push_reserved(Step::Settled(job.into_place()));
-    }
-
-    /// The last entry, which is taken from the journal.
-    pub fn give_back(&mut self) -> Answered
-        requires some { 0 < vec_len self.old.journal }
-        ensures entry { self.old.journal.items ≡ self.new.journal.items ++ result ∷ [] }
-        ensures same { logs.IsWider self.old self.new }
-    {
-        let Some(entry) = self.journal.pop() else {
-            unreachable!();
-        };
-        Answered::new(entry)
     }
 
     /// The journal and the steps.

@@ -5,7 +5,7 @@ ghost use Rattle.wdl_typed.specs.Statuses.{successes_of};
 use crate::job::Job;
 use std::alloc::Global;
 use std::marker::Model;
-use wdl_typed::Success;
+use wdl_flow::Terms;
 use wdl_value::{NoMemory, Request, Step, copy_place};
 
 /// A job that may be taken, with all that taking it needs.
@@ -39,11 +39,11 @@ pub struct Taking {
 }
 
 impl Pending {
-    /// A job of this request.
-    pub fn new(alloc: Global, request: Request, codes: Success) -> Result<Pending, NoMemory>
-        ensures job { IfOk result (λ p. p ≡ record { request = request; codes = successes_of codes }) }
+    /// A job of this request, on these terms.
+    pub fn new(alloc: Global, request: Request, terms: Terms) -> Result<Pending, NoMemory>
+        ensures job { IfOk result (λ p. p ≡ record { request = request; codes = successes_of terms }) }
     {
-        let job = Job::new(request, codes);
+        let job = Job::new(request, terms);
         let out = job.copy(alloc)?;
         let taken = job.copy(alloc)?;
         let place = copy_place(alloc, &job.request().place)?;

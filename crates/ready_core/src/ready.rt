@@ -1,19 +1,22 @@
-ghost use Rattle.std.specs.Prelude.{◌≡◌, ◌+◌, ◌∷◌, ◌++◌, ◌⊎◌, true, [], ℕ, Some, Contains, IfErr, IfNone, IfOk, IfSome, IsSome, MatchBool, MatchOption, OnErr, OnOk, is_some, length, slice_get, vec_len};
+ghost use Rattle.std.specs.Prelude.{◌≡◌, ◌+◌, ◌∷◌, ◌++◌, ◌⊎◌, ◌≤◌, true, false, [], ℕ, Some, Contains, IfErr, IfNone, IfOk, IfSome, IsSome, MatchBool, MatchOption, OnErr, OnOk, is_some, length, slice_get};
 ghost use Rattle.std.specs.Option.{option_copied};
 ghost use Rattle.wdl_typed.specs.declared.flow.FlowDef.{FlowDef};
 ghost use Rattle.wdl_typed.specs.Flow as flow;
 ghost use Rattle.wdl_typed.specs.Journal.{inputs_fit};
 ghost use Rattle.ready_core.specs.Cores as spec;
 ghost use Rattle.ready_core.specs.Cores.{Settles, Takes};
-ghost use Rattle.ready_core.specs.Flows.{flow_after, outcome_of};
+ghost use Rattle.ready_core.specs.Courses.{IsOnCourse, IsPaid, kept, origin_of};
+ghost use Rattle.ready_core.specs.Flows.{outcome_of};
 ghost use Rattle.ready_core.specs.HandsBack.{HandsBack};
+ghost use Rattle.ready_core.specs.Inside.{HasRoomFor, IsRun};
 ghost use Rattle.ready_core.specs.Logs as logs;
 ghost use Rattle.ready_core.specs.Turns as turns;
 
+use crate::course::{Begun, Course, begin};
 use crate::history::{History, SettleFault};
 use crate::job::{Answered, Job};
 use crate::log::{Log, place_of};
-use crate::turn::{Over, Turn, turn_over};
+use crate::turn::Turn;
 use std::alloc::Global;
 use std::marker::Model;
 use std::sync::ledger::Ledger;
@@ -24,7 +27,7 @@ use wdl_value::{Entry, Env, Fault, NoMemory, Step, Steps, Text};
 /// answers of faults, outputs and jobs is that of the flow over its journal.
 #[derive(Drop)]
 pub struct Core {
-    over: Over,
+    course: Course,
     log: Log,
     turn: Turn,
 }
@@ -47,55 +50,30 @@ impl Model for Core {
     ghost invariant = { IsCore };
 }
 
-/// The turn over the journal, and room for all that it lets be taken.
-fn turn_with_room<S: Ledger>(
-    alloc: Global,
-    over: &Over,
-    log: &mut Log,
-    steps: &mut Steps<S>,
-) -> Result<Turn, NoMemory>
-    requires main { IsSome over.now.checked.main }
-    requires fit { (k : ℕ) (main : FlowDef) → over.now.checked.main ≡ Some k → slice_get over.now.checked.flows k ≡ Some main → inputs_fit over.now.checked.structs main.inputs over.now.inputs ≡ true }
-    ensures same { logs.IsLarger log.old log.new }
-    ensures turn { IfOk result (turns.IsFreshTurn over.now.checked (flow_after over.now.checked over.now.inputs over.now.site log.old.journal.items) log.old.taken.items) }
-    ensures room { IfOk result (λ t. logs.HasRoom (vec_len t.ready) (vec_len t.ready + 1) log.new) }
-{
-    let turn = turn_over(
-        alloc,
-        over,
-        log.journal.as_slice(),
-        log.taken.as_slice(),
-        steps,
-    )?;
-    log.make_room(&turn.ready)?;
-    Ok(turn)
-}
-
-/// The turn over the journal with an entry more, which is then its last one.
+/// What an answer adds to what the flow came to, with room for all of it.
 fn next_turn<S: Ledger>(
     alloc: Global,
-    over: &Over,
+    course: &mut Course,
+    turn: &mut Turn,
     log: &mut Log,
-    a: Answered,
+    entry: &Entry,
     steps: &mut Steps<S>,
-) -> Result<Turn, Answered>
-    requires main { IsSome over.now.checked.main }
-    requires fit { (k : ℕ) (main : FlowDef) → over.now.checked.main ≡ Some k → slice_get over.now.checked.flows k ≡ Some main → inputs_fit over.now.checked.structs main.inputs over.now.inputs ≡ true }
-    ensures same { logs.IsWider log.old log.new }
-    ensures turn { IfOk result (turns.IsFreshTurn over.now.checked (flow_after over.now.checked over.now.inputs over.now.site (log.old.journal.items ++ a ∷ [])) log.old.taken.items) }
-    ensures room { IfOk result (λ t. logs.HasRoom (vec_len t.ready) (vec_len t.ready + 1) log.new) }
-    ensures entry { OnOk result (log.new.journal.items ≡ log.old.journal.items ++ a ∷ []) }
-    ensures back { IfErr result (λ b. b ≡ a) }
-    ensures kept { OnErr result (log.new.journal.items ≡ log.old.journal.items) }
+) -> Result<Turn, NoMemory>
+    requires run { IsRun course.old log.old turn.old }
+    requires held { Contains (spec.requests log.old.out.items) entry.now.request }
+    ensures run { IsRun course.new log.new turn.new }
+    ensures origin { origin_of course.new ≡ origin_of course.old }
+    ensures log { logs.IsWider log.old log.new }
+    ensures turn { turns.IsRoomier turn.old turn.new }
+    ensures course { IfOk result (λ t. IsOnCourse (kept course.new) t.many (log.old.journal.items ++ entry.now ∷ [])) }
+    ensures next { IfOk result (turns.IsNext (origin_of course.old) log.old.journal.items entry.now) }
+    ensures room { IfOk result (HasRoomFor turn.new log.new) }
+    ensures paid { IfOk result (λ t. t.many ≡ false → IsPaid course.old course.new (log.old.journal.items ++ entry.now ∷ []) steps.old steps.new) }
 {
-    let Ok(()) = log.journal.reserve(1) else {
-        return Err(a);
-    };
-    log.journal.push_reserved(a.into_entry());
-    let Ok(turn) = turn_with_room(alloc, over, log, steps) else {
-        return Err(log.give_back());
-    };
-    Ok(turn)
+    let next = course.tell(alloc, turn.many, log.journal.as_slice(), entry, steps)?;
+    turn.make_room(&next)?;
+    log.make_room(turn.ready.as_slice(), next.ready.as_slice())?;
+    Ok(next)
 }
 
 impl Core {
@@ -110,15 +88,12 @@ impl Core {
         requires main { IsSome checked.main }
         requires fit { (k : ℕ) (main : FlowDef) → checked.main ≡ Some k → slice_get checked.flows k ≡ Some main → inputs_fit checked.structs main.inputs inputs ≡ true }
         ensures started { IfOk result (λ c. c ≡ spec.started (record { checked = checked; inputs = inputs; site = site })) }
+        ensures paid { IfOk result (λ c. flow.too_many (spec.flow_of c) ≡ false → steps.new ≤ steps.old + spec.cost_of c) }
     {
-        let over = Over {
-            checked,
-            inputs,
-            site,
-        };
+        let Begun { course, turn } = begin(alloc, checked, inputs, site, steps)?;
         let mut log = Log::new(alloc);
-        let turn = turn_with_room(alloc, &over, &mut log, steps)?;
-        Ok(Core { over, log, turn })
+        log.make_room(turn.ready.as_slice(), &[])?;
+        Ok(Core { course, log, turn })
     }
 
     /// Takes a job of the flow over the journal that was not taken: its place and attempt are new. `None` exactly where a fault
@@ -143,18 +118,19 @@ impl Core {
         ensures ok { OnOk result (Settles self.old a self.new) }
         ensures err { OnErr result (self.new ≡ self.old) }
         ensures fault { IfErr result (λ f. HandsBack f self.old.out a) }
+        ensures paid { OnOk result (flow.too_many (spec.flow_of self.new) ≡ false → steps.new ≤ steps.old + spec.cost_of self.new) }
     {
         let Some(at) = place_of(self.log.out.as_slice(), &a.entry().request) else {
             return Err(SettleFault::Stranger(a));
         };
-        match next_turn(alloc, &self.over, &mut self.log, a, steps) {
-            Ok(turn) => {
-                self.log.settle(at);
-                self.turn.follow(turn);
-                Ok(())
-            }
-            Err(a) => Err(SettleFault::NoMemory(a)),
-        }
+        let (course, turn, log) = (&mut self.course, &mut self.turn, &mut self.log);
+        let Ok(next) = next_turn(alloc, course, turn, log, a.entry(), steps) else {
+            return Err(SettleFault::NoMemory(a));
+        };
+        self.log.settle(at, a);
+        self.course.keep();
+        self.turn.follow(next);
+        Ok(())
     }
 
     /// A fault of the flow over the journal. `None` only where it has none or is past its limits; once there is a fault, one
@@ -195,7 +171,7 @@ impl Core {
     pub fn checked(&self) -> &Checked
         ensures checked { result.now ≡ self.now.origin.checked }
     {
-        &self.over.checked
+        self.course.checked()
     }
 
     /// How many jobs were taken and not settled. It takes no memory.

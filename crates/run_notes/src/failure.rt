@@ -1,5 +1,6 @@
 use crate::lookup::push_file;
 use crate::note::{Note, last_lines};
+use crate::signal::push_ended;
 use std::alloc::Global;
 use wdl_typed::TaskDef;
 use wdl_value::{Body, Entry, Fault, NoMemory, Place, Seen, Text, Why, place_text, same_place};
@@ -24,18 +25,15 @@ fn last_at<'a>(journal: &'a [Entry], place: &Place) -> Option<&'a Entry> {
     last
 }
 
-/// Appends the place of the entry, and what became of it.
-fn push_head(alloc: Global, note: &mut Note, entry: &Entry, what: &str) -> Result<(), NoMemory> {
+/// Appends the place of the entry and its attempt, unless it is the first one.
+fn push_head(alloc: Global, note: &mut Note, entry: &Entry) -> Result<(), NoMemory> {
     let place = place_text(alloc, &entry.request.place)?;
     note.push(place.as_str())?;
     if entry.request.attempt > 0 {
-        let number = u64::from(entry.request.attempt) + 1;
-        let attempt = format!(in alloc; ", attempt {number}")?;
-        note.push(attempt.as_str())?;
+        note.push(", attempt ")?;
+        note.push_number(u64::from(entry.request.attempt) + 1)?;
     }
-    note.push(": ")?;
-    note.push(what)?;
-    note.push("\n")
+    note.push(": ")
 }
 
 /// Appends the last lines of what is kept of standard error.
@@ -61,14 +59,9 @@ fn push_path(note: &mut Note, label: &str, dir: &Text, name: &str) -> Result<(),
 
 /// Appends what is known of a command that ended with a status that is no success.
 fn push_status(alloc: Global, note: &mut Note, entry: &Entry, status: u8) -> Result<(), NoMemory> {
-    let signal = if status == 255 {
-        ", or was killed by a signal"
-    } else {
-        ""
-    };
-    let what = format!(in alloc; "the command ended with status {status}{signal}")?;
-    push_head(alloc, note, entry, what.as_str())?;
-    note.push("  command:\n")?;
+    push_head(alloc, note, entry)?;
+    push_ended(note, status)?;
+    note.push("\n  command:\n")?;
     note.push_lines(entry.request.command.as_str().as_bytes(), COMMAND_LINES)?;
     push_error(note, &entry.answer.err)?;
     push_path(note, "  standard output: ", &entry.request.dir, "_stdout")?;
@@ -76,14 +69,14 @@ fn push_status(alloc: Global, note: &mut Note, entry: &Entry, status: u8) -> Res
 }
 
 /// Appends the names of the files, one a line.
-fn push_files(alloc: Global, note: &mut Note, files: &[Seen]) -> Result<(), NoMemory> {
+fn push_files(note: &mut Note, files: &[Seen]) -> Result<(), NoMemory> {
     for file in files.iter().take(FILE_NAMES) {
         note.push_lines(file.name.as_str().as_bytes(), 1)?;
     }
     if files.len() > FILE_NAMES {
-        let more = files.len() - FILE_NAMES;
-        let line = format!(in alloc; "    and {more} more\n")?;
-        note.push(line.as_str())?;
+        note.push("    and ")?;
+        note.push_number((files.len() - FILE_NAMES) as u64)?;
+        note.push(" more\n")?;
     }
     Ok(())
 }
@@ -96,9 +89,10 @@ fn push_output(
     output: &Text,
     task: Option<&TaskDef>,
 ) -> Result<(), NoMemory> {
-    let name = output.as_str();
-    let what = format!(in alloc; "its output `{name}` has no value")?;
-    push_head(alloc, note, entry, what.as_str())?;
+    push_head(alloc, note, entry)?;
+    note.push("its output `")?;
+    note.push(output.as_str())?;
+    note.push("` has no value\n")?;
     if let Some(task) = task {
         push_file(note, task, output)?;
     }
@@ -108,19 +102,19 @@ fn push_output(
         return note.push("\n  no files are there but _stdout and _stderr\n");
     }
     note.push("\n  files there, beside _stdout and _stderr:\n")?;
-    push_files(alloc, note, entry.answer.files.as_slice())
+    push_files(note, entry.answer.files.as_slice())
 }
 
 /// Returns what is known of a job that failed, in some 30 lines at most: of a status that is no success the command, the
 /// end of what it wrote to standard error, and the paths of its streams; of an output without a value the file that its
 /// expression names and the files that are there. `task` is the task of the job. It is empty where the fault is of no
 /// job of the journal.
-pub fn failed_note(
+pub(crate) fn failed_note(
     alloc: Global,
     fault: &Fault,
     journal: &[Entry],
     task: Option<&TaskDef>,
-) -> Result<Vec<u8>, NoMemory> {
+) -> Result<Note, NoMemory> {
     let mut note = Note::new(alloc);
     if let Some(entry) = last_at(journal, &fault.place) {
         match fault.why {
@@ -128,5 +122,5 @@ pub fn failed_note(
             Why::Code(_) => push_output(alloc, &mut note, entry, &fault.name, task)?,
         }
     }
-    Ok(note.into_bytes())
+    Ok(note)
 }

@@ -1,79 +1,115 @@
-use crate::duration::time_text;
+use crate::attempt::Attempt;
+use crate::duration::push_time;
+use crate::note::Note;
 use crate::tally::Tally;
-use std::alloc::Global;
 use std::time::Duration;
 use wdl_value::NoMemory;
 
 /// What happened to a job.
 #[derive(Clone, Copy)]
-pub enum Event {
-    /// It was put on the desk. Attempts are counted from 0.
-    Started { attempt: u32 },
-    /// Its command ended after this time, where the clock could be read.
-    Ended { status: u8, took: Option<Duration> },
+pub(crate) enum Event {
+    /// It was put on the desk.
+    Started {
+        attempt: Attempt,
+    },
+    /// Its command ended after this time, where the clock could be read. There is an attempt where the status is no success.
+    Ended {
+        status: u8,
+        took: Option<Duration>,
+        failed: Option<Attempt>,
+    },
     /// Its command was not launched.
     Unlaunched,
     /// It took the answer of a row.
     Kept,
 }
 
-/// Returns the text of an event, without a newline.
-pub fn event_text(alloc: Global, place: &str, event: Event) -> Result<String, NoMemory> {
+/// Appends how a command ended.
+fn push_end(
+    note: &mut Note,
+    status: u8,
+    took: Option<Duration>,
+    failed: Option<Attempt>,
+) -> Result<(), NoMemory> {
+    note.push("status ")?;
+    note.push_number(u64::from(status))?;
+    if let Some(took) = took {
+        note.push(" after ")?;
+        push_time(note, took)?;
+    }
+    match failed {
+        Some(attempt) => attempt.push_to(note),
+        None => Ok(()),
+    }
+}
+
+/// Appends an event of the job of a place, without a newline.
+pub(crate) fn push_event(note: &mut Note, place: &str, event: Event) -> Result<(), NoMemory> {
+    note.push(place)?;
+    note.push(": ")?;
     match event {
-        Event::Started { attempt: 0 } => Ok(format!(in alloc; "{place}: started")?),
         Event::Started { attempt } => {
-            let number = u64::from(attempt) + 1;
-            Ok(format!(in alloc; "{place}: started, attempt {number}")?)
+            note.push("started")?;
+            if attempt.is_again() {
+                attempt.push_to(note)?;
+            }
+            Ok(())
         }
-        Event::Ended { status, took: None } => Ok(format!(in alloc; "{place}: status {status}")?),
         Event::Ended {
             status,
-            took: Some(took),
-        } => {
-            let time = time_text(alloc, took)?;
-            Ok(format!(in alloc; "{place}: status {status} after {time}")?)
-        }
-        Event::Unlaunched => Ok(format!(in alloc; "{place}: not launched")?),
-        Event::Kept => Ok(format!(in alloc; "{place}: kept from the journal")?),
+            took,
+            failed,
+        } => push_end(note, status, took, failed),
+        Event::Unlaunched => note.push("not launched"),
+        Event::Kept => note.push("kept from the journal"),
     }
 }
 
-/// Returns the counts of a run as `[12 done, 1 failed, 4 running]`. Failed jobs are named where there are any.
-pub fn counts_text(alloc: Global, tally: &Tally) -> Result<String, NoMemory> {
-    let Tally {
-        running,
-        done,
-        failed,
-        ..
-    } = *tally;
-    if failed == 0 {
-        Ok(format!(in alloc; "[{done} done, {running} running]")?)
-    } else {
-        Ok(format!(in alloc; "[{done} done, {failed} failed, {running} running]")?)
+/// Appends the counts of a run as `[12 done, 1 failed, 4 running]`. Failed jobs are named where there are any.
+pub(crate) fn push_counts(note: &mut Note, tally: &Tally) -> Result<(), NoMemory> {
+    note.push("[")?;
+    note.push_number(tally.done)?;
+    note.push(" done, ")?;
+    if tally.failed > 0 {
+        note.push_number(tally.failed)?;
+        note.push(" failed, ")?;
     }
+    note.push_number(tally.running)?;
+    note.push(" running]")
 }
 
-/// Returns what a run came to, in two lines. `root` is the directory of its jobs.
-pub fn summary_text(
-    alloc: Global,
+/// Appends how many jobs ran, were kept and were tried again.
+fn push_kinds(note: &mut Note, tally: &Tally) -> Result<(), NoMemory> {
+    note.push(" (")?;
+    note.push_number(tally.ran)?;
+    note.push(" ran, ")?;
+    note.push_number(tally.kept)?;
+    note.push(" kept from the journal, ")?;
+    note.push_number(tally.again)?;
+    note.push(" tried again)\n")
+}
+
+/// Appends what a run came to, in two lines. `root` is the directory of its jobs.
+pub(crate) fn push_summary(
+    note: &mut Note,
     tally: &Tally,
     took: Option<Duration>,
     root: &str,
-) -> Result<String, NoMemory> {
-    let Tally {
-        done,
-        failed,
-        ran,
-        kept,
-        again,
-        ..
-    } = *tally;
-    let time = match took {
-        Some(took) => time_text(alloc, took)?,
-        None => String::from_str(alloc, "an unknown time")?,
-    };
-    Ok(format!(in alloc;
-        "{done} jobs done, {failed} failed, in {time} ({ran} ran, {kept} kept from the journal, {again} tried again)\n\
-         the files of each job are below {root}\n"
-    )?)
+) -> Result<(), NoMemory> {
+    note.push_number(tally.done)?;
+    note.push(if tally.done == 1 {
+        " job done, "
+    } else {
+        " jobs done, "
+    })?;
+    note.push_number(tally.failed)?;
+    note.push(" failed, in ")?;
+    match took {
+        Some(took) => push_time(note, took)?,
+        None => note.push("an unknown time")?,
+    }
+    push_kinds(note, tally)?;
+    note.push("the files of each job are below ")?;
+    note.push(root)?;
+    note.push("\n")
 }

@@ -39,7 +39,7 @@ fn target_of(body: &[Statement], name: &Name) -> Option<Target> {
 }
 
 /// Returns the task that the call at a place runs, where there is a call.
-pub fn task_at<'a>(checked: &'a Checked, place: &Place) -> Option<&'a TaskDef> {
+pub(crate) fn task_at<'a>(checked: &'a Checked, place: &Place) -> Option<&'a TaskDef> {
     let flows = checked.flows.as_slice();
     let mut body = flows.get(checked.main? as usize)?.body.as_slice();
     for segment in place.as_slice() {
@@ -119,7 +119,7 @@ fn push_parts(note: &mut Note, parts: &[TPart<TExpr>]) -> Result<(), NoMemory> {
 }
 
 /// Appends the name of the file that an output is about, as its expression spells it, in a line of its own.
-pub fn push_file(note: &mut Note, task: &TaskDef, output: &Text) -> Result<(), NoMemory> {
+pub(crate) fn push_file(note: &mut Note, task: &TaskDef, output: &Text) -> Result<(), NoMemory> {
     let Some(output) = output_of(task, output) else {
         return Ok(());
     };

@@ -3,7 +3,8 @@ use wdl_value::NoMemory;
 
 /// A text of lines that is built up. It holds what programs wrote, so it need not be UTF-8.
 #[derive(Drop)]
-pub struct Note {
+pub(crate) struct Note {
+    alloc: Global,
     bytes: Vec<u8>,
 }
 
@@ -16,7 +17,7 @@ fn split_line(bytes: &[u8]) -> (&[u8], &[u8]) {
 }
 
 /// The last lines of the bytes, at most so many, without the newline at the end.
-pub fn last_lines(bytes: &[u8], most: usize) -> &[u8] {
+pub(crate) fn last_lines(bytes: &[u8], most: usize) -> &[u8] {
     let whole = match bytes {
         [front @ .., b'\n'] => front,
         _ => bytes,
@@ -31,16 +32,23 @@ pub fn last_lines(bytes: &[u8], most: usize) -> &[u8] {
 
 impl Note {
     /// A note without bytes.
-    pub fn new(alloc: Global) -> Note {
+    pub(crate) fn new(alloc: Global) -> Note {
         Note {
+            alloc,
             bytes: Vec::new(alloc),
         }
     }
 
     /// Appends a text.
-    pub fn push(&mut self, text: &str) -> Result<(), NoMemory> {
+    pub(crate) fn push(&mut self, text: &str) -> Result<(), NoMemory> {
         self.bytes.extend_from_slice(text.as_bytes())?;
         Ok(())
+    }
+
+    /// Appends a number.
+    pub(crate) fn push_number(&mut self, number: u64) -> Result<(), NoMemory> {
+        let digits = format!(in self.alloc; "{number}")?;
+        self.push(digits.as_str())
     }
 
     /// Appends what a program wrote, with `?` in place of control characters but tabs, which a terminal would obey.
@@ -57,7 +65,7 @@ impl Note {
     }
 
     /// Appends the first lines of the bytes, at most so many, each with an indent, and `..` where there are more.
-    pub fn push_lines(&mut self, bytes: &[u8], most: usize) -> Result<(), NoMemory> {
+    pub(crate) fn push_lines(&mut self, bytes: &[u8], most: usize) -> Result<(), NoMemory> {
         let mut rest = bytes;
         for _ in 0..most {
             if rest.is_empty() {
@@ -76,7 +84,7 @@ impl Note {
     }
 
     /// The bytes of the note.
-    pub fn into_bytes(self) -> Vec<u8> {
-        self.bytes
+    pub(crate) fn bytes(&self) -> &[u8] {
+        self.bytes.as_slice()
     }
 }

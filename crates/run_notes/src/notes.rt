@@ -1,8 +1,10 @@
+use crate::attempt::Attempt;
 use crate::failure::failed_note;
-use crate::line::{Event, counts_text, event_text, summary_text};
+use crate::line::{Event, push_counts, push_event, push_summary};
 use crate::lookup::task_at;
+use crate::note::Note;
 use crate::tally::Tally;
-use ready_core::Core;
+use ready_core::{Core, Job};
 use std::alloc::Global;
 use std::collections::BTreeMap;
 use std::time::{Clock, Duration, Instant};
@@ -23,10 +25,12 @@ pub enum Style {
     Terminal,
 }
 
-/// A job that is running: when it began, where the clock could be read, and which statuses are its successes.
+/// A job that is running: when it began, where the clock could be read, which attempt it is, and which statuses are its
+/// successes.
 #[derive(Drop)]
 struct Running {
     began: Option<Instant>,
+    attempt: Attempt,
     codes: Success,
 }
 
@@ -54,6 +58,38 @@ fn write_all<N: Sink>(sink: &mut N, bytes: &[u8]) -> bool {
         }
     }
     true
+}
+
+/// Whether a status is a success of a job that had been running. Where the job was not kept, 0 alone is.
+fn has_succeeded(running: &Option<Running>, status: u8) -> bool {
+    match running {
+        Some(running) => running.codes.holds(status),
+        None => status == 0,
+    }
+}
+
+/// Appends the line of an event, with the counts.
+fn push_line(
+    note: &mut Note,
+    style: Style,
+    place: &str,
+    event: Event,
+    tally: &Tally,
+) -> Result<(), NoMemory> {
+    match style {
+        Style::Lines => {
+            push_counts(note, tally)?;
+            note.push(" ")?;
+            push_event(note, place, event)?;
+            note.push("\n")
+        }
+        Style::Terminal => {
+            note.push(CLEAR)?;
+            push_event(note, place, event)?;
+            note.push("\n")?;
+            push_counts(note, tally)
+        }
+    }
 }
 
 impl<'s, N: Sink, C: Clock + Drop> RunNotes<'s, N, C> {
@@ -91,30 +127,53 @@ impl<'s, N: Sink, C: Clock + Drop> RunNotes<'s, N, C> {
     }
 
     /// The line of an event, with the counts.
-    fn line(&self, place: &Place, event: Event) -> Result<String, NoMemory> {
+    fn line(&self, place: &Place, event: Event) -> Result<Note, NoMemory> {
         let place = place_text(self.alloc, place)?;
-        let event = event_text(self.alloc, place.as_str(), event)?;
-        let counts = counts_text(self.alloc, &self.tally)?;
-        match self.style {
-            Style::Lines => Ok(format!(in self.alloc; "{counts} {event}\n")?),
-            Style::Terminal => Ok(format!(in self.alloc; "{CLEAR}{event}\n{counts}")?),
-        }
+        let mut note = Note::new(self.alloc);
+        push_line(&mut note, self.style, place.as_str(), event, &self.tally)?;
+        Ok(note)
     }
 
     fn tell(&mut self, place: &Place, event: Event) {
         if let Ok(line) = self.line(place, event) {
-            self.write(line.as_bytes());
+            self.write(line.bytes());
         }
     }
 
-    /// Keeps the time at which a job began, and its successes.
-    fn start(&mut self, request: &Request, codes: &Success) -> Result<(), NoMemory> {
-        let place = place_text(self.alloc, &request.place)?;
+    /// Keeps the time at which a job began, its attempt and its successes.
+    fn start(&mut self, job: &Job, attempt: Attempt) -> Result<(), NoMemory> {
+        let place = place_text(self.alloc, &job.request().place)?;
         let key = String::from_str(self.alloc, place.as_str())?;
-        let codes = codes.copy(self.alloc)?;
+        let codes = job.codes().copy(self.alloc)?;
         let began = Instant::now(&self.clock).ok();
-        self.running.insert(key, Running { began, codes })?;
+        let running = Running {
+            began,
+            attempt,
+            codes,
+        };
+        self.running.insert(key, running)?;
         Ok(())
+    }
+
+    /// How a job ended that had been running, where it was kept.
+    fn end_of(&self, running: &Option<Running>, status: u8) -> Event {
+        let Some(running) = running else {
+            return Event::Ended {
+                status,
+                took: None,
+                failed: None,
+            };
+        };
+        let failed = if running.codes.holds(status) {
+            None
+        } else {
+            Some(running.attempt)
+        };
+        Event::Ended {
+            status,
+            took: self.since(running.began),
+            failed,
+        }
     }
 
     /// The job of a place, which no longer runs. None where there was no memory to keep it.
@@ -131,16 +190,17 @@ impl<'s, N: Sink, C: Clock + Drop> RunNotes<'s, N, C> {
         let task = task_at(core.checked(), &fault.place);
         if let Ok(note) = failed_note(alloc, fault, core.journal(), task) {
             self.clear();
-            self.write(note.as_slice());
+            self.write(note.bytes());
         }
     }
 
     /// Writes the summary. `root` is the directory of the jobs.
-    pub fn summarize(&mut self, alloc: Global, root: &Text) {
+    fn summarize(&mut self, alloc: Global, root: &Text) {
         let took = self.since(self.began);
         self.clear();
-        if let Ok(text) = summary_text(alloc, &self.tally, took, root.as_str()) {
-            self.write(text.as_bytes());
+        let mut note = Note::new(alloc);
+        if push_summary(&mut note, &self.tally, took, root.as_str()).is_ok() {
+            self.write(note.bytes());
         }
     }
 
@@ -153,21 +213,20 @@ impl<'s, N: Sink, C: Clock + Drop> RunNotes<'s, N, C> {
 }
 
 impl<'s, N: Sink, C: Clock + Drop> Progress for RunNotes<'s, N, C> {
-    fn began(&mut self, request: &Request, codes: &Success) {
+    fn began(&mut self, job: &Job) {
+        let request = job.request();
+        let attempt = Attempt::new(request.attempt, job.retries());
         self.tally.begin(request.attempt);
-        let _ = self.start(request, codes);
-        let attempt = request.attempt;
+        let _ = self.start(job, attempt);
         self.tell(&request.place, Event::Started { attempt });
     }
 
     fn ended(&mut self, entry: &Entry) {
         let status = entry.answer.status;
-        let (succeeded, took) = match self.stop(&entry.request.place) {
-            Some(running) => (running.codes.holds(status), self.since(running.began)),
-            None => (status == 0, None),
-        };
-        self.tally.end(succeeded);
-        self.tell(&entry.request.place, Event::Ended { status, took });
+        let running = self.stop(&entry.request.place);
+        self.tally.end(has_succeeded(&running, status));
+        let event = self.end_of(&running, status);
+        self.tell(&entry.request.place, event);
     }
 
     fn unlaunched(&mut self, request: &Request) {

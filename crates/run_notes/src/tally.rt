@@ -3,7 +3,7 @@ ghost use Rattle.run_notes.specs.Tallies as spec;
 
 /// How many jobs of a run there are of each kind so far. A count stops at the last value of `u64`.
 #[derive(Clone, Copy, Debug, Default, PartialEq, Eq)]
-pub struct Tally {
+pub(crate) struct Tally {
     /// Jobs that were put on the desk and not collected.
     pub running: u64,
     /// Jobs that succeeded, or took the answer of a row.
@@ -30,7 +30,7 @@ impl Tally {
     }
 
     /// Counts a job that was put on the desk.
-    pub fn begin(&mut self, attempt: u32)
+    pub(crate) fn begin(&mut self, attempt: u32)
         ensures tally { self.new ≡ spec.begun attempt self.old }
     {
         self.attempt(attempt);
@@ -38,7 +38,7 @@ impl Tally {
     }
 
     /// Counts the answer of a job that was launched.
-    pub fn end(&mut self, succeeded: bool)
+    pub(crate) fn end(&mut self, succeeded: bool)
         ensures tally { self.new ≡ spec.ended succeeded self.old }
     {
         self.running = self.running.saturating_sub(1);
@@ -51,14 +51,14 @@ impl Tally {
     }
 
     /// Counts a job that came back from the desk without an answer.
-    pub fn give_up(&mut self)
+    pub(crate) fn give_up(&mut self)
         ensures tally { self.new ≡ spec.given_up self.old }
     {
         self.running = self.running.saturating_sub(1);
     }
 
     /// Counts a job that took the answer of a row.
-    pub fn keep(&mut self, attempt: u32)
+    pub(crate) fn keep(&mut self, attempt: u32)
         ensures tally { self.new ≡ spec.kept attempt self.old }
     {
         self.attempt(attempt);

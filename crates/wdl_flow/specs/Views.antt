@@ -38,7 +38,7 @@ abbrev pub requests_in : List AskedJob → List Request
 requests_in = map request_of
 
 abbrev pub codes_of : AskedJob → Successes
-codes_of j = successes_of j.codes
+codes_of j = successes_of j.terms
 
 -- the statuses of success of each job
 abbrev pub codes_in : List AskedJob → List Successes

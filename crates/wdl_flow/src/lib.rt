@@ -24,7 +24,7 @@ pub use flowing::{
 pub use gathering::Gathering;
 pub use given::{Given, ended_as, output_key};
 pub use ground::Ground;
-pub use job::AskedJob;
+pub use job::{AskedJob, Terms};
 pub use known::{Ended, Known};
 pub use mark::place_mark;
 pub use names::Names;

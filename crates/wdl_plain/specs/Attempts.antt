@@ -27,7 +27,7 @@ attempts r n call p = flow.attempts r n call.place.now call.task.now call.name.n
 
 -- the job of an attempt that was prepared
 abbrev pub job_of : Prepared → AskedJob
-job_of p = record { request = p.request; codes = p.codes }
+job_of p = record { request = p.request; terms = p.codes }
 
 -- what was prepared for this call, below the site
 pub record IsPrepared (r : flow.Run) (call : TaskCall) (p : Prepared) : Type 0 where

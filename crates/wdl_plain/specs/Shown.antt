@@ -31,13 +31,13 @@ outputs_where clean names main =
 
 -- which statuses are successes of a job
 abbrev pub statuses_of : AskedJob → Success
-statuses_of j = j.codes
+statuses_of j = j.terms
 
 -- what is shown of a flow
 pub record IsShownAs (f : flow.Flowing) (main : FlowDef) (s : Flow) : Type 0 where
   pub known : s.known ≡ flow.env_of f.names
   pub jobs : s.jobs ≡ f.jobs
-  pub codes : map successes_of s.codes ≡ f.codes
+  pub codes : map successes_of s.terms ≡ f.codes
   pub faults : s.faults ≡ f.faults
   pub waits : s.waits ≡ f.waits
   pub outputs : s.outputs ≡ outputs_if_clean f main

@@ -14,7 +14,8 @@ ghost use Rattle.wdl_flow.specs.Views.{flowing_of, given_of, known_of, knowns_of
 use std::alloc::Global;
 use std::sync::ledger::Ledger;
 use wdl_flow::{
-    AskedJob, Flowing, Given, Ground, Known, ended_as, output_key, waiting, with_fault, with_jobs,
+    AskedJob, Flowing, Given, Ground, Known, Terms, ended_as, output_key, waiting, with_fault,
+    with_jobs,
 };
 use wdl_task::{CallFault, Prepared, conclude, prepare, retry};
 use wdl_typed::TaskDef;
@@ -173,7 +174,8 @@ fn job_of(alloc: Global, prepared: &Prepared) -> Result<AskedJob, NoMemory>
 {
     let request = prepared.request.copy(alloc)?;
     let codes = prepared.codes.copy(alloc)?;
-    Ok(AskedJob { request, codes })
+    let terms = Terms::new(codes, prepared.retries);
+    Ok(AskedJob { request, terms })
 }
 
 /// The attempts of a call, from the first on.

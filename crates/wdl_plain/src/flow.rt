@@ -11,18 +11,18 @@ use crate::callee::names_of;
 use crate::walk::{Reach, flow_of};
 use std::alloc::Global;
 use std::sync::ledger::Ledger;
-use wdl_flow::{Answers, AskedJob, Flowing, Ground, Known, Names, PlainFault};
-use wdl_typed::{Checked, FlowDef, Success, TDecl};
+use wdl_flow::{Answers, AskedJob, Flowing, Ground, Known, Names, PlainFault, Terms};
+use wdl_typed::{Checked, FlowDef, TDecl};
 use wdl_value::{Bind, Entry, Env, Fault, Items, Key, NoMemory, Place, Request, Steps, Text};
 
-/// What a workflow gives over a journal: the names with a value, the requests, for each of these which statuses are
-/// successes, the faults and the places that wait for an answer, each in the order of the definition, and the outputs where
-/// there are no faults and no waits.
+/// What a workflow gives over a journal: the names with a value, the requests, for each of these the terms of its job, the
+/// faults and the places that wait for an answer, each in the order of the definition, and the outputs where there are no
+/// faults and no waits.
 #[derive(Debug, Drop)]
 pub struct Flow {
     pub known: Items<Bind>,
     pub jobs: Items<Request>,
-    pub codes: Items<Success>,
+    pub terms: Items<Terms>,
     pub faults: Items<Fault>,
     pub waits: Items<Place>,
     pub outputs: Option<Env>,
@@ -90,36 +90,36 @@ fn outputs_of(
     Ok(Some(outputs))
 }
 
-/// The requests of jobs, and which statuses are successes of each.
+/// The requests of jobs, and the terms of each.
 fn split(
     alloc: Global,
     mut jobs: Items<AskedJob>,
-) -> Result<(Items<Request>, Items<Success>), NoMemory>
+) -> Result<(Items<Request>, Items<Terms>), NoMemory>
     ensures { IfOk result (λ s. s ≡ (requests_in jobs, map spec.statuses_of jobs)) }
 {
     let mut requests = Vec::with_capacity(alloc, jobs.len())?;
-    let mut codes = Vec::with_capacity(alloc, jobs.len())?;
+    let mut terms = Vec::with_capacity(alloc, jobs.len())?;
     while let Some(job) = jobs.pop() {
         requests.push(job.request)?;
-        codes.push(job.codes)?;
+        terms.push(job.terms)?;
     }
     requests.reverse();
-    codes.reverse();
-    Ok((Items::from_vec(requests), Items::from_vec(codes)))
+    terms.reverse();
+    Ok((Items::from_vec(requests), Items::from_vec(terms)))
 }
 
 fn shown(alloc: Global, main: &FlowDef, flow: Flowing) -> Result<Flow, NoMemory>
     ensures shown { IfOk result (spec.IsShownAs (flowing_of flow) main.now) }
-    ensures paired { IfOk result (λ s. length s.codes ≡ length s.jobs) }
+    ensures paired { IfOk result (λ s. length s.terms ≡ length s.jobs) }
 {
     let clean = flow.is_clean();
     let known = env_of(alloc, flow.names.as_slice())?;
     let outputs = outputs_of(alloc, main, flow.names, clean)?;
-    let (jobs, codes) = split(alloc, flow.jobs)?;
+    let (jobs, terms) = split(alloc, flow.jobs)?;
     Ok(Flow {
         known,
         jobs,
-        codes,
+        terms,
         faults: flow.faults,
         waits: flow.waits,
         outputs,
@@ -127,7 +127,7 @@ fn shown(alloc: Global, main: &FlowDef, flow: Flowing) -> Result<Flow, NoMemory>
 }
 
 /// What the main workflow gives for its inputs over a journal, evaluated from scratch. `TooMany` exactly where it has more
-/// than 20,000 jobs or more than 1,000,000 instances of statements. There are as many statuses of success as requests.
+/// than 20,000 jobs or more than 1,000,000 instances of statements. There are as many terms as requests.
 pub fn flow_now<L: Ledger>(
     alloc: Global,
     checked: &Checked,
@@ -139,7 +139,7 @@ pub fn flow_now<L: Ledger>(
     requires main { IsSome checked.now.main }
     requires fit { (k : ℕ) (main : FlowDef) → checked.now.main ≡ Some k → slice_get checked.now.flows k ≡ Some main → inputs_fit checked.now.structs main.inputs inputs.now ≡ true }
     ensures shown { spec.IsShown checked.now inputs.now site.now journal.now result }
-    ensures paired { IfOk result (λ f. length f.codes ≡ length f.jobs) }
+    ensures paired { IfOk result (λ f. length f.terms ≡ length f.jobs) }
 {
     let Some(k) = checked.main else {
         unreachable!();

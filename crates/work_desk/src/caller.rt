@@ -80,7 +80,7 @@ impl<P: Pact> Caller<P> {
             return false;
         };
         let Some(found) = rows.find(&job) else {
-            observer.began(job.request(), job.codes());
+            observer.began(&job);
             desk.put(rt, job, &mut self.shares);
             return true;
         };

@@ -1,6 +1,6 @@
 use crate::progress::Progress;
+use ready_core::Job;
 use std::sync::ledger::Ledger;
-use wdl_typed::Success;
 use wdl_value::{Entry, Request, Steps};
 
 /// What observes a run: its progress, and the counter of its evaluations. A closure that takes both through it holds no
@@ -18,8 +18,8 @@ pub(crate) struct Lent<'s, T: Progress, S: Ledger> {
 }
 
 impl<'s, T: Progress, S: Ledger> Progress for Lent<'s, T, S> {
-    fn began(&mut self, request: &Request, codes: &Success) {
-        self.progress.began(request, codes);
+    fn began(&mut self, job: &Job) {
+        self.progress.began(job);
     }
 
     fn ended(&mut self, entry: &Entry) {

@@ -1,10 +1,10 @@
-use wdl_typed::Success;
+use ready_core::Job;
 use wdl_value::{Entry, Request};
 
 /// Sees a run as it goes on, for a person. Only the caller's thread calls it, and no call changes what the run does.
 pub trait Progress {
-    /// A job was put on the desk, to be launched. Its successes are the statuses for which `codes` holds.
-    fn began(&mut self, request: &Request, codes: &Success);
+    /// A job is put on the desk, to be launched.
+    fn began(&mut self, job: &Job);
 
     /// The answer of a job that was launched was collected.
     fn ended(&mut self, entry: &Entry);

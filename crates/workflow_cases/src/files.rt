@@ -28,6 +28,13 @@ pub fn begin_version(text: &mut String, rest: &str) -> Result<(), Fail> {
     Ok(())
 }
 
+/// A line with its newline.
+pub fn push_line(text: &mut String, rest: &str) -> Result<(), Fail> {
+    text.push_str(rest)?;
+    text.push('\n')?;
+    Ok(())
+}
+
 /// So many copies: `NUMBER PIECE`.
 pub fn push_times(text: &mut String, rest: &str) -> Result<(), Fail> {
     let (number, piece) = rest.split_once(' ').unwrap_or((rest, ""));

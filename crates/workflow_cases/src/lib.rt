@@ -3,7 +3,7 @@
 //! A case is lines of a word and what follows it. These make files of the shelf:
 //!
 //! - `say SECTION` begins a text with the task `say` that has that section too, and `version TEXT` one with that text;
-//! - `text TEXT` and `times NUMBER PIECE` append to the text, and `file PATH` puts it on the shelf;
+//! - `text TEXT`, `line TEXT` with a newline, and `times NUMBER PIECE` append to the text, and `file PATH` puts it on the shelf;
 //! - `inputs TEXT` puts that text on the shelf as `i.json`; `lost NUMBER` lets the read of that number fail, and `unkept NUMBER`
 //!   the call of that number of the journal's keeper.
 //!

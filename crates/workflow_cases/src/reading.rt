@@ -1,5 +1,5 @@
 use crate::answers::{push_answer, push_letters, push_other, push_seen};
-use crate::files::{begin_say, begin_version, push_file, push_times};
+use crate::files::{begin_say, begin_version, push_file, push_line, push_times};
 use std::alloc::Global;
 use std::test::Fail;
 use wdl_port::{MapKeeper, MemoryShelf, MemorySink, TableRow};
@@ -78,6 +78,7 @@ fn read_file_line(alloc: Global, case: &mut Case, word: &str, rest: &str) -> Res
         "say" => begin_say(&mut case.text, rest)?,
         "version" => begin_version(&mut case.text, rest)?,
         "text" => case.text.push_str(rest)?,
+        "line" => push_line(&mut case.text, rest)?,
         "times" => push_times(&mut case.text, rest)?,
         "file" => {
             push_file(alloc, &mut case.shelf.files, rest, case.text.as_bytes())?;

@@ -14,13 +14,43 @@ use wdl_value::Steps;
 use workflow_cli::{Ended, RecallingShelf, workflow};
 
 /// How a call ended, what was written, and the journal's keeper.
-#[derive(Drop)]
 pub struct Outcome {
     pub ended: Ended,
     pub out: MemorySink,
     pub err: MemorySink,
     pub notes: MemorySink,
     pub keeper: MapKeeper,
+}
+
+impl Drop for Outcome {
+    fn drop(self) {
+        let Outcome {
+            ended,
+            out,
+            err,
+            notes,
+            keeper,
+        } = self;
+        drop(ended);
+        drop(out);
+        drop(err);
+        drop(notes);
+        drop(keeper);
+    }
+}
+
+impl Outcome {
+    /// The journal's keeper alone.
+    pub fn into_keeper(self) -> MapKeeper {
+        let Outcome {
+            ended: _,
+            out: _,
+            err: _,
+            notes: _,
+            keeper,
+        } = self;
+        keeper
+    }
 }
 
 fn run<L: Launcher + Sync, K: Keeper, R: Threads + Wait + Clock + Sync, S: Ledger>(

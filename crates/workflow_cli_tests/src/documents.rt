@@ -212,19 +212,10 @@ $ run --inputs i.json w.wdl
 > ! cannot read i.json"#;
 
 #[test]
-fn imports_are_read(rt: HostRuntime) -> Result<(), Fail> {
-    assert_eq!(rt; first_mistake(&rt, rt.alloc(), IMPORTS)?.as_str(), "");
-    Ok(())
-}
-
-#[test]
-fn texts_are_read_to_their_limits(rt: HostRuntime) -> Result<(), Fail> {
-    assert_eq!(rt; first_mistake(&rt, rt.alloc(), TEXTS)?.as_str(), "");
-    Ok(())
-}
-
-#[test]
-fn documents_are_checked(rt: HostRuntime) -> Result<(), Fail> {
-    assert_eq!(rt; first_mistake(&rt, rt.alloc(), CHECKS)?.as_str(), "");
+fn documents_are_read_and_checked(rt: HostRuntime) -> Result<(), Fail> {
+    let alloc = rt.alloc();
+    assert_eq!(rt; first_mistake(&rt, alloc, IMPORTS)?.as_str(), "");
+    assert_eq!(rt; first_mistake(&rt, alloc, TEXTS)?.as_str(), "");
+    assert_eq!(rt; first_mistake(&rt, alloc, CHECKS)?.as_str(), "");
     Ok(())
 }

@@ -61,13 +61,9 @@ room 1 100
 > ! cannot write"#;
 
 #[test]
-fn the_inputs_of_a_workflow_are_a_form(rt: HostRuntime) -> Result<(), Fail> {
-    assert_eq!(rt; first_mistake(&rt, rt.alloc(), FORMS)?.as_str(), "");
-    Ok(())
-}
-
-#[test]
-fn a_form_is_of_a_main_workflow(rt: HostRuntime) -> Result<(), Fail> {
-    assert_eq!(rt; first_mistake(&rt, rt.alloc(), REFUSED)?.as_str(), "");
+fn the_inputs_of_a_main_workflow_are_a_form(rt: HostRuntime) -> Result<(), Fail> {
+    let alloc = rt.alloc();
+    assert_eq!(rt; first_mistake(&rt, alloc, FORMS)?.as_str(), "");
+    assert_eq!(rt; first_mistake(&rt, alloc, REFUSED)?.as_str(), "");
     Ok(())
 }

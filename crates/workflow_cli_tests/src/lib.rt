@@ -1,17 +1,29 @@
-//! Tests of the top call, in a crate of their own: the gate proves a crate once more for the tests in it. Runs are tested in
-//! `workflow_runs_tests`.
+//! Tests of the top call, in a crate of their own: the gate proves a crate once more for the tests in it. They are one crate, since each
+//! crate of tests above the top call is linked and compiled with the whole program.
 #![tactic(auto)]
 
+#[cfg(test)]
+mod calls;
 #[cfg(test)]
 mod cwl;
 #[cfg(test)]
 mod documents;
 #[cfg(test)]
+mod ends;
+#[cfg(test)]
 mod forms;
 #[cfg(test)]
 mod inputs;
 #[cfg(test)]
+mod lanes;
+#[cfg(test)]
 mod notes;
+#[cfg(test)]
+mod progress;
+#[cfg(test)]
+mod resume;
+#[cfg(test)]
+mod sentences;
 #[cfg(test)]
 mod streams;
 #[cfg(test)]

@@ -15,4 +15,4 @@ returns-in-Some-clause-job c h =
     let i = c.self.inside in
     let r = c.args.job.now.request in
     let place = moved_place c.as_slice.result.now i.log.out.items c.request.result.now r (Some c.in-Some.field-0) c.as_slice.ensures.value c.request.ensures.request c.in-Some.ensures.place in
-    subst (λ (s : CoreState). Contains (flow_of s).jobs r) c.self.view_is (place_job i.over i.log i.turn c.in-Some.field-0 r c.self.invariant place)
+    subst (λ (s : CoreState). Contains (flow_of s).jobs r) c.self.view_is (place_job i.course i.log i.turn c.in-Some.field-0 r c.self.invariant place)

@@ -1,6 +1,12 @@
-use Rattle.ready_core.proofs.Running.{run_started}
+use Rattle.std.proofs.Common.{IsSome, length, subst, sym, vec_len}
+use Rattle.ready_core.specs.Cores.{Origin}
+use Rattle.ready_core.proofs.Running.{room_first, run_started}
 use Rattle.ready_core.proofs.ready.Core.new.Goals as goal
 
 pub invariant_of-result : goal.invariant_of-result
 invariant_of-result g c =
-    run_started _ c.new-log.result c.turn_with_room.new.log c.in_ok-turn.turn c.requires.main c.requires.fit c.new-log.ensures.empty c.turn_with_room.ensures.same c.in_ok-turn.ensures.turn c.in_ok-turn.ensures.room
+    let b = c.in_ok-course.field-0 in
+    let log = c.make_room.new.self in
+    run_started b.course c.new-log.result log b.turn (subst (λ (o : Origin). IsSome o.checked.main) (sym c.in_ok-course.ensures.origin) c.requires.main) c.in_ok-course.ensures.course
+    c.in_ok-course.ensures.first c.new-log.ensures.empty c.make_room.ensures.same
+    (room_first (vec_len b.turn.ready) (length c.as_slice.result.now) _ log c.in_ok-make_room.ensures.room c.as_slice.ensures.len)

@@ -1,8 +1,9 @@
-use Rattle.std.proofs.Common.{Contains, None, Some, ap, refl, subst, sym}
+use Rattle.std.proofs.Common.{Contains, None, Some, ap, refl, subst, sym, ◌∙◌}
 use Rattle.wdl_base.specs.declared.entry.Entry.{Entry}
+use Rattle.ready_core.specs.declared.course.Course.{Course}
 use Rattle.ready_core.specs.Cores.{CoreState, Settles, requests}
-use Rattle.ready_core.specs.Inside.{state}
-use Rattle.ready_core.proofs.Running.{moved_place, none_out, place_held, run_settled, state_settled}
+use Rattle.ready_core.specs.Inside.{IsRun, state}
+use Rattle.ready_core.proofs.Running.{moved_next, moved_on, moved_place, none_out, place_held, run_settled, state_kept, state_settled}
 use Rattle.ready_core.proofs.ready.Core.settle.Goals as goal
 
 pub returns-in_default-clause-fault : goal.returns-in_default-clause-fault
@@ -12,25 +13,42 @@ returns-in_default-clause-fault g c =
     let place = moved_place c.as_slice.result.now out c.entry.result.now.request r None c.as_slice.ensures.value (ap (λ (e : Entry). e.request) c.entry.ensures.entry) c.in_default.ensures.place in
     (refl, λ h. none_out out r place (subst (λ (s : CoreState). Contains (requests s.out) r) (sym c.self.view_is) h))
 
-pub invariant_of-self : goal.invariant_of-self
-invariant_of-self g c =
-    let i = c.self.inside in
-    let r = c.args.a.request in
-    let place = moved_place c.as_slice.result.now i.log.out.items c.entry.result.now.request r (Some c.in-Some.at) c.as_slice.ensures.value (ap (λ (e : Entry). e.request) c.entry.ensures.entry) c.in-Some.ensures.place in
-    run_settled i.over i.log c.next_turn.new.log c.settle.new.self i.turn c.in-Ok.turn c.follow.new.self c.in-Some.at c.args.a c.self.invariant place c.next_turn.ensures.same c.in-Ok.ensures.entry c.in-Ok.ensures.turn c.settle.ensures.settles
-    c.in-Ok.ensures.room c.follow.ensures.ready c.follow.ensures.fault c.follow.ensures.many c.follow.ensures.outcome
-
-pub returns-in-Ok-clause-ok : goal.returns-in-Ok-clause-ok
-returns-in-Ok-clause-ok g c =
-    let i = c.self.inside in
-    let r = c.args.a.request in
-    let place = moved_place c.as_slice.result.now i.log.out.items c.entry.result.now.request r (Some c.in-Some.at) c.as_slice.ensures.value (ap (λ (e : Entry). e.request) c.entry.ensures.entry) c.in-Some.ensures.place in
-    subst (λ (s : CoreState). Settles s c.args.a (state i.over c.settle.new.self)) c.self.view_is
-    (state_settled i.over i.log c.next_turn.new.log c.settle.new.self i.turn c.in-Ok.turn c.follow.new.self c.in-Some.at c.args.a c.self.invariant place c.next_turn.ensures.same c.in-Ok.ensures.entry c.in-Ok.ensures.turn c.settle.ensures.settles)
-
-pub returns-in-Err-clause-fault : goal.returns-in-Err-clause-fault
-returns-in-Err-clause-fault g c =
+pub next_turn-requires-clause-held : goal.next_turn-requires-clause-held
+next_turn-requires-clause-held g c =
     let out = c.self.inside.log.out.items in
     let r = c.args.a.request in
     let place = moved_place c.as_slice.result.now out c.entry.result.now.request r (Some c.in-Some.at) c.as_slice.ensures.value (ap (λ (e : Entry). e.request) c.entry.ensures.entry) c.in-Some.ensures.place in
-    (c.in-Err.ensures.back, subst (λ (s : CoreState). Contains (requests s.out) r) c.self.view_is (place_held out c.in-Some.at r place))
+    subst (λ (e : Entry). Contains (requests out) e.request) (sym c.entry-2.ensures.entry) (place_held out c.in-Some.at r place)
+
+pub returns-in_default-next_turn-clause-fault : goal.returns-in_default-next_turn-clause-fault
+returns-in_default-next_turn-clause-fault g c =
+    let out = c.self.inside.log.out.items in
+    let r = c.args.a.request in
+    let place = moved_place c.as_slice.result.now out c.entry.result.now.request r (Some c.in-Some.at) c.as_slice.ensures.value (ap (λ (e : Entry). e.request) c.entry.ensures.entry) c.in-Some.ensures.place in
+    (refl, subst (λ (s : CoreState). Contains (requests s.out) r) c.self.view_is (place_held out c.in-Some.at r place))
+
+pub invariant_of-self-2 : goal.invariant_of-self-2
+invariant_of-self-2 g c =
+    let i = c.self.inside in
+    let n = c.next_turn.new in
+    let h = c.in-Ok.ensures in
+    let place =
+    moved_place c.as_slice.result.now n.log.out.items c.entry.result.now.request c.args.a.request (Some c.in-Some.at) (c.as_slice.ensures.value ∙ sym h.log.out) (ap (λ (e : Entry). e.request) c.entry.ensures.entry)
+    c.in-Some.ensures.place in
+    let next = moved_next _ _ i.log.journal.items n.log.journal.items c.entry-2.result.now c.args.a c.in-Ok.next h.origin h.log.journal c.entry-2.ensures.entry h.next in
+    let on = moved_on _ _ i.log.journal.items n.log.journal.items c.entry-2.result.now c.args.a h.log.journal c.entry-2.ensures.entry h.course in
+    subst (λ (x : Course). IsRun x c.settle.new.self c.follow.new.self) (sym c.keep.ensures.kept)
+    (run_settled n.course n.log c.settle.new.self n.turn c.in-Ok.next c.follow.new.self c.in-Some.at c.args.a h.run place next c.settle.ensures.settles c.follow.ensures.followed on h.room)
+
+pub returns-clause-ok : goal.returns-clause-ok
+returns-clause-ok g c =
+    let i = c.self.inside in
+    let n = c.next_turn.new in
+    let h = c.in-Ok.ensures in
+    let place =
+    moved_place c.as_slice.result.now n.log.out.items c.entry.result.now.request c.args.a.request (Some c.in-Some.at) (c.as_slice.ensures.value ∙ sym h.log.out) (ap (λ (e : Entry). e.request) c.entry.ensures.entry)
+    c.in-Some.ensures.place in
+    let next = moved_next _ _ i.log.journal.items n.log.journal.items c.entry-2.result.now c.args.a c.in-Ok.next h.origin h.log.journal c.entry-2.ensures.entry h.next in
+    subst (λ (s : CoreState). Settles s c.args.a (state c.keep.new.self c.settle.new.self)) (state_kept i.course n.course i.log n.log h.origin h.log ∙ c.self.view_is)
+    (subst (λ (x : Course). Settles (state n.course n.log) c.args.a (state x c.settle.new.self)) (sym c.keep.ensures.kept)
+    (state_settled n.course n.log c.settle.new.self n.turn c.in-Ok.next c.follow.new.self c.in-Some.at c.args.a h.run place next c.settle.ensures.settles))

@@ -8,11 +8,11 @@ use Rattle.ready_core.proofs.ready.Core.take.Goals as goal
 
 pub invariant_of-self-2 : goal.invariant_of-self-2
 invariant_of-self-2 c =
-    run_taken c.self.inside.over c.self.inside.log c.take.new.self c.self.inside.turn _ c.in-Some.pending c.self.invariant c.take.ensures.takes c.in-Some.ensures.items refl refl refl c.in-Some.ensures.cases
+    run_taken c.self.inside.course c.self.inside.log c.take.new.self c.self.inside.turn _ c.in-Some.pending c.self.invariant c.take.ensures.takes c.in-Some.ensures.items refl refl refl c.in-Some.ensures.cases
 
 pub returns : goal.returns
 returns c =
-    let o = c.self.inside.over in
+    let o = c.self.inside.course in
     let after : Turn = record { ready = c.pop.new.self; fault = c.self.inside.turn.fault; many = c.self.inside.turn.many; outcome = c.self.inside.turn.outcome } in
     record {
       taken =

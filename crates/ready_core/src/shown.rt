@@ -1,0 +1,103 @@
+//! What a plan shows.
+
+ghost use Rattle.std.specs.Prelude.{◌≡◌, ◌≤◌, false, IfOk, length, map, reverse};
+ghost use Rattle.ready_core.specs.Turns as turns;
+
+use crate::pending::Pending;
+use crate::turn::Turn;
+use scatter_plan::Plan;
+use std::alloc::Global;
+use wdl_flow::Terms;
+use wdl_task::Prepared;
+use wdl_value::{Bind, Env, Fault, Items, NoMemory};
+
+/// The first of the faults.
+fn first_of(alloc: Global, faults: &[Fault]) -> Result<Option<Fault>, NoMemory>
+    ensures first { IfOk result (λ f. f ≡ turns.first_fault faults.now) }
+{
+    match faults.get(0) {
+        Some(fault) => Ok(Some(fault.copy(alloc)?)),
+        None => Ok(None),
+    }
+}
+
+/// The job of an attempt that waits.
+fn pending_of(alloc: Global, prepared: &Prepared) -> Result<Pending, NoMemory>
+    ensures job { IfOk result (λ p. p ≡ turns.job_in prepared.now) }
+{
+    let request = prepared.request.copy(alloc)?;
+    let terms = Terms::new(prepared.codes.copy(alloc)?, prepared.retries);
+    Pending::new(alloc, request, terms)
+}
+
+/// The jobs of the attempts that wait, the first one last.
+fn pending_among(alloc: Global, waiting: &[Prepared]) -> Result<Vec<Pending>, NoMemory>
+    ensures jobs { IfOk result (λ r. r.items ≡ reverse (map turns.job_in waiting.now)) }
+{
+    let mut ready = Vec::new(alloc);
+    for prepared in waiting {
+        ready.push(pending_of(alloc, prepared)?)?;
+    }
+    ready.reverse();
+    Ok(ready)
+}
+
+/// The same, and none where there is a fault.
+fn pending_unless(
+    alloc: Global,
+    fault: &Option<Fault>,
+    waiting: &[Prepared],
+) -> Result<Vec<Pending>, NoMemory>
+    ensures jobs { IfOk result (λ r. r.items ≡ turns.unless_fault fault.now (reverse (map turns.job_in waiting.now))) }
+{
+    match fault {
+        Some(_) => Ok(Vec::new(alloc)),
+        None => pending_among(alloc, waiting),
+    }
+}
+
+/// A copy of the outputs of a plan, where there are some.
+fn copy_outputs(alloc: Global, plan: &Plan) -> Result<Option<Env>, NoMemory>
+    requires kept { plan.now.spent ≡ false }
+    ensures outputs { IfOk result (λ o. o ≡ plan.now.outputs) }
+{
+    match plan.outputs() {
+        Some(outputs) => Ok(Some(copy_env(alloc, outputs.as_slice())?)),
+        None => Ok(None),
+    }
+}
+
+fn copy_env(alloc: Global, binds: &[Bind]) -> Result<Env, NoMemory>
+    ensures binds { IfOk result (λ e. e ≡ binds.now) }
+{
+    let mut env = Items::new(alloc);
+    for bind in binds {
+        env.push(copy_bind(alloc, bind)?)?;
+    }
+    Ok(env)
+}
+
+fn copy_bind(alloc: Global, bind: &Bind) -> Result<Bind, NoMemory>
+    ensures bind { IfOk result (λ b. b ≡ bind.now) }
+{
+    let key = bind.key.copy(alloc)?;
+    let value = bind.value.copy(alloc)?;
+    Ok(Bind { key, value })
+}
+
+/// What a plan shows: the jobs that wait, from a number on, a fault, and the outputs.
+pub fn shown_by(alloc: Global, plan: &Plan, from: usize) -> Result<Turn, NoMemory>
+    requires kept { plan.now.spent ≡ false }
+    requires within { from ≤ length plan.now.ready }
+    ensures shown { IfOk result (turns.IsShownBy plan.now from) }
+{
+    let fault = first_of(alloc, plan.faults())?;
+    let ready = pending_unless(alloc, &fault, &plan.ready()[from..])?;
+    let outcome = copy_outputs(alloc, plan)?;
+    Ok(Turn {
+        ready,
+        fault,
+        many: false,
+        outcome,
+    })
+}

@@ -1,0 +1,9 @@
+//! A plan of a workflow: cells that are set once, and steps that are done once, when all that they need is set. What an answer
+//! changes is done when it arrives, and nothing else is done again.
+#![tactic(auto)]
+
+mod fault;
+mod plan;
+
+pub use fault::{PlanFault, Unplanned};
+pub use plan::Plan;
