@@ -1,4 +1,6 @@
 -- A call that was asked is that of a statement of the plan.
+use Rattle.wdl_base.specs.declared.place.Segment.{Segment}
+use Rattle.wdl_base.specs.declared.place.Segment.TheVariants as segment
 use Rattle.std.proofs.Common.{◌≡◌, ◌<◌, ◌≤◌, ◌+◌, ℕ, zero, suc, Bool, true, false, List, [], ◌∷◌, ◌++◌, All, map, length, get_or, Option, Some, None, slice_get, arith, ap, refl, subst, sym, ◌∙◌}
 use Rattle.std.proofs.lemmas.Bool.{true≢false}
 use Rattle.std.proofs.lemmas.Option.{slice_get_within}
@@ -76,6 +78,20 @@ rule_layer (declares name e s c) = None
 rule_layer (gathers parts c) = None
 rule_layer (ends parts c) = None
 rule_layer (copies from c) = None
+
+abbrev rule_statement : net.Rule → Option Statement
+rule_statement (does x s g d) = Some x
+rule_statement (declares name e s c) = None
+rule_statement (gathers parts c) = None
+rule_statement (ends parts c) = None
+rule_statement (copies from c) = None
+
+abbrev rule_place : net.Rule → Option (List Segment)
+rule_place (does x s g d) = Some s.place
+rule_place (declares name e s c) = None
+rule_place (gathers parts c) = None
+rule_place (ends parts c) = None
+rule_place (copies from c) = None
 
 abbrev rule_given : net.Rule → Option Given
 rule_given (does x s g d) = Some g
@@ -181,6 +197,12 @@ module _ (lib : Library) (layout : Layout) (site : List ℕ) (rows : List Row) (
     is_call : out-Statement means.statement ≡ layer.Call x
     is_call = some_same (sym (ap rule_layer means.means) ∙ ap (λ (y : Statement-F Statement). Some y) (stmt.outs-Call x))
 
+    statement_is : means.statement ≡ stmt.Call x
+    statement_is = sym (some_same (ap rule_statement means.means))
+
+    place_is : c.place ≡ means.instance.place ++ segment.Call x.name ∷ []
+    place_is = q.place ∙ ap (λ (p : List Segment). p ++ segment.Call x.name ∷ []) (some_same (ap rule_place means.means))
+
     given_is : q.given ≡ given_by bases a n
     given_is = some_same (ap rule_given means.means) ∙ ap (λ (y : Statement-F Statement). given_by bases a (given_at lib y)) is_call
 
@@ -251,7 +273,9 @@ module _ (lib : Library) (layout : Layout) (site : List ℕ) (rows : List Row) (
           statement = means.statement;
           statement_there = means.statement_there;
           some = omega (arith, deep);
+          statement_is = statement_is;
           is_call = is_call;
+          place = place_is;
           number = q.calls_task.number;
           target_is = q.calls_task.is;
           task_there = q.calls_task.found;

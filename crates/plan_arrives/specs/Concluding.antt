@@ -1,11 +1,13 @@
 -- A call that was asked, as the plan has it: its statement and line, its task, and its cells once it has ended.
-use Rattle.std.specs.Prelude.{◌≡◌, ◌<◌, ◌+◌, ℕ, true, List, Some, Ok, length, slice_get}
+use Rattle.std.specs.Prelude.{◌≡◌, ◌<◌, ◌+◌, ℕ, true, List, Some, Ok, length, slice_get, [], ◌∷◌, ◌++◌}
 use Rattle.wdl_base.specs.declared.answer.Answer.{Answer}
+use Rattle.wdl_base.specs.declared.place.Segment.TheVariants as segment
 use Rattle.wdl_value.specs.declared.env.Bind.{Bind}
 use Rattle.wdl_value.specs.Tables.{Row}
 use Rattle.wdl_typed.specs.declared.flow.FlowDef.{FlowDef}
 use Rattle.wdl_typed.specs.declared.flow.Statement.{Statement, out-Statement}
 use Rattle.wdl_typed.specs.declared.flow.Statement.TheOpen as layer
+use Rattle.wdl_typed.specs.declared.flow.Statement.TheVariants as stmt
 use Rattle.wdl_typed.specs.declared.flow.Target.TheVariants as target
 use Rattle.wdl_typed.specs.Bodies.{Library}
 use Rattle.wdl_typed.specs.Declarations.{task_typed}
@@ -46,7 +48,9 @@ module _ (lib : Library) (layout : Layout) (site : List ℕ) (rows : List Row) (
     pub statement_there : slice_get (body_at flow.body body.path) k ≡ Some statement
     pub some : 0 < length instance.bases
     -- what it calls
+    pub statement_is : statement ≡ stmt.Call q.call
     pub is_call : out-Statement statement ≡ layer.Call q.call
+    pub place : c.place ≡ instance.place ++ segment.Call q.call.name ∷ []
     pub number : ℕ
     pub target_is : q.call.target ≡ target.Task number
     pub task_there : slice_get lib.tasks number ≡ Some c.task
