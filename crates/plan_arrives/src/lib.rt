@@ -3,4 +3,4 @@
 
 mod laws;
 
-pub use laws::answers_go_on;
+pub use laws::{answers_go_on, calls_conclude};

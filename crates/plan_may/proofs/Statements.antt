@@ -70,7 +70,7 @@ last_base_at bases level e = let same : length bases - 1 ≡ level = omega (arit
 -- ---- what a line's layout tells
 
 -- the slots of a statement and its needs, by what it is
-record LineLaid (lib : Library) (a : Stand) (l : StatementLayout) (y : Statement-F Statement) : Type 0 where
+pub record LineLaid (lib : Library) (a : Stand) (l : StatementLayout) (y : Statement-F Statement) : Type 0 where
   pub slots : HasSlots (given_at lib y) a l.done l
   pub needs : HasNeeds a (keys_at y) (after_at y) l
 
@@ -92,7 +92,7 @@ module _ (lib : Library) (flow : ℕ) (root : List Statement) (bodies : List Bod
   says (laid.laid_next x xs a l ls sees p q) = tt
   says (laid.laid_whole ss names calls path before after b runs p) = tt
 
-  abbrev line_laid : (x : Statement) (a : Stand) (l : StatementLayout) → Laid (Sees lib) lib flow root bodies (laid.one x a l) → LineLaid lib a l (out-Statement x)
+  pub line_laid : (x : Statement) (a : Stand) (l : StatementLayout) → Laid (Sees lib) lib flow root bodies (laid.one x a l) → LineLaid lib a l (out-Statement x)
   line_laid x a l p = says p
 
 -- ---- the step's own cells
@@ -139,7 +139,7 @@ expr_may lib values bases seen s same e needs is all more set ready =
 
 -- ---- what is called
 
-task_keys : (lib : Library) (call : List ℕ) (k : ℕ) (t : TaskDef) → slice_get lib.tasks k ≡ Some t → length (signature_keys call (signature lib (target.Task k))) ≡ length t.outputs
+pub task_keys : (lib : Library) (call : List ℕ) (k : ℕ) (t : TaskDef) → slice_get lib.tasks k ≡ Some t → length (signature_keys call (signature lib (target.Task k))) ≡ length t.outputs
 task_keys lib call k t e =
     ap (λ (o : Option TaskDef). length (signature_keys call (option_and_then (λ (g : TaskDef). Some (task_signature g)) o))) e ∙ output_keys_count call t.outputs
 
