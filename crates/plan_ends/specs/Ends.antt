@@ -20,7 +20,7 @@ use Rattle.plan_lists.specs.Lists.{JobTest, Listed, unanswered}
 use Rattle.plan_layout.specs.declared.layout.Layout.{Layout}
 use Rattle.plan_growth.specs.declared.instance.Instance.{Instance}
 use Rattle.plan_growth.specs.Entering.{Sown}
-use Rattle.plan_growth.specs.Growth.{IsGrowing, sheet_of}
+use Rattle.plan_growth.specs.Growth.{AskedCall, IsGrowing, sheet_of}
 
 -- The flow from scratch is what the lists tell of, and the evaluations are no more than it costs.
 pub record EndsAs (lib : Library) (site : List ℕ) (rows : List Row) (depth k : ℕ) (given : List Bind) (place : List Segment) (g : Given) (v : Sown) (waiting answered : JobTest → ℕ) (faults : List Fault) (count : ℕ)
@@ -32,7 +32,7 @@ pub record EndsAs (lib : Library) (site : List ℕ) (rows : List Row) (depth k :
 abbrev pub GrowthsEnd : Type 0
 GrowthsEnd =
     (lib : Library) (main : Option ℕ) → is_checked lib main ≡ true → (layout : Layout) (site : List ℕ) (rows : List Row) (depth k : ℕ) (f : FlowDef) → slice_get lib.flows k ≡ Some f
-    → (given : List Bind) (place : List Segment) (g : Given) (ds : List ℕ) → keys_distinct (slot_keys g.names) ≡ true → (v : Sown) (is : List Instance) (listed : Work) (asked : List ℕ) (paid : TaskCost → ℕ)
+    → (given : List Bind) (place : List Segment) (g : Given) (ds : List ℕ) → keys_distinct (slot_keys g.names) ≡ true → (v : Sown) (is : List Instance) (listed : Work) (asked : List AskedCall) (paid : TaskCost → ℕ)
     → IsGrowing lib layout site rows depth (whole f given place g ds) v is listed asked paid → AllStuck v
     → (waiting answered : JobTest → ℕ) (faults : List Fault) (count : ℕ) → Listed listed (λ (t : JobTest). waiting t + answered t) faults count
     → ((t : JobTest) → waiting (unanswered rows t) ≡ waiting t) → ((t : JobTest) → answered (unanswered rows t) ≡ 0) → EndsAs lib site rows depth k given place g v waiting answered faults count paid
