@@ -1,4 +1,4 @@
-pub mod Around
+mod Around
 mod Behind
 mod Blocks
 mod Called
