@@ -1,4 +1,4 @@
-mod Around
+pub mod Around
 mod Behind
 mod Blocks
 mod Called
