@@ -13,20 +13,38 @@ use Rattle.wdl_typed.specs.Requests.{Successes}
 use Rattle.wdl_typed.specs.Statuses.{successes_of}
 use Rattle.wdl_task.specs.declared.request.Prepared.{Prepared}
 use Rattle.wdl_task.specs.Counts.{prepare_count}
-use Rattle.scatter_plan.specs.Cost.{whole_cost}
+use Rattle.plan_lists.specs.Lists as lists
+use Rattle.scatter_plan.specs.declared.plan.Plan.{Plan}
+use Rattle.scatter_plan.specs.Holding.{paid_of}
+use Rattle.scatter_plan.specs.Settling.{IsBegunOver, IsMadeOf}
+use Rattle.net_laws.specs.Cost.{whole_cost}
 
--- what a plan is of, the answers that arrived, what it shows of the flow over them, how many evaluations it paid for, and whether it
--- is spent
-pub record PlanState : Type 0 where
-  pub checked : Checked
-  pub inputs : List Bind
-  pub site : List ℕ
-  pub rows : List Row
-  pub ready : List Prepared
-  pub faults : List Fault
-  pub outputs : Option (List Bind)
-  pub paid : ℕ
-  pub spent : Bool
+-- ---- what contracts see of a plan
+
+abbrev pub checked_in : Plan → Checked
+checked_in p = p.origin.checked
+
+abbrev pub inputs_in : Plan → List Bind
+inputs_in p = p.origin.inputs
+
+abbrev pub site_in : Plan → List ℕ
+site_in p = p.origin.site
+
+-- the attempts that wait for an answer
+abbrev pub ready_in : Plan → List Prepared
+ready_in p = p.begun.asking.ready.items
+
+abbrev pub faults_in : Plan → List Fault
+faults_in p = p.begun.growth.faults
+
+-- the outputs, where nothing failed and nothing waits
+abbrev pub outputs_in : Plan → Option (List Bind)
+outputs_in p = p.begun.outputs
+
+abbrev pub spent_in : Plan → Bool
+spent_in p = p.spent
+
+-- ---- what a plan is of
 
 abbrev pub library_in : Checked → Library
 library_in c = library c.structs c.tasks c.flows
@@ -70,34 +88,48 @@ cost_with c given site rows = cost_in (library_in c) c.main given site rows
 
 -- of the jobs with their statuses of success, how many pass
 abbrev pub count_jobs : (Request → Successes → Bool) → List Request → List Successes → ℕ
-count_jobs is [] cs = 0
-count_jobs is (r ∷ rs) [] = 0
-count_jobs is (r ∷ rs) (c ∷ cs) = cond (is r c) 1 0 + count_jobs is rs cs
+count_jobs = lists.count_jobs
 
 -- passes, and no answer arrived for its place and attempt
 abbrev pub unanswered : List Row → (Request → Successes → Bool) → Request → Successes → Bool
-unanswered rows is r c = is r c && not (has_row rows r.place r.attempt)
+unanswered = lists.unanswered
 
 abbrev pub passes : (Request → Successes → Bool) → Prepared → Bool
 passes is p = is p.request (successes_of p.codes)
 
 -- ---- the plan
 
-abbrev pub flow_of : PlanState → Flowing
-flow_of p = flow_with p.checked p.inputs p.site p.rows
+-- The main workflow is there, its inputs fit, and the layout is that of the checked form.
+abbrev pub IsMade : Plan → Type 0
+IsMade p = IsMadeOf p.origin.checked p.origin.layout p.origin.main p.origin.inputs
+
+-- what has grown in a plan, over these answers
+abbrev pub IsHeld : Plan → List Row → Type 0
+IsHeld p answers = IsBegunOver p.origin.checked p.origin.layout p.origin.main p.origin.inputs p.origin.site answers p.begun
+
+abbrev pub paid_in : (p : Plan) (answers : List Row) → IsHeld p answers → ℕ
+paid_in p answers held = paid_of p.origin.checked p.origin.layout p.origin.main p.origin.inputs p.origin.site answers held.settled.holding
+
+abbrev pub flow_of : Plan → List Row → Flowing
+flow_of p answers = flow_with (checked_in p) (inputs_in p) (site_in p) answers
 
 -- The flow is within the limits. What waits is each job that is not answered, once; the faults are those of the flow, each as often
--- as there; the outputs are there where the flow is clean; and what was paid is at most what the flow costs.
-pub record IsOfFlow (p : PlanState) : Type 0 where
-  pub few : too_many (flow_of p) ≡ false
-  pub even : length (flow_of p).codes ≡ length (flow_of p).jobs
-  pub ready : (is : Request → Successes → Bool) → count_by (passes is) p.ready ≡ count_jobs (unanswered p.rows is) (flow_of p).jobs (flow_of p).codes
-  pub faults : (is : Fault → Bool) → count_by is p.faults ≡ count_by is (flow_of p).faults
-  pub outputs : p.outputs ≡ outputs_if_clean p.checked (flow_of p)
-  pub paid : p.paid ≤ cost_with p.checked p.inputs p.site p.rows
+-- as there; and the outputs are there where the flow is clean.
+pub record IsOfFlowing (p : Plan) (answers : List Row) (f : Flowing) : Type 0 where
+  pub few : too_many f ≡ false
+  pub even : length f.codes ≡ length f.jobs
+  pub ready : (is : Request → Successes → Bool) → count_by (passes is) (ready_in p) ≡ count_jobs (unanswered answers is) f.jobs f.codes
+  pub faults : (is : Fault → Bool) → count_by is (faults_in p) ≡ count_by is f.faults
+  pub outputs : outputs_in p ≡ outputs_if_clean (checked_in p) f
 
--- It was told of these answers and no others.
-pub record IsTold (p : PlanState) (answers : List Row) : Type 0 where
-  pub kept : p.spent ≡ false
-  pub rows : p.rows ≡ answers
-  pub shows : IsOfFlow p
+abbrev pub IsOfFlow : Plan → List Row → Type 0
+IsOfFlow p answers = IsOfFlowing p answers (flow_of p answers)
+
+-- It was told of these answers and no others. How many evaluations they paid for is no more than the flow over them costs.
+pub record IsTold (p : Plan) (answers : List Row) : Type 0 where
+  pub kept : spent_in p ≡ false
+  pub held : IsHeld p answers
+  pub shows : IsOfFlow p answers
+  pub paid : ℕ
+  pub pays : paid ≡ paid_in p answers held
+  pub within : paid ≤ cost_with (checked_in p) (inputs_in p) (site_in p) answers

@@ -1,5 +1,9 @@
+ghost use Rattle.std.specs.Prelude.{◌≡◌};
+ghost use Rattle.scatter_plan.specs.declared.fault.PlanFault.TheVariants.{NoMemory as OutOfMemory};
+
+use std::alloc::{AllocError, AllocFailed};
 use wdl_typed::Checked;
-use wdl_value::{Env, Text};
+use wdl_value::{Env, NoMemory, Text};
 
 /// Why a plan goes no further: the flow over the answers has more than 20,000 jobs or more than 1,000,000 instances of
 /// statements, or out of memory.
@@ -18,4 +22,28 @@ pub enum Unplanned {
         site: Text,
     },
     NoMemory,
+}
+
+impl From<NoMemory> for PlanFault {
+    ghost from_gives = { λ _ e. e ≡ OutOfMemory };
+
+    fn from(_e: NoMemory) -> PlanFault {
+        PlanFault::NoMemory
+    }
+}
+
+impl From<AllocError> for PlanFault {
+    ghost from_gives = { λ _ e. e ≡ OutOfMemory };
+
+    fn from(_e: AllocError) -> PlanFault {
+        PlanFault::NoMemory
+    }
+}
+
+impl<T: Drop> From<AllocFailed<T>> for PlanFault {
+    ghost from_gives = { λ _ e. e ≡ OutOfMemory };
+
+    fn from(_e: AllocFailed<T>) -> PlanFault {
+        PlanFault::NoMemory
+    }
 }

@@ -1,0 +1,69 @@
+//! The arguments of calls.
+
+ghost use Rattle.std.specs.Prelude.{◌≡◌, ◌≤◌, ◌+◌, length, IfOk};
+ghost use Rattle.wdl_typed.specs.Evaluation.{value_of};
+ghost use Rattle.wdl_typed.specs.Flow as flow;
+ghost use Rattle.wdl_typed.specs.Requests.{before};
+ghost use Rattle.wdl_eval.specs.Ready.{IsReady};
+ghost use Rattle.wdl_task.specs.Tells.{Tells};
+ghost use Rattle.wdl_plain.specs.Readiness.{AreArgsReady};
+
+use std::alloc::Global;
+use std::sync::ledger::Ledger;
+use wdl_eval::{EvalFault, eval};
+use wdl_task::CallFault;
+use wdl_typed::{TExpr, TField};
+use wdl_value::{Bind, Env, Items, Key, Name, NoMemory, Steps, Text, Value, Why};
+
+/// The value of an argument.
+fn argument<L: Ledger>(
+    alloc: Global,
+    arg: &TField<TExpr>,
+    env: &Env,
+    steps: &mut Steps<L>,
+) -> Result<Value, CallFault>
+    requires ready { IsReady arg.now.value env.now }
+    ensures value { Tells (flow.named_arg arg.now.name (value_of (before env.now) arg.now.value)) result }
+    ensures steps { steps.new ≤ steps.old + 1 }
+{
+    match eval(alloc, &arg.value, env, &Text::empty(alloc), None, steps) {
+        Ok(value) => Ok(value),
+        Err(EvalFault::Code(code)) => Err(CallFault::Bad {
+            name: arg.name.to_text(alloc)?,
+            why: Why::Code(code),
+        }),
+        Err(EvalFault::NoMemory) => Err(CallFault::NoMemory),
+    }
+}
+
+fn arg_bind(alloc: Global, name: &Name, value: Value) -> Result<Bind, NoMemory>
+    ensures { IfOk result (λ b. b ≡ flow.arg_bind name.now value) }
+{
+    let first = name.copy(alloc)?;
+    Ok(Bind {
+        key: Key {
+            first,
+            second: None,
+        },
+        value,
+    })
+}
+
+/// The arguments in their order; the first fault is the answer.
+pub fn args_met<L: Ledger>(
+    alloc: Global,
+    args: &[TField<TExpr>],
+    env: &Env,
+    steps: &mut Steps<L>,
+) -> Result<Env, CallFault>
+    requires ready { AreArgsReady env.now args.now }
+    ensures value { Tells (flow.args_met env.now args.now) result }
+    ensures steps { steps.new ≤ steps.old + length args.now }
+{
+    let mut met = Items::new(alloc);
+    for arg in args {
+        let value = argument(alloc, arg, env, steps)?;
+        met.push(arg_bind(alloc, &arg.name, value)?)?;
+    }
+    Ok(met)
+}

@@ -1,0 +1,208 @@
+//! Calls (OpenWDL 1.1, "Call Statement").
+
+ghost use Rattle.std.specs.Prelude.{◌≡◌, ◌<◌, ◌≤◌, ◌+◌, ◌++◌, ◌∷◌, [], List, Ok, length, OnOk};
+ghost use Rattle.wdl_base.specs.declared.place.Segment.TheVariants as segment;
+ghost use Rattle.wdl_value.specs.declared.env.Bind.{Bind};
+ghost use Rattle.wdl_typed.specs.Flow.{args_met as flow_args_met};
+ghost use Rattle.wdl_typed.specs.Requests.{Asked, asks as asks_of};
+ghost use Rattle.wdl_task.specs.Counts.{prepare_count};
+ghost use Rattle.wdl_task.specs.Readiness.{Kept};
+ghost use Rattle.wdl_plain.specs.Readiness.{AreArgsReady};
+ghost use Rattle.value_net.specs.Nets.{IsSound, view};
+ghost use Rattle.plan_growth.specs.Blocks.{with_call};
+ghost use Rattle.scatter_plan.specs.Askings.{IsAsking, IsNew, calls};
+ghost use Rattle.scatter_plan.specs.Doing.{CalledWith, Called, CanCall, IsPastCall, IsPastWith, TaskCalled, asks, call_count, field, flow_called, last_base as base_of, state};
+ghost use Rattle.scatter_plan.specs.Passes.{Passes};
+ghost use Rattle.scatter_plan.specs.Plots.{cell_count, plot};
+ghost use Rattle.plan_room.specs.Reached.{AreReached};
+ghost use Rattle.plan_room.specs.Room.{HasFlowRoom, HasRuns};
+ghost use Rattle.scatter_plan.specs.Values.{own_env};
+
+use crate::address::env_of;
+use crate::arguments::args_met;
+use crate::asking::{Asking, JOB_LIMIT};
+use crate::counting::{COUNT_LIMIT, add_count};
+use crate::fault::PlanFault;
+use crate::growth::{Entered, Ground, Growth};
+use crate::joints::copy_cells;
+use crate::spot::last_base;
+use crate::telling::{call_place, push_failing};
+use crate::workflow::{enter_flow, flow_dones};
+use plan_growth::Rule;
+use plan_layout::{BodyLayout, FlowLayout, StatementLayout};
+use std::alloc::Global;
+use std::sync::ledger::Ledger;
+use wdl_task::{CallFault, prepare};
+use wdl_typed::{FlowDef, TCall, Target, TaskDef};
+use wdl_value::{Env, Fault, Items, NoMemory, Place, Steps, Text};
+
+/// Calls a task at a place: its first attempt is asked, within the limit, or the call has a fault.
+pub fn call_task<L: Ledger>(
+    alloc: Global,
+    task: &TaskDef,
+    args: &Env,
+    site: &Text,
+    place: &Place,
+    step: usize,
+    faults: &mut Items<Fault>,
+    asking: &mut Asking,
+    steps: &mut Steps<L>,
+) -> Result<(), PlanFault>
+    requires kept { Kept task.now args.now }
+    requires new { IsNew (calls asking.old) place.now }
+    requires sound { IsAsking asking.old }
+    ensures sound { OnOk result (IsAsking asking.new) }
+    ensures called { Passes (TaskCalled site.now place.now step faults.old (asks asking.old) faults.new (asks asking.new) (asks_of task.now args.now)) ((a : Asked) × (asks_of task.now args.now ≡ Ok a) × (JOB_LIMIT ≤ asking.old.jobs)) result }
+    ensures steps { steps.new ≤ steps.old + prepare_count task.now args.now }
+    ensures jobs { asking.old.jobs ≤ JOB_LIMIT → OnOk result (asking.new.jobs ≤ JOB_LIMIT) }
+{
+    match prepare(alloc, task, args, site, place, 0, steps) {
+        Ok(prepared) => asking.ask(alloc, step, prepared),
+        Err(CallFault::Bad { name, why }) => {
+            push_failing(alloc, place, name, why, faults)?;
+            Ok(())
+        }
+        Err(CallFault::NoMemory) => Err(PlanFault::NoMemory),
+    }
+}
+
+/// Enters a workflow, and adds the steps that copy its outputs.
+fn enter_call(
+    alloc: Global,
+    flow: &FlowDef,
+    args: &Env,
+    bases: &[usize],
+    place: Place,
+    layout: &FlowLayout,
+    body: &BodyLayout,
+    line: &StatementLayout,
+    entered: &mut Entered,
+) -> Result<(), NoMemory>
+    requires bases { 0 < length bases.now }
+    requires room { HasFlowRoom (cell_count (view entered.old.net)) flow.now layout.now body.now }
+    requires runs { HasRuns (cell_count (view entered.old.net)) (base_of bases.now) line.now }
+    requires outputs { line.now.names ≤ length flow.now.outputs }
+    requires sound { IsSound entered.old.net }
+    ensures sound { OnOk result (IsSound entered.new.net) }
+    ensures entered { OnOk result (plot entered.new ≡ with_call flow.now args.now place layout.now body.now line.now (base_of bases.now) (plot entered.old)) }
+{
+    let base = last_base(bases);
+    let first = enter_flow(alloc, flow, args, place, layout, body, entered)?;
+    let dones = flow_dones(alloc, flow, layout, body, first)?;
+    let net = &mut entered.net;
+    copy_cells(first, layout.first_output, base, line.first_name, line.names, net)?;
+    let into = base + line.done;
+    net.add_step(Rule::Ends { into }, dones.as_slice())?;
+    Ok(())
+}
+
+/// Calls a workflow at a place, within the limit.
+pub fn call_flow(
+    alloc: Global,
+    flow: &FlowDef,
+    args: &Env,
+    bases: &[usize],
+    place: Place,
+    layout: &FlowLayout,
+    body: &BodyLayout,
+    line: &StatementLayout,
+    growth: &mut Growth,
+) -> Result<(), PlanFault>
+    requires bases { 0 < length bases.now }
+    requires room { HasFlowRoom (cell_count (view growth.old.entered.net)) flow.now layout.now body.now }
+    requires runs { HasRuns (cell_count (view growth.old.entered.net)) (base_of bases.now) line.now }
+    requires outputs { line.now.names ≤ length flow.now.outputs }
+    requires count { growth.old.count ≤ COUNT_LIMIT }
+    requires sound { IsSound growth.old.entered.net }
+    ensures sound { OnOk result (IsSound growth.new.entered.net) }
+    ensures called { Passes ((field growth.new ≡ flow_called flow.now args.now bases.now place layout.now body.now line.now (field growth.old)) × (growth.new.count ≤ COUNT_LIMIT)) (COUNT_LIMIT < growth.old.count + length flow.now.body) result }
+{
+    add_count(&mut growth.count, 1, flow.body.len())?;
+    let entered = &mut growth.entered;
+    enter_call(alloc, flow, args, bases, place, layout, body, line, entered)?;
+    Ok(())
+}
+
+/// Does a call whose arguments are met.
+fn call_target<'a, L: Ledger>(
+    alloc: Global,
+    target: Target,
+    args: &Env,
+    line: &StatementLayout,
+    bases: &[usize],
+    place: Place,
+    step: usize,
+    ground: &Ground<'a>,
+    growth: &mut Growth,
+    asking: &mut Asking,
+    steps: &mut Steps<L>,
+) -> Result<(), PlanFault>
+    requires bases { 0 < length bases.now }
+    requires can { CanCall ground.now.checked.now ground.now.layout.now [] bases.now place 0 line.now (state growth.old asking.old) args.now place target }
+    requires runs { HasRuns (cell_count (view growth.old.entered.net)) (base_of bases.now) line.now }
+    requires count { growth.old.count ≤ COUNT_LIMIT }
+    requires sound { IsSound growth.old.entered.net }
+    requires asking { IsAsking asking.old }
+    ensures sound { OnOk result (IsSound growth.new.entered.net) }
+    ensures asking { OnOk result (IsAsking asking.new) }
+    ensures count { OnOk result (growth.new.count ≤ COUNT_LIMIT) }
+    ensures called { Passes (Called ground.now.checked.now ground.now.layout.now ground.now.site.now bases.now place step line.now args.now place (state growth.old asking.old) (state growth.new asking.new) target) (IsPastCall ground.now.checked.now ground.now.layout.now [] bases.now place step line.now args.now (state growth.old asking.old) target) result }
+    ensures steps { steps.new ≤ steps.old + call_count ground.now.checked.now ground.now.layout.now [] bases.now place step line.now target (Ok args.now) }
+    ensures jobs { asking.old.jobs ≤ JOB_LIMIT → OnOk result (asking.new.jobs ≤ JOB_LIMIT) }
+{
+    match target {
+        Target::Task(k) => {
+            let task = &ground.checked.tasks.as_slice()[k as usize];
+            let faults = &mut growth.faults;
+            call_task(alloc, task, args, ground.site, &place, step, faults, asking, steps)
+        }
+        Target::Flow(k) => {
+            let flow = &ground.checked.flows.as_slice()[k as usize];
+            let layout = &ground.layout.flows.as_slice()[k as usize];
+            let body = &ground.layout.bodies.as_slice()[layout.body];
+            call_flow(alloc, flow, args, bases, place, layout, body, line, growth)
+        }
+    }
+}
+
+/// Does a call of an instance at a place.
+pub fn call<'a, L: Ledger>(
+    alloc: Global,
+    call: &TCall,
+    line: &StatementLayout,
+    bases: &[usize],
+    place: &Place,
+    step: usize,
+    ground: &Ground<'a>,
+    growth: &mut Growth,
+    asking: &mut Asking,
+    steps: &mut Steps<L>,
+) -> Result<(), PlanFault>
+    requires bases { 0 < length bases.now }
+    requires reached { AreReached (cell_count (view growth.old.entered.net)) bases.now line.now.needs }
+    requires runs { HasRuns (cell_count (view growth.old.entered.net)) (base_of bases.now) line.now }
+    requires ready { AreArgsReady (own_env (view growth.old.entered.net) bases.now line.now.needs) call.now.args }
+    requires can { (args : List Bind) → flow_args_met (own_env (view growth.old.entered.net) bases.now line.now.needs) call.now.args ≡ Ok args → CanCall ground.now.checked.now ground.now.layout.now [] bases.now place.now 0 line.now (state growth.old asking.old) args (place.now ++ segment.Call call.now.name ∷ []) call.now.target }
+    requires count { growth.old.count ≤ COUNT_LIMIT }
+    requires sound { IsSound growth.old.entered.net }
+    requires asking { IsAsking asking.old }
+    ensures sound { OnOk result (IsSound growth.new.entered.net) }
+    ensures asking { OnOk result (IsAsking asking.new) }
+    ensures count { OnOk result (growth.new.count ≤ COUNT_LIMIT) }
+    ensures called { Passes (CalledWith ground.now.checked.now ground.now.layout.now ground.now.site.now bases.now place.now step line.now call.now.target (place.now ++ segment.Call call.now.name ∷ []) (state growth.old asking.old) (state growth.new asking.new) (flow_args_met (own_env (view growth.old.entered.net) bases.now line.now.needs) call.now.args)) (IsPastWith ground.now.checked.now ground.now.layout.now [] bases.now place.now step line.now call.now.target (state growth.old asking.old) (flow_args_met (own_env (view growth.old.entered.net) bases.now line.now.needs) call.now.args)) result }
+    ensures steps { steps.new ≤ steps.old + (length call.now.args + call_count ground.now.checked.now ground.now.layout.now [] bases.now place.now step line.now call.now.target (flow_args_met (own_env (view growth.old.entered.net) bases.now line.now.needs) call.now.args)) }
+    ensures jobs { asking.old.jobs ≤ JOB_LIMIT → OnOk result (asking.new.jobs ≤ JOB_LIMIT) }
+{
+    let place = call_place(alloc, place, &call.name)?;
+    let env = env_of(alloc, bases, line.needs.as_slice(), &growth.entered.net)?;
+    match args_met(alloc, call.args.as_slice(), &env, steps) {
+        Ok(args) => call_target(
+            alloc, call.target, &args, line, bases, place, step, ground, growth, asking, steps,
+        ),
+        Err(CallFault::Bad { name, why }) => {
+            push_failing(alloc, &place, name, why, &mut growth.faults)?;
+            Ok(())
+        }
+        Err(CallFault::NoMemory) => Err(PlanFault::NoMemory),
+    }
+}
