@@ -1,129 +1,95 @@
 -- The plan of a run, from one call to the next.
-use Rattle.std.proofs.Common.{◌≡◌, ◌≤◌, ◌+◌, ℕ, Bool, true, false, List, [], ◌∷◌, ◌++◌, Result, Ok, Err, IfOk, IsSome, arith, sym, ap, ◌∙◌, subst, refl}
+use Rattle.std.proofs.Common.{◌≡◌, ◌≤◌, ◌+◌, ℕ, Bool, true, false, List, [], ◌∷◌, ◌++◌, Result, Ok, Err, IfOk, OnOk, IsSome, arith, sym, ap, ◌∙◌, subst, refl}
 use Rattle.std.proofs.lemmas.Bool.{false≢true}
 use Rattle.wdl_base.specs.declared.entry.Entry.{Entry}
 use Rattle.wdl_base.specs.declared.error.NoMemory.{NoMemory}
 use Rattle.wdl_base.specs.declared.request.Request.{Request}
 use Rattle.wdl_value.specs.declared.env.Bind.{Bind}
-use Rattle.wdl_value.specs.Tables.{table}
+use Rattle.wdl_value.specs.Tables.{Row, table}
 use Rattle.wdl_typed.specs.declared.checked.Checked.{Checked}
 use Rattle.wdl_typed.specs.Flow.{Flowing, too_many}
 use Rattle.scatter_plan.specs.declared.fault.Unplanned.{Unplanned}
 use Rattle.scatter_plan.specs.declared.fault.Unplanned.TheVariants as unplanned
-use Rattle.scatter_plan.specs.Calls.{GivesBack, IsNew, IsOfSame}
-use Rattle.scatter_plan.specs.Plans.{IsTold, PlanState}
+use Rattle.scatter_plan.specs.declared.plan.Plan.{Plan}
+use Rattle.scatter_plan.specs.Calls.{GivesBack, IsNew, IsOfSame, IsRenewed}
+use Rattle.scatter_plan.specs.Plans.{IsMade, IsTold, inputs_in, site_in}
 use Rattle.ready_core.specs.declared.course.Begun.{Begun}
 use Rattle.ready_core.specs.declared.course.Course.{Course}
 use Rattle.ready_core.specs.declared.course.Course.TheVariants.{Planned, Past}
 use Rattle.ready_core.specs.declared.turn.Turn.{Turn}
-use Rattle.ready_core.specs.Cores.{Origin, flow_at}
-use Rattle.ready_core.specs.Courses.{IsAwaited, IsBegun, IsCaughtUp, IsOnCourse, IsPaid, kept, origin_in, origin_of, planned_by}
+use Rattle.ready_core.specs.Cores.{Origin, cost_at, flow_at}
+use Rattle.ready_core.specs.Courses.{IsAwaited, IsFurther, IsOnCourse, IsPaid, IsPaidUp, is_stale, kept, origin_in, origin_of, planned_by}
 use Rattle.ready_core.specs.Turns.{IsFirst, IsNext, IsPastLimits}
-use Rattle.ready_core.proofs.Planned.{origin_same, paid_within}
+use Rattle.ready_core.proofs.Planned.{origin_same}
 use Rattle.ready_core.proofs.Runs.{grow, plan_flow}
 use Rattle.ready_core.proofs.Turning.{many_after, many_closed, past_next, past_sight}
 
 -- ---- a plan of the same run
 
-pub same_itself : (p : PlanState) → IsOfSame p p
-same_itself p = record { checked = refl; inputs = refl; site = refl }
-
-pub same_through : (a b c : PlanState) → IsOfSame a b → IsOfSame b c → IsOfSame a c
+pub same_through : (a b c : Plan) → IsOfSame a b → IsOfSame b c → IsOfSame a c
 same_through a b c x y = record { checked = y.checked ∙ x.checked; inputs = y.inputs ∙ x.inputs; site = y.site ∙ x.site }
 
-pub awaited_moved : (a b : PlanState) (j : List Entry) (r : Request) → IsOfSame a b → IsAwaited (flow_at (origin_in a) j) j r → IsAwaited (flow_at (origin_in b) j) j r
+pub awaited_moved : (a b : Plan) (j : List Entry) (r : Request) → IsOfSame a b → IsAwaited (flow_at (origin_in a) j) j r → IsAwaited (flow_at (origin_in b) j) j r
 awaited_moved a b j r same h = subst (λ (o : Origin). IsAwaited (flow_at o j) j r) (sym (origin_same a b same)) h
 
-next_moved : (a b : PlanState) (j : List Entry) (e : Entry) (t : Turn) → IsOfSame a b → IsNext (origin_in b) j e t → IsNext (origin_in a) j e t
+next_moved : (a b : Plan) (j : List Entry) (e : Entry) (t : Turn) → IsOfSame a b → IsNext (origin_in b) j e t → IsNext (origin_in a) j e t
 next_moved a b j e t same h = subst (λ (o : Origin). IsNext o j e t) (origin_same a b same) h
 
-pub nexts_moved : (a b : PlanState) (j : List Entry) (e : Entry) (r : Result Turn NoMemory) → IsOfSame a b → IfOk r (IsNext (origin_in b) j e) → IfOk r (IsNext (origin_in a) j e)
+pub nexts_moved : (a b : Plan) (j : List Entry) (e : Entry) (r : Result Turn NoMemory) → IsOfSame a b → IfOk r (IsNext (origin_in b) j e) → IfOk r (IsNext (origin_in a) j e)
 nexts_moved a b j e (Ok t) same h = next_moved a b j e t same h
 nexts_moved a b j e (Err x) same h = tt
 
-caught_up : (stale : Bool) (a b c : PlanState) (old mid new : ℕ) → IsCaughtUp stale a b old mid → new + b.paid ≤ mid + c.paid → IsCaughtUp stale a c old new
-caught_up stale a b c old mid new h k = record { once = λ s. omega (arith, h.once s, k); all = omega (arith, h.all, k) }
+-- ---- what is paid for
 
-pub all_caught_up : (stale : Bool) (a b c : PlanState) (old mid new : ℕ) (r : Result Turn NoMemory) → IsCaughtUp stale a b old mid → IfOk r (λ t. t.many ≡ false → new + b.paid ≤ mid + c.paid)
-    → IfOk r (λ t. t.many ≡ false → IsCaughtUp stale a c old new)
-all_caught_up stale a b c old mid new (Ok t) h k = λ few. caught_up stale a b c old mid new h (k few)
-all_caught_up stale a b c old mid new (Err x) h k = tt
+pub not_caught : (stale : Bool) (p : Plan) (rows : List Row) (old : ℕ) → stale ≡ false → (stale ≡ false → IsTold p rows) → IsFurther stale rows rows p old old p
+not_caught stale p rows old h told = record { once = λ s was. (was, omega arith); all = (told h, omega arith) }
+
+caught : (stale : Bool) (a b : Plan) (rows : List Row) (old new : ℕ) → stale ≡ true → IsRenewed rows old new b → IsFurther stale rows rows a old new b
+caught stale a b rows old new h renewed = record { once = λ s was. absurd (false≢true (sym s ∙ h)); all = (renewed.told, renewed.paid) }
+
+pub caughts : {A : Type 0} (stale : Bool) (a b : Plan) (rows : List Row) (old new : ℕ) (r : Result A NoMemory) → stale ≡ true → OnOk r (IsRenewed rows old new b) → OnOk r (IsFurther stale rows rows a old new b)
+caughts stale a b rows old new (Ok x) h renewed = caught stale a b rows old new h renewed
+caughts stale a b rows old new (Err x) h renewed = tt
+
+further : (stale : Bool) (rows longer : List Row) (a m b : Plan) (old mid new : ℕ) → IsFurther stale rows rows a old mid m → ((was : IsTold m rows) → (told : IsTold b longer) × (new + was.paid ≤ mid + told.paid))
+    → IsFurther stale rows longer a old new b
+further stale rows longer a m b old mid new h k =
+    record {
+      once = λ s was. let x = h.once s was in let y = k x.0 in (y.0, omega (arith, x.1, y.1));
+      all = let x = h.all in let y = k x.0 in (y.0, omega (arith, x.1, y.1));
+    }
+
+pub all_further : (stale : Bool) (rows longer : List Row) (a m b : Plan) (old mid new : ℕ) (r : Result Turn NoMemory) → IsFurther stale rows rows a old mid m
+    → ((was : IsTold m rows) → IfOk r (λ t. t.many ≡ false → (told : IsTold b longer) × (new + was.paid ≤ mid + told.paid))) → IfOk r (λ t. t.many ≡ false → IsFurther stale rows longer a old new b)
+all_further stale rows longer a m b old mid new (Ok t) h k = λ few. further stale rows longer a m b old mid new h (λ was. k was few)
+all_further stale rows longer a m b old mid new (Err x) h k = tt
 
 -- ---- a run that begins
-
-begun_on : (p : PlanState) (b : Begun) → IsTold p [] → b.course ≡ planned_by p → IsOnCourse b.course b.turn.many []
-begun_on p b told is = subst (λ (s : Course). IsOnCourse s b.turn.many []) (sym is) (λ few stale. told)
-
-begun_first : (p : PlanState) (b : Begun) → b.course ≡ planned_by p → IsFirst (origin_in p) b.turn → IsFirst (origin_of b.course) b.turn
-begun_first p b is h = subst (λ (s : Course). IsFirst (origin_of s) b.turn) (sym is) h
-
-begun_paid : (p : PlanState) (b : Begun) (old new : ℕ) → IsTold p [] → b.course ≡ planned_by p → new ≤ old + p.paid → IsBegun b.course old new
-begun_paid p b old new told is h = subst (λ (s : Course). IsBegun s old new) (sym is) (record { all = h; within = paid_within p [] told })
 
 abbrev of_these : Checked → List Bind → List ℕ → Origin
 of_these c given site = record { checked = c; inputs = given; site = site }
 
-new_origin : (c : Checked) (given : List Bind) (site : List ℕ) (p : PlanState) → IsNew c given site p → origin_in p ≡ of_these c given site
-new_origin c given site p h =
-    ap (λ (x : Checked). of_these x p.inputs p.site) h.checked ∙ ap (λ (x : List Bind). of_these c x p.site) h.inputs ∙ ap (of_these c given) h.site
+new_origin : (c : Checked) (given : List Bind) (site : List ℕ) (old new : ℕ) (p : Plan) → IsNew c given site old new p → origin_in p ≡ of_these c given site
+new_origin c given site old new p h =
+    ap (λ (x : Checked). of_these x (inputs_in p) (site_in p)) h.checked ∙ ap (λ (x : List Bind). of_these c x (site_in p)) h.inputs ∙ ap (of_these c given) h.site
 
 -- what a run that began keeps
 pub record Begins (c : Checked) (given : List Bind) (site : List ℕ) (old new : ℕ) (r : Result Begun NoMemory) : Type 0 where
   pub origin : IfOk r (λ b. origin_of b.course ≡ of_these c given site)
   pub course : IfOk r (λ b. IsOnCourse b.course b.turn.many [])
   pub first : IfOk r (λ b. IsFirst (origin_of b.course) b.turn)
-  pub paid : IfOk r (λ b. b.turn.many ≡ false → IsBegun b.course old new)
+  pub paid : IfOk r (λ b. IsPaidUp old new b.course b.turn.many [])
 
-pub begins : (c : Checked) (given : List Bind) (site : List ℕ) (p : PlanState) (old new : ℕ) (r : Result Begun NoMemory) → IsNew c given site p → new ≤ old + p.paid → IfOk r (λ b. b.course ≡ planned_by p)
+pub begins : (c : Checked) (given : List Bind) (site : List ℕ) (p : Plan) (old new : ℕ) (r : Result Begun NoMemory) → IsNew c given site old new p → IfOk r (λ b. b.course ≡ planned_by p)
     → IfOk r (λ b. IsFirst (origin_in p) b.turn) → Begins c given site old new r
-begins c given site p old new (Ok b) h paid is first =
+begins c given site p old new (Ok b) h is first =
     record {
-      origin = ap origin_of is ∙ new_origin c given site p h;
-      course = begun_on p b h.told is;
-      first = begun_first p b is first;
-      paid = λ few. begun_paid p b old new h.told is paid;
+      origin = ap origin_of is ∙ new_origin c given site old new p h;
+      course = subst (λ (s : Course). IsOnCourse s b.turn.many []) (sym is) (h.made, λ few stale. h.told);
+      first = subst (λ (s : Course). IsFirst (origin_of s) b.turn) (sym is) first;
+      paid = subst (λ (s : Course). IsPaidUp old new s b.turn.many []) (sym is) (λ few stale. (h.told, h.paid));
     }
-begins c given site p old new (Err e) h paid is first = record { origin = tt; course = tt; first = tt; paid = tt }
-
--- ---- an answer that is told
-
-told_on : (p : PlanState) (many : Bool) (j : List Entry) → (many ≡ false → IsTold p (table j)) → IsOnCourse (kept (Planned p true)) many j
-told_on p many j h = λ few stale. h few
-
-pub tolds_on : (p : PlanState) (j : List Entry) (r : Result Turn NoMemory) → IfOk r (λ t. t.many ≡ false → IsTold p (table j)) → IfOk r (λ t. IsOnCourse (kept (Planned p true)) t.many j)
-tolds_on p j (Ok t) h = told_on p t.many j h
-tolds_on p j (Err e) h = tt
-
-paid_on : (a b : PlanState) (stale : Bool) (j : List Entry) (old new : ℕ) → IsTold b (table j) → IsCaughtUp stale a b old new → IsPaid (Planned a stale) (Planned b true) j old new
-paid_on a b stale j old new told h = record { once = h.once; all = h.all; within = paid_within b j told }
-
-pub paids_on : (a b : PlanState) (stale : Bool) (j : List Entry) (old new : ℕ) (r : Result Turn NoMemory) → IfOk r (λ t. t.many ≡ false → IsTold b (table j))
-    → IfOk r (λ t. t.many ≡ false → IsCaughtUp stale a b old new) → IfOk r (λ t. t.many ≡ false → IsPaid (Planned a stale) (Planned b true) j old new)
-paids_on a b stale j old new (Ok t) told h = λ few. paid_on a b stale j old new (told few) (h few)
-paids_on a b stale j old new (Err e) told h = tt
-
-pub stale_on : (p : PlanState) (many : Bool) (j : List Entry) → IsOnCourse (Planned p true) many j
-stale_on p many j = λ few stale. absurd (false≢true (sym stale))
-
--- ---- past the limits
-
-many_kept : (s : Course) (many : Bool) (j : List Entry) → many ≡ true → IsOnCourse (kept s) many j
-many_kept (Planned p stale) many j h = λ few fresh. absurd (false≢true (sym few ∙ h))
-many_kept (Past o) many j h = h
-
--- what an answer adds where the flow is past its limits
-pub record Passes (s : Course) (j : List Entry) (e : Entry) (old new : ℕ) (t : Turn) : Type 0 where
-  pub course : IsOnCourse (kept s) t.many (j ++ e ∷ [])
-  pub next : IsNext (origin_of s) j e t
-  pub paid : t.many ≡ false → IsPaid s s (j ++ e ∷ []) old new
-
-pub passes : (s : Course) (j : List Entry) (e : Entry) (old new : ℕ) (t : Turn) → IsSome (origin_of s).checked.main → too_many (flow_at (origin_of s) j) ≡ true → IsPastLimits t → Passes s j e old new t
-passes s j e old new t main many past =
-    record {
-      course = many_kept s t.many (j ++ e ∷ []) past.many;
-      next = past_next (origin_of s) j e t (many_after (flow_at (origin_of s) j) (flow_at (origin_of s) (j ++ e ∷ [])) (grow (origin_of s) main j (e ∷ [])) many) past;
-      paid = λ few. absurd (false≢true (sym few ∙ past.many));
-    }
+begins c given site p old new (Err e) h is first = record { origin = tt; course = tt; first = tt; paid = tt }
 
 pub past_first : (o : Origin) (t : Turn) → too_many (flow_at o []) ≡ true → IsPastLimits t → IsFirst o t
 past_first o t many past =
@@ -142,3 +108,85 @@ given_back c given site u d inputs root e h =
     ∙ ap (λ (x : List ℕ). too_many (flow_at (of_these c given x) [])) k.2
     ∙ sym (ap (λ (f : List Entry → Flowing). too_many (f [])) (plan_flow (of_these c given site)))
     ∙ k.3
+
+-- ---- an answer that is told
+
+-- what a plan that was told of an answer keeps
+pub record Tells (a : Plan) (stale : Bool) (b : Plan) (j : List Entry) (e : Entry) (old new : ℕ) (r : Result Turn NoMemory) : Type 0 where
+  pub course : IfOk r (λ t. IsOnCourse (kept (Planned b true)) t.many (j ++ e ∷ []))
+  pub paid : IfOk r (λ t. IsPaid old new (Planned a stale) false j (kept (Planned b true)) t.many (j ++ e ∷ []))
+
+pub tells : (a : Plan) (stale : Bool) (b : Plan) (j : List Entry) (e : Entry) (old new : ℕ) (r : Result Turn NoMemory) → IsMade b
+    → IfOk r (λ t. t.many ≡ false → IsFurther stale (table j) (table (j ++ e ∷ [])) a old new b) → Tells a stale b j e old new r
+tells a stale b j e old new (Ok t) made h =
+    record {
+      course = (made, λ few fresh. (h few).all.0);
+      paid =
+          record {
+            once = λ fresh start up few again. let u = up refl fresh in let k = (h few).once fresh u.0 in (k.0, omega (arith, u.1, k.1));
+            all = λ few again. (h few).all;
+          };
+    }
+tells a stale b j e old new (Err x) made h = record { course = tt; paid = tt }
+
+-- the same, of a course that is that plan
+pub paid_for : (s : Course) (many : Bool) (a : Plan) (stale : Bool) (b : Plan) (j : List Entry) (e : Entry) (old new : ℕ) (r : Result Turn NoMemory) → s ≡ Planned a stale → many ≡ false → IsMade b
+    → IfOk r (λ t. t.many ≡ false → IsFurther stale (table j) (table (j ++ e ∷ [])) a old new b) → IfOk r (λ t. IsPaid old new s many j (kept (Planned b true)) t.many (j ++ e ∷ []))
+paid_for s many a stale b j e old new r is few made h =
+    subst (λ (x : Course). IfOk r (λ t. IsPaid old new x many j (kept (Planned b true)) t.many (j ++ e ∷ []))) (sym is)
+    (subst (λ (x : Bool). IfOk r (λ t. IsPaid old new (Planned a stale) x j (kept (Planned b true)) t.many (j ++ e ∷ []))) (sym few) (tells a stale b j e old new r made h).paid)
+
+-- Within the limits a plan that is not stale was told of the journal.
+pub on_told : (s : Course) (many : Bool) (p : Plan) (stale : Bool) (j : List Entry) → s ≡ Planned p stale → many ≡ false → IsOnCourse s many j → stale ≡ false → IsTold p (table j)
+on_told s many p stale j is few on fresh = (subst (λ (x : Course). IsOnCourse x many j) is on).1 few fresh
+
+pub stale_on : (p : Plan) (many : Bool) (j : List Entry) → IsMade p → IsOnCourse (Planned p true) many j
+stale_on p many j made = (made, λ few fresh. absurd (false≢true (sym fresh)))
+
+-- ---- past the limits
+
+many_kept : (s : Course) (a many : Bool) (j k : List Entry) → IsOnCourse s a j → many ≡ true → IsOnCourse (kept s) many k
+many_kept (Planned p stale) a many j k on h = (on.0, λ few fresh. absurd (false≢true (sym few ∙ h)))
+many_kept (Past o) a many j k on h = h
+
+many_paid : (s : Course) (start now : ℕ) (many : Bool) (j : List Entry) → many ≡ true → IsPaidUp start now (kept s) many j
+many_paid (Planned p stale) start now many j h = λ few fresh. absurd (false≢true (sym few ∙ h))
+many_paid (Past o) start now many j h = h
+
+-- what an answer adds where the flow is past its limits
+pub record Passes (s : Course) (many : Bool) (j : List Entry) (e : Entry) (old new : ℕ) (t : Turn) : Type 0 where
+  pub course : IsOnCourse (kept s) t.many (j ++ e ∷ [])
+  pub next : IsNext (origin_of s) j e t
+  pub paid : IsPaid old new s many j (kept s) t.many (j ++ e ∷ [])
+
+pub passes : (s : Course) (many : Bool) (j : List Entry) (e : Entry) (old new : ℕ) (t : Turn) → IsSome (origin_of s).checked.main → IsOnCourse s many j → too_many (flow_at (origin_of s) j) ≡ true → IsPastLimits t
+    → Passes s many j e old new t
+passes s many j e old new t main on past_now past =
+    record {
+      course = many_kept s many t.many j (j ++ e ∷ []) on past.many;
+      next = past_next (origin_of s) j e t (many_after (flow_at (origin_of s) j) (flow_at (origin_of s) (j ++ e ∷ [])) (grow (origin_of s) main j (e ∷ [])) past_now) past;
+      paid = record { once = λ fresh start up. many_paid s start new t.many (j ++ e ∷ []) past.many; all = many_paid s old new t.many (j ++ e ∷ []) past.many };
+    }
+
+-- ---- what all of it costs
+
+pub paid_cost : (s : Course) (many : Bool) (j : List Entry) (old new : ℕ) → IsPaidUp old new s many j → many ≡ too_many (flow_at (origin_of s) j) → is_stale s ≡ false → too_many (flow_at (origin_of s) j) ≡ false
+    → new ≤ old + cost_at (origin_of s) j
+paid_cost (Planned p stale) many j old new h is fresh few = let u = h (is ∙ few) fresh in omega (arith, u.1, u.0.within)
+paid_cost (Past o) many j old new h is fresh few = absurd (false≢true (sym (is ∙ few) ∙ h))
+
+-- the same, over a journal that is that one
+pub paid_at : (s : Course) (many : Bool) (j k : List Entry) (old new : ℕ) → IsPaidUp old new s many j → many ≡ too_many (flow_at (origin_of s) j) → is_stale s ≡ false → k ≡ j → too_many (flow_at (origin_of s) k) ≡ false
+    → new ≤ old + cost_at (origin_of s) k
+paid_at s many j k old new up is fresh e few =
+    subst (λ (l : List Entry). new ≤ old + cost_at (origin_of s) l) (sym e) (paid_cost s many j old new up is fresh (ap (λ (l : List Entry). too_many (flow_at (origin_of s) l)) (sym e) ∙ few))
+
+kept_fresh : (s : Course) → is_stale (kept s) ≡ false
+kept_fresh (Planned plan stale) = refl
+kept_fresh (Past o) = refl
+
+pub paid_then : (s : Course) (o : Origin) (many : Bool) (j k : List Entry) (x : Course) (old new : ℕ) → IsPaidUp old new (kept s) many j → origin_of (kept s) ≡ o → many ≡ too_many (flow_at o j) → k ≡ j → x ≡ kept s
+    → too_many (flow_at (origin_of x) k) ≡ false → new ≤ old + cost_at (origin_of x) k
+paid_then s o many j k x old new up same is e y few =
+    subst (λ (c : Course). new ≤ old + cost_at (origin_of c) k) (sym y)
+    (paid_at (kept s) many j k old new up (is ∙ ap (λ (a : Origin). too_many (flow_at a j)) (sym same)) (kept_fresh s) e (ap (λ (c : Course). too_many (flow_at (origin_of c) k)) (sym y) ∙ few))

@@ -306,7 +306,7 @@ moved_next o p j k e f t x y z h = subst (λ (a : Origin). IsNext a k f t) (sym 
 pub moved_on : (s : Course) (many : Bool) (j k : List Entry) (e f : Entry) → k ≡ j → e ≡ f → IsOnCourse s many (j ++ e ∷ []) → IsOnCourse s many (k ++ f ∷ [])
 moved_on s many j k e f y z h = subst (λ (l : List Entry). IsOnCourse s many (l ++ f ∷ [])) (sym y) (subst (λ (a : Entry). IsOnCourse s many (j ++ a ∷ [])) z h)
 
-kept_origin : (s : Course) → origin_of (kept s) ≡ origin_of s
+pub kept_origin : (s : Course) → origin_of (kept s) ≡ origin_of s
 kept_origin (Planned plan stale) = refl
 kept_origin (Past o) = refl
 

@@ -8,7 +8,8 @@ use Rattle.wdl_typed.specs.declared.checked.Checked.{Checked}
 use Rattle.wdl_typed.specs.Flow.{Flowing, is_empty, too_many}
 use Rattle.flow_laws.specs.Below.{IsBelow, IsWithin}
 use Rattle.flow_laws.proofs.Elements.{contains_first, none_within}
-use Rattle.scatter_plan.specs.Plans.{PlanState}
+use Rattle.scatter_plan.specs.declared.plan.Plan.{Plan}
+use Rattle.scatter_plan.specs.Plans.{checked_in, faults_in, outputs_in, ready_in}
 use Rattle.ready_core.specs.declared.turn.Turn.{Turn}
 use Rattle.ready_core.specs.Cores.{FaultsStay, Origin, flow_at, has_fault, has_met_fault, met_after, shows_fault}
 use Rattle.ready_core.specs.Flows.{outputs_if_clean}
@@ -104,18 +105,18 @@ closed_fault : (a b : Bool) → b ≡ false → (a || b) ≡ true → a ≡ true
 closed_fault true b h k = refl
 closed_fault false b h k = absurd (false≢true (sym h ∙ k))
 
-pub seen_sight : (p : PlanState) (g : Flowing) (from : ℕ) (t : Turn) → too_many g ≡ false → length g.codes ≡ length g.jobs → ((is : Fault → Bool) → count_by is p.faults ≡ count_by is g.faults)
-    → p.outputs ≡ outputs_if_clean p.checked g → IsShownBy p from t → IsSight p.checked g t
+pub seen_sight : (p : Plan) (g : Flowing) (from : ℕ) (t : Turn) → too_many g ≡ false → length g.codes ≡ length g.jobs → ((is : Fault → Bool) → count_by is (faults_in p) ≡ count_by is g.faults)
+    → outputs_in p ≡ outputs_if_clean (checked_in p) g → IsShownBy p from t → IsSight (checked_in p) g t
 seen_sight p g from t few even faults outputs shown =
-    let first = first_of g p.faults faults in
+    let first = first_of g (faults_in p) faults in
     let some : is_some t.fault ≡ has_fault g = ap is_some shown.fault ∙ first.1 in
     record {
       even = λ k. even;
-      closed = λ k. shown.ready ∙ unless_some t.fault (reverse (map job_in (drop from p.ready))) (some ∙ closed_fault (has_fault g) (too_many g) few k);
+      closed = λ k. shown.ready ∙ unless_some t.fault (reverse (map job_in (drop from (ready_in p)))) (some ∙ closed_fault (has_fault g) (too_many g) few k);
       fault = subst (IsFaultOf g) (sym shown.fault) first.0;
       shows = some ∙ sym (ap (λ b. not b && has_fault g) few);
       many = shown.many ∙ sym few;
-      outcome = shown.outcome ∙ outputs ∙ sym (ap (λ b. cond b None (outputs_if_clean p.checked g)) few);
+      outcome = shown.outcome ∙ outputs ∙ sym (ap (λ b. cond b None (outputs_if_clean (checked_in p) g)) few);
     }
 
 -- ---- flows that grow

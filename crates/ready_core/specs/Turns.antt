@@ -7,7 +7,8 @@ use Rattle.wdl_typed.specs.declared.checked.Checked.{Checked}
 use Rattle.wdl_typed.specs.Flow.{Flowing, too_many}
 use Rattle.wdl_typed.specs.Statuses.{successes_of}
 use Rattle.wdl_task.specs.declared.request.Prepared.{Prepared}
-use Rattle.scatter_plan.specs.Plans.{PlanState}
+use Rattle.scatter_plan.specs.declared.plan.Plan.{Plan}
+use Rattle.scatter_plan.specs.Plans.{faults_in, outputs_in, ready_in}
 use Rattle.ready_core.specs.declared.turn.Turn.{Turn}
 use Rattle.ready_core.specs.Cores.{Origin, flow_at, has_fault, is_taking, jobs_of, shows_fault}
 use Rattle.ready_core.specs.Flows.{outcome_of}
@@ -93,11 +94,11 @@ unless_fault (Some fault) jobs = []
 unless_fault None jobs = jobs
 
 -- the jobs that wait from a number on, a fault, and the outputs
-pub record IsShownBy (p : PlanState) (from : ℕ) (t : Turn) : Type 0 where
-  pub ready : t.ready.items ≡ unless_fault t.fault (reverse (map job_in (drop from p.ready)))
-  pub fault : t.fault ≡ first_fault p.faults
+pub record IsShownBy (p : Plan) (from : ℕ) (t : Turn) : Type 0 where
+  pub ready : t.ready.items ≡ unless_fault t.fault (reverse (map job_in (drop from (ready_in p))))
+  pub fault : t.fault ≡ first_fault (faults_in p)
   pub many : t.many ≡ false
-  pub outcome : t.outcome ≡ p.outputs
+  pub outcome : t.outcome ≡ outputs_in p
 
 -- ---- turns that follow each other
 

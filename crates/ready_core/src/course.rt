@@ -4,7 +4,7 @@ ghost use Rattle.wdl_typed.specs.declared.flow.FlowDef.{FlowDef};
 ghost use Rattle.wdl_typed.specs.Flow.{too_many};
 ghost use Rattle.wdl_typed.specs.Journal.{inputs_fit};
 ghost use Rattle.scatter_plan.specs.Calls.{IsOfSame};
-ghost use Rattle.scatter_plan.specs.Plans.{IsTold};
+ghost use Rattle.scatter_plan.specs.Plans.{IsMade, IsTold};
 ghost use Rattle.ready_core.specs.Cores.{fed_at, flow_at};
 ghost use Rattle.ready_core.specs.Courses as spec;
 ghost use Rattle.ready_core.specs.Turns as turns;
@@ -51,9 +51,10 @@ pub fn begin<S: Ledger>(
     requires main { IsSome checked.main }
     requires fit { (k : ℕ) (main : FlowDef) → checked.main ≡ Some k → slice_get checked.flows k ≡ Some main → inputs_fit checked.structs main.inputs inputs ≡ true }
     ensures origin { IfOk result (λ b. spec.origin_of b.course ≡ record { checked = checked; inputs = inputs; site = site }) }
+    ensures fresh { IfOk result (λ b. spec.is_stale b.course ≡ false) }
     ensures course { IfOk result (λ b. spec.IsOnCourse b.course b.turn.many []) }
     ensures first { IfOk result (λ b. turns.IsFirst (spec.origin_of b.course) b.turn) }
-    ensures paid { IfOk result (λ b. b.turn.many ≡ false → spec.IsBegun b.course steps.old steps.new) }
+    ensures paid { IfOk result (λ b. spec.IsPaidUp steps.old steps.new b.course b.turn.many []) }
 {
     match Plan::new(alloc, checked, inputs, site, steps) {
         Ok(plan) => planned(alloc, plan),
@@ -94,15 +95,16 @@ fn catch_up<S: Ledger>(
     journal: &[Entry],
     steps: &mut Steps<S>,
 ) -> Result<(), NoMemory>
+    requires made { IsMade plan.old }
     requires told { stale ≡ false → IsTold plan.old (table journal.now) }
     requires fed { fed_at (spec.origin_in plan.old) journal.now ≡ true }
     requires few { too_many (flow_at (spec.origin_in plan.old) journal.now) ≡ false }
     ensures origin { IsOfSame plan.old plan.new }
-    ensures told { OnOk result (IsTold plan.new (table journal.now)) }
-    ensures paid { OnOk result (spec.IsCaughtUp stale plan.old plan.new steps.old steps.new) }
+    ensures made { IsMade plan.new }
+    ensures caught { OnOk result (spec.IsFurther stale (table journal.now) (table journal.now) plan.old steps.old steps.new plan.new) }
 {
     if stale {
-        plan.renew(alloc, journal, steps)?;
+        return plan.renew(alloc, journal, steps);
     }
     Ok(())
 }
@@ -115,12 +117,13 @@ fn tell<S: Ledger>(
     entry: &Entry,
     steps: &mut Steps<S>,
 ) -> Result<Turn, NoMemory>
+    requires made { IsMade plan.old }
     requires told { IsTold plan.old (table journal.now) }
     requires awaited { spec.IsAwaited (flow_at (spec.origin_in plan.old) journal.now) journal.now entry.now.request }
     ensures origin { IsOfSame plan.old plan.new }
-    ensures told { IfOk result (λ t. t.many ≡ false → IsTold plan.new (table (journal.now ++ entry.now ∷ []))) }
+    ensures made { IsMade plan.new }
     ensures next { IfOk result (turns.IsNext (spec.origin_in plan.old) journal.now entry.now) }
-    ensures paid { IfOk result (λ t. t.many ≡ false → steps.new + plan.old.paid ≤ steps.old + plan.new.paid) }
+    ensures told { (was : IsTold plan.old (table journal.now)) → IfOk result (λ t. t.many ≡ false → (told : IsTold plan.new (table (journal.now ++ entry.now ∷ []))) × (steps.new + was.paid ≤ steps.old + told.paid)) }
 {
     let waiting = plan.ready().len();
     let from = waiting - 1;
@@ -141,14 +144,15 @@ fn tell_anew<S: Ledger>(
     entry: &Entry,
     steps: &mut Steps<S>,
 ) -> Result<Turn, NoMemory>
+    requires made { IsMade plan.old }
     requires told { stale ≡ false → IsTold plan.old (table journal.now) }
     requires fed { fed_at (spec.origin_in plan.old) journal.now ≡ true }
     requires few { too_many (flow_at (spec.origin_in plan.old) journal.now) ≡ false }
     requires awaited { spec.IsAwaited (flow_at (spec.origin_in plan.old) journal.now) journal.now entry.now.request }
     ensures origin { IsOfSame plan.old plan.new }
-    ensures told { IfOk result (λ t. t.many ≡ false → IsTold plan.new (table (journal.now ++ entry.now ∷ []))) }
+    ensures made { IsMade plan.new }
     ensures next { IfOk result (turns.IsNext (spec.origin_in plan.old) journal.now entry.now) }
-    ensures paid { IfOk result (λ t. t.many ≡ false → spec.IsCaughtUp stale plan.old plan.new steps.old steps.new) }
+    ensures told { IfOk result (λ t. t.many ≡ false → spec.IsFurther stale (table journal.now) (table (journal.now ++ entry.now ∷ [])) plan.old steps.old steps.new plan.new) }
 {
     catch_up(alloc, plan, stale, journal, steps)?;
     tell(alloc, plan, journal, entry, steps)
@@ -173,7 +177,7 @@ impl Course {
         ensures still { spec.IsOnCourse self.new many journal.now }
         ensures course { IfOk result (λ t. spec.IsOnCourse (spec.kept self.new) t.many (journal.now ++ entry.now ∷ [])) }
         ensures next { IfOk result (turns.IsNext (spec.origin_of self.old) journal.now entry.now) }
-        ensures paid { IfOk result (λ t. t.many ≡ false → spec.IsPaid self.old self.new (journal.now ++ entry.now ∷ []) steps.old steps.new) }
+        ensures paid { IfOk result (λ t. spec.IsPaid steps.old steps.new self.old many journal.now (spec.kept self.new) t.many (journal.now ++ entry.now ∷ [])) }
     {
         if many {
             return Ok(Turn::past_limits(alloc));

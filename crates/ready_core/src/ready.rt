@@ -68,7 +68,7 @@ fn next_turn<S: Ledger>(
     ensures course { IfOk result (λ t. IsOnCourse (kept course.new) t.many (log.old.journal.items ++ entry.now ∷ [])) }
     ensures next { IfOk result (turns.IsNext (origin_of course.old) log.old.journal.items entry.now) }
     ensures room { IfOk result (HasRoomFor turn.new log.new) }
-    ensures paid { IfOk result (λ t. t.many ≡ false → IsPaid course.old course.new (log.old.journal.items ++ entry.now ∷ []) steps.old steps.new) }
+    ensures paid { IfOk result (λ t. IsPaid steps.old steps.new course.old turn.old.many log.old.journal.items (kept course.new) t.many (log.old.journal.items ++ entry.now ∷ [])) }
 {
     let next = course.tell(alloc, turn.many, log.journal.as_slice(), entry, steps)?;
     turn.make_room(&next)?;

@@ -1,6 +1,7 @@
 //! What a plan shows.
 
 ghost use Rattle.std.specs.Prelude.{◌≡◌, ◌≤◌, false, IfOk, length, map, reverse};
+ghost use Rattle.scatter_plan.specs.Plans.{outputs_in, ready_in};
 ghost use Rattle.ready_core.specs.Turns as turns;
 
 use crate::pending::Pending;
@@ -58,8 +59,7 @@ fn pending_unless(
 
 /// A copy of the outputs of a plan, where there are some.
 fn copy_outputs(alloc: Global, plan: &Plan) -> Result<Option<Env>, NoMemory>
-    requires kept { plan.now.spent ≡ false }
-    ensures outputs { IfOk result (λ o. o ≡ plan.now.outputs) }
+    ensures outputs { IfOk result (λ o. o ≡ outputs_in plan.now) }
 {
     match plan.outputs() {
         Some(outputs) => Ok(Some(copy_env(alloc, outputs.as_slice())?)),
@@ -87,8 +87,7 @@ fn copy_bind(alloc: Global, bind: &Bind) -> Result<Bind, NoMemory>
 
 /// What a plan shows: the jobs that wait, from a number on, a fault, and the outputs.
 pub fn shown_by(alloc: Global, plan: &Plan, from: usize) -> Result<Turn, NoMemory>
-    requires kept { plan.now.spent ≡ false }
-    requires within { from ≤ length plan.now.ready }
+    requires within { from ≤ length (ready_in plan.now) }
     ensures shown { IfOk result (turns.IsShownBy plan.now from) }
 {
     let fault = first_of(alloc, plan.faults())?;

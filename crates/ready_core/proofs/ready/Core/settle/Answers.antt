@@ -1,9 +1,11 @@
-use Rattle.std.proofs.Common.{Contains, None, Some, ap, refl, subst, sym, ◌∙◌}
+use Rattle.std.proofs.Common.{[], ◌∷◌, ◌++◌, List, Contains, None, Some, ap, refl, subst, sym, ◌∙◌}
 use Rattle.wdl_base.specs.declared.entry.Entry.{Entry}
 use Rattle.ready_core.specs.declared.course.Course.{Course}
 use Rattle.ready_core.specs.Cores.{CoreState, Settles, requests}
 use Rattle.ready_core.specs.Inside.{IsRun, state}
-use Rattle.ready_core.proofs.Running.{moved_next, moved_on, moved_place, none_out, place_held, run_settled, state_kept, state_settled}
+use Rattle.ready_core.specs.Courses.{origin_of}
+use Rattle.ready_core.proofs.Coursing.{paid_then}
+use Rattle.ready_core.proofs.Running.{kept_origin, moved_next, moved_on, moved_place, none_out, place_held, run_settled, state_kept, state_settled}
 use Rattle.ready_core.proofs.ready.Core.settle.Goals as goal
 
 pub returns-in_default-clause-fault : goal.returns-in_default-clause-fault
@@ -52,3 +54,12 @@ returns-clause-ok g c =
     subst (λ (s : CoreState). Settles s c.args.a (state c.keep.new.self c.settle.new.self)) (state_kept i.course n.course i.log n.log h.origin h.log ∙ c.self.view_is)
     (subst (λ (x : Course). Settles (state n.course n.log) c.args.a (state x c.settle.new.self)) (sym c.keep.ensures.kept)
     (state_settled n.course n.log c.settle.new.self n.turn c.in-Ok.next c.follow.new.self c.in-Some.at c.args.a h.run place next c.settle.ensures.settles))
+
+pub returns-clause-paid : goal.returns-clause-paid
+returns-clause-paid g c few =
+    let i = c.self.inside in
+    let n = c.next_turn.new in
+    let h = c.in-Ok.ensures in
+    paid_then n.course (origin_of i.course) c.in-Ok.next.many (i.log.journal.items ++ c.entry-2.result.now ∷ []) c.settle.new.self.journal.items c.keep.new.self c.args.steps.now n.steps h.paid.all (kept_origin n.course ∙ h.origin)
+    h.next.sight.many
+    (c.settle.ensures.settles.journal ∙ ap (λ (l : List Entry). l ++ c.args.a ∷ []) h.log.journal ∙ ap (λ (x : Entry). i.log.journal.items ++ x ∷ []) (sym c.entry-2.ensures.entry)) c.keep.ensures.kept few
