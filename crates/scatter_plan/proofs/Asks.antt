@@ -80,8 +80,10 @@ asked_more ready owners asked marks h p a new place waits =
           is_ready = subst (λ (n : ℕ). slice_get (ready ++ p ∷ []) n ≡ Some p) (sym (e.0 ∙ h.pairs)) (get_last ready p);
           place = sym place;
         }
+
     old_differs : (i : ℕ) (x : Asked) → slice_get asked i ≡ Some x → x.place ≡ a.place → ⊥
     old_differs i x e same = new i (call_of x) (get_map call_of asked i x e) (same ∙ place)
+
     differ : (i j : ℕ) (x y : Asked) → (slice_get asked i ≡ Some x) ⊎ ((i ≡ length asked) × (x ≡ a)) → (slice_get asked j ≡ Some y) ⊎ ((j ≡ length asked) × (y ≡ a)) → x.place ≡ y.place → i ≡ j
     differ i j x y (inl e) (inl f) same = h.distinct i j x y e f same
     differ i j x y (inl e) (inr f) same = absurd (old_differs i x e (same ∙ ap (λ (z : Asked). z.place) f.1))
@@ -199,6 +201,7 @@ closed ready owners asked marks h k d moved q a b inside last there place waits 
         at_end : (k + 1 < length owners) × (((k ≡ k) × (slice_get owners (length owners - 1) ≡ Some moved)) ⊎ ((k ≢ k) × (slice_get owners k ≡ Some moved))) → slice_get owners (length owners - 1) ≡ Some moved
         at_end (less, inl s) = s.1
         at_end (less, inr s) = absurd (s.0 refl)
+
     owns : (i j : ℕ) → slice_get (swap_remove owners k d) i ≡ Some j → (i + 1 < length owners) × (((i ≡ k) × (slice_get owners (length owners - 1) ≡ Some j)) ⊎ ((i ≢ k) × (slice_get owners i ≡ Some j)))
         → IsOwned (swap_remove ready k q) (slice_set asked moved b) i j
     owns i j e (less, inl s) =
@@ -289,13 +292,13 @@ module _ (ready later : List Prepared) (owners after : List ℕ) (asked : List A
   pub removed_then : (moved : ℕ) (a b : Asked) → k < length after → moved ≡ get_or after k moved → a ≡ get_or asked moved a → b.place ≡ a.place → b.waits_at ≡ k → AreAsking later after (slice_set asked moved b) marks
   removed_then moved a b less is there place waits =
       subst (λ (rs : List Prepared). AreAsking rs after (slice_set asked moved b) marks) (sym e)
-        (subst (λ (os : List ℕ). AreAsking (swap_remove ready k q) os (slice_set asked moved b) marks) (sym f)
-          (closed ready owners asked marks h k d moved q a b inside (moved_from moved less is) (read_at asked moved a a (moved_there moved less is) there) place waits))
+      (subst (λ (os : List ℕ). AreAsking (swap_remove ready k q) os (slice_set asked moved b) marks) (sym f)
+      (closed ready owners asked marks h k d moved q a b inside (moved_from moved less is) (read_at asked moved a a (moved_there moved less is) there) place waits))
 
   pub removed_else : length owners ≤ k + 1 → AreAsking later after asked marks
   removed_else last =
       subst (λ (rs : List Prepared). AreAsking rs after asked marks) (sym e)
-        (subst (λ (os : List ℕ). AreAsking (swap_remove ready k q) os asked marks) (sym f) (closed_last ready owners asked marks h k d q inside last))
+      (subst (λ (os : List ℕ). AreAsking (swap_remove ready k q) os asked marks) (sym f) (closed_last ready owners asked marks h k d q inside last))
 
 -- the calls, but for the last attempt that was answered, are the same
 pub calls_kept : (asked : List Asked) (at : ℕ) (a b : Asked) → at < length asked → a ≡ get_or asked at a → call_of b ≡ call_of a → map call_of (slice_set asked at b) ≡ map call_of asked
@@ -331,8 +334,8 @@ pub all_same : (ready : List Prepared) (owners : List ℕ) (asked : List Asked) 
     → AreAsking ready owners asked marks → AreAsking ready2 owners2 asked2 marks2
 all_same ready owners asked marks ready2 owners2 asked2 marks2 e f g m h =
     subst (λ (xs : List Prepared). AreAsking xs owners2 asked2 marks2) (sym e)
-      (subst (λ (xs : List ℕ). AreAsking ready xs asked2 marks2) (sym f)
-        (subst (λ (xs : List Asked). AreAsking ready owners xs marks2) (sym g) (subst (λ (xs : List ℕ). AreAsking ready owners asked xs) (sym m) h)))
+    (subst (λ (xs : List ℕ). AreAsking ready xs asked2 marks2) (sym f)
+    (subst (λ (xs : List Asked). AreAsking ready owners xs marks2) (sym g) (subst (λ (xs : List ℕ). AreAsking ready owners asked xs) (sym m) h)))
 
 -- ---- what was answered
 

@@ -58,7 +58,7 @@ beyond_there count distance more firsts h less k there =
 pub all_there : (m count distance more : ℕ) (firsts cells : List ℕ) → m ≡ count → cells ≡ beyond_each firsts distance → AreFollowed count firsts more → distance < more → (k : ℕ) → k < length cells → get_or cells k 0 < m
 all_there m count distance more firsts cells same e h less =
     subst (λ (cs : List ℕ). (k : ℕ) → k < length cs → get_or cs k 0 < m) (sym e)
-      (subst (λ (n : ℕ). (k : ℕ) → k < length (beyond_each firsts distance) → get_or (beyond_each firsts distance) k 0 < n) (sym same) (beyond_there count distance more firsts h less))
+    (subst (λ (n : ℕ). (k : ℕ) → k < length (beyond_each firsts distance) → get_or (beyond_each firsts distance) k 0 < n) (sym same) (beyond_there count distance more firsts h less))
 
 pub beyond_numbers : (count distance more : ℕ) (firsts : List ℕ) → AreFollowed count firsts more → distance < more → count < 2 ^ 64 → AreNumbers firsts distance
 beyond_numbers count distance more firsts h less few = λ k d inside. let b : get_or firsts k d + more < count + 1 = h k d inside in omega (arith, b, less, few)
@@ -87,7 +87,7 @@ items_more body outer place layout i [] p = omega arith
 items_more body outer place layout i (x ∷ xs) p =
     let rest : length p.net.values ≤ length (with_items body outer place layout (i + 1) xs p).net.values = items_more body outer place layout (i + 1) xs p in
     let own : length (with_items body outer place layout i (x ∷ xs) p).net.values ≡ length (with_items body outer place layout (i + 1) xs p).net.values + layout.cells =
-        item_count body outer (place ++ segment.Index i ∷ []) layout x (with_items body outer place layout (i + 1) xs p) in
+    item_count body outer (place ++ segment.Index i ∷ []) layout x (with_items body outer place layout (i + 1) xs p) in
     omega (arith, rest, own)
 
 pub cells_more : (net : Sown) (n : ℕ) → length (with_cells net n).values ≡ length net.values + n
@@ -138,7 +138,7 @@ pub flow_count : (f : FlowDef) (given : List Bind) (place : List Segment) (layou
 flow_count f given place layout body old new e =
     ap (λ (p : Plot). length p.net.values) e
     ∙ ap (λ (xs : List (Option Value)). length xs)
-      (outputs_keep (length old.instances) (length old.net.values) 0 layout.outputs (with_inputs given (length old.instances) (length old.net.values) 0 f.inputs layout.inputs (with_instance layout.body [] place body old).net))
+    (outputs_keep (length old.instances) (length old.net.values) 0 layout.outputs (with_inputs given (length old.instances) (length old.net.values) 0 f.inputs layout.inputs (with_instance layout.body [] place body old).net))
     ∙ inputs_keep given (length old.instances) (length old.net.values) 0 f.inputs layout.inputs (with_instance layout.body [] place body old).net
     ∙ instance_count layout.body [] place body old
 
@@ -152,5 +152,5 @@ firsts_followed body outer place layout i (x ∷ xs) p =
     let count : length (with_items body outer place layout i (x ∷ xs) p).net.values ≡ length rest.net.values + layout.cells = item_count body outer (place ++ segment.Index i ∷ []) layout x rest in
     let later : AreFollowed (length rest.net.values) (firsts_of body outer place layout (i + 1) xs p) layout.cells = firsts_followed body outer place layout (i + 1) xs p in
     All-cons (λ (first : ℕ). first + layout.cells < length (with_items body outer place layout i (x ∷ xs) p).net.values + 1) (length rest.net.values) (firsts_of body outer place layout (i + 1) xs p)
-      (omega (arith, count))
-      (λ k d inside. let b : get_or (firsts_of body outer place layout (i + 1) xs p) k d + layout.cells < length rest.net.values + 1 = later k d inside in omega (arith, b, count))
+    (omega (arith, count))
+    (λ k d inside. let b : get_or (firsts_of body outer place layout (i + 1) xs p) k d + layout.cells < length rest.net.values + 1 = later k d inside in omega (arith, b, count))

@@ -51,7 +51,7 @@ pub flow_dones_there : (old count first : ℕ) (f : FlowDef) (layout : FlowLayou
     → (k : ℕ) → k < length dones → get_or dones k 0 < count
 flow_dones_there old count first f layout body dones e less h =
     subst (λ (ds : List ℕ). (k : ℕ) → k < length ds → get_or ds k 0 < count) (sym e)
-      (below_both count (cells_from first (length f.inputs)) (dones_at first body.statements ++ cells_from (first + layout.first_output) (length f.outputs))
-        (cells_below first (length f.inputs) count (omega (arith, less, h.inputs)))
-        (below_both count (dones_at first body.statements) (cells_from (first + layout.first_output) (length f.outputs)) (dones_below first body.cells count body.statements (omega (arith, less)) h.dones)
-          (cells_below (first + layout.first_output) (length f.outputs) count (omega (arith, less, h.outputs)))))
+    (below_both count (cells_from first (length f.inputs)) (dones_at first body.statements ++ cells_from (first + layout.first_output) (length f.outputs))
+    (cells_below first (length f.inputs) count (omega (arith, less, h.inputs)))
+    (below_both count (dones_at first body.statements) (cells_from (first + layout.first_output) (length f.outputs)) (dones_below first body.cells count body.statements (omega (arith, less)) h.dones)
+    (cells_below (first + layout.first_output) (length f.outputs) count (omega (arith, less, h.outputs)))))

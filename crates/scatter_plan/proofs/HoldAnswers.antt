@@ -459,41 +459,40 @@ module _ (checked : Checked) (layout : Layout) (main : ℕ) (given : List Bind) 
           → ((n : ℕ) (x : Prepared) → slice_get after.ready n ≡ Some x → IsAwaited site more after.calls later x) → after.calls ≡ between.calls
           → (k : Held new after) × (k.paid_by task_cost ≡ h.paid_by task_cost) × (owed k.asked ≡ owed later)
       holds new after net later now arrived plot count few grow owes lists jobs awaited calls =
-          let more_jobs = λ (is : JobTest). (let e = arrived.swaps (λ (y : Work). jobs_in y is) (jobs_weigh is) in let g = grow is in no_less (jobs_in arrived.lists is) (jobs_in (work_after site place a attempt [] (place ∷ [])) is) (jobs_in h.listed is) (jobs_in (now place) is) e g) in
-          (
-          record {
-            flow = h.flow;
-            there = h.there;
-            inputs_given = h.inputs_given;
-            names = h.names;
-            dones = h.dones;
-            distinct = h.distinct;
-            line = h.line;
-            line_there = h.line_there;
-            outputs = h.outputs;
-            few_count = (let f = h.few_count in omega (arith, f, count));
-            few_jobs = few;
-            listed = arrived.lists;
-            even = arrived.even;
-            paid_by = h.paid_by;
-            asked = later;
-            growing =
-                subst (λ (y : Plot). IsGrowing lib layout site more 24 form y.net y.instances arrived.lists later h.paid_by) (sym plot) arrived.growing;
-            answered = answered_now;
-            lists = subst (λ (n : ℕ). Listed arrived.lists (λ (is : JobTest). waiting after.ready is + answered_now is) new.faults n) (sym count) lists;
-            over = over_now;
-            jobs = jobs;
-            awaited = awaited;
-            called = λ n d e. (
-                let o = called_now n d (ap (λ (cs : List Call). slice_get cs n) (sym calls) ∙ e) in
-                let old = subst (λ (r : List Segment). 0 < jobs_in h.listed (at_place r)) o.3 (h.called o.0 o.1 o.2) in
-                let g = more_jobs (at_place d.place) in
-                omega (arith, old, g));
-            owes = owes;
-            rowed = λ r among. rowed_now arrived.lists more_jobs r (Contains-append_cases rows (row ∷ []) r among);
-          },
-          refl,
-          refl,
+          let more_jobs = λ (is : JobTest). (let e = arrived.swaps (λ (y : Work). jobs_in y is) (jobs_weigh is) in let g = grow is in no_less (jobs_in arrived.lists is) (jobs_in (work_after site place a attempt [] (place ∷ [])) is) (jobs_in h.listed is) (jobs_in (now place) is) e g) in (
+            record {
+              flow = h.flow;
+              there = h.there;
+              inputs_given = h.inputs_given;
+              names = h.names;
+              dones = h.dones;
+              distinct = h.distinct;
+              line = h.line;
+              line_there = h.line_there;
+              outputs = h.outputs;
+              few_count = (let f = h.few_count in omega (arith, f, count));
+              few_jobs = few;
+              listed = arrived.lists;
+              even = arrived.even;
+              paid_by = h.paid_by;
+              asked = later;
+              growing =
+                  subst (λ (y : Plot). IsGrowing lib layout site more 24 form y.net y.instances arrived.lists later h.paid_by) (sym plot) arrived.growing;
+              answered = answered_now;
+              lists = subst (λ (n : ℕ). Listed arrived.lists (λ (is : JobTest). waiting after.ready is + answered_now is) new.faults n) (sym count) lists;
+              over = over_now;
+              jobs = jobs;
+              awaited = awaited;
+              called = λ n d e. (
+                  let o = called_now n d (ap (λ (cs : List Call). slice_get cs n) (sym calls) ∙ e) in
+                  let old = subst (λ (r : List Segment). 0 < jobs_in h.listed (at_place r)) o.3 (h.called o.0 o.1 o.2) in
+                  let g = more_jobs (at_place d.place) in
+                  omega (arith, old, g));
+              owes = owes;
+              rowed = λ r among. rowed_now arrived.lists more_jobs r (Contains-append_cases rows (row ∷ []) r among);
+            },
+            refl,
+            refl,
           )
         where
           no_less : (x was old now_ : ℕ) → x + was ≡ old + now_ → was ≤ now_ → old ≤ x

@@ -56,11 +56,12 @@ module _ (checked : Checked) (layout : Layout) (main : ℕ) (given : List Bind) 
   -- The call of an attempt that waits may be concluded.
   pub can_conclude : (place : List Segment) (at : ℕ) (c : Call) (j : ℕ) (p : Prepared) → slice_get (calls asking) at ≡ Some c → c.place ≡ place → slice_get asking.ready.items j ≡ Some p → p.request.place ≡ place
       → (i : ℕ) × (k : ℕ) × (slice_get (view growth.entered.net).rules c.step ≡ Some (rule.Statement i k)) × CanConclude checked layout (field growth) i k p
-  can_conclude place at c j p c_there c_place p_there p_place =
-      (hold.i checked layout main given site rows s h (calls_one asking sound) (ready_one asking sound) at c c_there j p p_there (c_place ∙ sym p_place),
-      hold.k checked layout main given site rows s h (calls_one asking sound) (ready_one asking sound) at c c_there j p p_there (c_place ∙ sym p_place),
-      hold.code checked layout main given site rows s h (calls_one asking sound) (ready_one asking sound) at c c_there j p p_there (c_place ∙ sym p_place),
-      hold.can checked layout main given site rows s h (calls_one asking sound) (ready_one asking sound) at c c_there j p p_there (c_place ∙ sym p_place))
+  can_conclude place at c j p c_there c_place p_there p_place = (
+    hold.i checked layout main given site rows s h (calls_one asking sound) (ready_one asking sound) at c c_there j p p_there (c_place ∙ sym p_place),
+    hold.k checked layout main given site rows s h (calls_one asking sound) (ready_one asking sound) at c c_there j p p_there (c_place ∙ sym p_place),
+    hold.code checked layout main given site rows s h (calls_one asking sound) (ready_one asking sound) at c c_there j p p_there (c_place ∙ sym p_place),
+    hold.can checked layout main given site rows s h (calls_one asking sound) (ready_one asking sound) at c c_there j p p_there (c_place ∙ sym p_place),
+  )
 
   module _ (place : List Segment) (attempt : ℕ) (waits : is_waiting asking.ready.items place attempt ≡ true) (answer : Answer) (growth_now : Growth) (asking_now : Asking) (old new : ℕ) where
     abbrev after : State

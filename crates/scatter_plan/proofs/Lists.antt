@@ -48,6 +48,7 @@ module _ {A : Type 0} where
     where
       front : (i < length xs - 1) × (slice_get (slice_set xs k (get_or xs (length xs - 1) d)) i ≡ Some y)
       front = get_front (length xs - 1) (slice_set xs k (get_or xs (length xs - 1) d)) i y e
+
       by_case : ((i ≡ k) × (y ≡ get_or xs (length xs - 1) d)) ⊎ ((i ≢ k) × (slice_get xs i ≡ Some y)) → ((i ≡ k) × (slice_get xs (length xs - 1) ≡ Some y)) ⊎ ((i ≢ k) × (slice_get xs i ≡ Some y))
       by_case (inl h) = inl (h.0, read_at xs (length xs - 1) d y (omega (arith, inside)) h.1)
       by_case (inr h) = inr h

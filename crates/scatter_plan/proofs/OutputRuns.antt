@@ -19,6 +19,7 @@ met_count structs dir answer env (d ∷ ds) outs e =
     by_rest x (Ok more) rest e =
         let own : bind d.name x ∷ more ≡ outs = cc in
         ap (λ (xs : List Bind). length xs) (sym own) ∙ ap (λ n. suc n) (rest more refl)
+
     by_value : ((x : Value) (more : List Bind) → outputs_met structs dir answer (env ++ bind d.name x ∷ []) ds ≡ Ok more → length more ≡ length ds) → (o : Tried Value)
         → tried o (λ x. tried (outputs_met structs dir answer (env ++ bind d.name x ∷ []) ds) (λ more. Ok (bind d.name x ∷ more))) ≡ Ok outs → length outs ≡ suc (length ds)
     by_value rest (Err f) e = absurd (let no : ⊥ = cc in no)

@@ -14,7 +14,6 @@ reached_wide m n bases needs less h = λ k d inside. widen (get_or needs k d) (h
     widen : (x : Need) → IsReached m bases x → IsReached n bases x
     widen x r = record { level = r.level; cell = omega (arith, r.cell, less) }
 
-
 pub below_both : (count : ℕ) (xs ys : List ℕ) → ((k : ℕ) → k < length xs → get_or xs k 0 < count) → ((k : ℕ) → k < length ys → get_or ys k 0 < count) → (k : ℕ) → k < length (xs ++ ys) → get_or (xs ++ ys) k 0 < count
 below_both count [] ys h g k there = g k there
 below_both count (x ∷ xs) ys h g zero there = h 0 (omega arith)

@@ -68,9 +68,11 @@ module _ (checked : Checked) (layout : Layout) (bases : List ℕ) (line : Statem
   pub bad_call : (site : List ℕ) (place at at2 : List Segment) (step : ℕ) (t : Target) (more : List Fault) (o o2 : Tried (List Bind)) (name : List ℕ) (why : Why) → o2 ≡ o → Fails o (Bad name why) → at2 ≡ at → more ≡ old.field.faults ++ record { place = at2; name = name; why = why } ∷ []
       → CalledWith checked layout site bases place step line t at old (record { field = record { plot = old.field.plot; faults = more; count = old.field.count }; asks = old.asks }) o2
   bad_call site place at at2 step t more o o2 name why same fails there added =
-      subst (λ (x : Tried (List Bind)). CalledWith checked layout site bases place step line t at old (record { field = record { plot = old.field.plot; faults = more; count = old.field.count }; asks = old.asks }) x) (sym (same ∙ fails))
-        (ap (λ (fs : List Fault). let f : Field = record { plot = old.field.plot; faults = fs; count = old.field.count } in f)
-          (added ∙ ap (λ (p : List Segment). let f : Fault = record { place = p; name = name; why = why } in old.field.faults ++ f ∷ []) there), refl)
+      subst (λ (x : Tried (List Bind)). CalledWith checked layout site bases place step line t at old (record { field = record { plot = old.field.plot; faults = more; count = old.field.count }; asks = old.asks }) x) (sym (same ∙ fails)) (
+        ap (λ (fs : List Fault). let f : Field = record { plot = old.field.plot; faults = fs; count = old.field.count } in f)
+            (added ∙ ap (λ (p : List Segment). let f : Fault = record { place = p; name = name; why = why } in old.field.faults ++ f ∷ []) there),
+        refl,
+      )
 
   pub failed_call : (site : List ℕ) (place at : List Segment) (step : ℕ) (t : Target) (new : State) (o : Tried (List Bind)) (e : Failing) → o ≡ Err e → new.field ≡ with_fault old.field (failing_at at e) → new.asks ≡ old.asks
       → CalledWith checked layout site bases place step line t at old new o
@@ -91,49 +93,59 @@ module _ (checked : Checked) (layout : Layout) (site : List ℕ) (bases : List �
         → Passes (StatementDone checked layout site bases place step line old new (out-Statement st)) (IsPastStatement checked layout [] bases place step line old (out-Statement st)) r
     scatter_done st x b inner bases2 is same found there asks h =
         passes_as _ _ _ _ r
-          (λ p. subst (λ (y : Statement-F Statement). StatementDone checked layout site bases place step line old new y) (sym (ap out-Statement is ∙ stmt.outs-Scatter x))
-            (inner, there,
-              subst (λ (c : BodyLayout). new.field ≡ scattered bases (place ++ segment.Scatter x.number ∷ []) c line x.item old.field (own_value old.field.plot.net bases line.needs x.over)) found
-                (subst (λ (bs : List ℕ). new.field ≡ scattered bs (place ++ segment.Scatter x.number ∷ []) b line x.item old.field (own_value old.field.plot.net bs line.needs x.over)) same p.0), asks))
-          (λ q. subst (λ (y : Statement-F Statement). IsPastStatement checked layout [] bases place step line old y) (sym (ap out-Statement is ∙ stmt.outs-Scatter x))
-            (inner, there,
-              subst (λ (c : BodyLayout). IsPastScatter c old.field (own_value old.field.plot.net bases line.needs x.over)) found
-                (subst (λ (bs : List ℕ). IsPastScatter b old.field (own_value old.field.plot.net bs line.needs x.over)) same q)))
-          h
+        (λ p. subst (λ (y : Statement-F Statement). StatementDone checked layout site bases place step line old new y) (sym (ap out-Statement is ∙ stmt.outs-Scatter x)) (
+          inner,
+          there,
+          subst (λ (c : BodyLayout). new.field ≡ scattered bases (place ++ segment.Scatter x.number ∷ []) c line x.item old.field (own_value old.field.plot.net bases line.needs x.over)) found
+              (subst (λ (bs : List ℕ). new.field ≡ scattered bs (place ++ segment.Scatter x.number ∷ []) b line x.item old.field (own_value old.field.plot.net bs line.needs x.over)) same p.0),
+          asks,
+        ))
+        (λ q. subst (λ (y : Statement-F Statement). IsPastStatement checked layout [] bases place step line old y) (sym (ap out-Statement is ∙ stmt.outs-Scatter x)) (
+          inner,
+          there,
+          subst (λ (c : BodyLayout). IsPastScatter c old.field (own_value old.field.plot.net bases line.needs x.over)) found
+              (subst (λ (bs : List ℕ). IsPastScatter b old.field (own_value old.field.plot.net bs line.needs x.over)) same q),
+        ))
+        h
 
     pub if_done : (st : Statement) (x : TIf Statement) (b inner : BodyLayout) (bases2 : List ℕ) → st ≡ stmt.If x → bases2 ≡ bases → b ≡ inner → slice_get layout.bodies line.inner ≡ Some inner → new.asks ≡ old.asks
         → Passes ((new.field ≡ conditioned bases2 (place ++ segment.If x.number ∷ []) b line old.field (own_value old.field.plot.net bases2 line.needs x.cond)) × more) (IsPastCondition b old.field (own_value old.field.plot.net bases2 line.needs x.cond)) r
         → Passes (StatementDone checked layout site bases place step line old new (out-Statement st)) (IsPastStatement checked layout [] bases place step line old (out-Statement st)) r
     if_done st x b inner bases2 is same found there asks h =
         passes_as _ _ _ _ r
-          (λ p. subst (λ (y : Statement-F Statement). StatementDone checked layout site bases place step line old new y) (sym (ap out-Statement is ∙ stmt.outs-If x))
-            (inner, there,
-              subst (λ (c : BodyLayout). new.field ≡ conditioned bases (place ++ segment.If x.number ∷ []) c line old.field (own_value old.field.plot.net bases line.needs x.cond)) found
-                (subst (λ (bs : List ℕ). new.field ≡ conditioned bs (place ++ segment.If x.number ∷ []) b line old.field (own_value old.field.plot.net bs line.needs x.cond)) same p.0), asks))
-          (λ q. subst (λ (y : Statement-F Statement). IsPastStatement checked layout [] bases place step line old y) (sym (ap out-Statement is ∙ stmt.outs-If x))
-            (inner, there,
-              subst (λ (c : BodyLayout). IsPastCondition c old.field (own_value old.field.plot.net bases line.needs x.cond)) found
-                (subst (λ (bs : List ℕ). IsPastCondition b old.field (own_value old.field.plot.net bs line.needs x.cond)) same q)))
-          h
+        (λ p. subst (λ (y : Statement-F Statement). StatementDone checked layout site bases place step line old new y) (sym (ap out-Statement is ∙ stmt.outs-If x)) (
+          inner,
+          there,
+          subst (λ (c : BodyLayout). new.field ≡ conditioned bases (place ++ segment.If x.number ∷ []) c line old.field (own_value old.field.plot.net bases line.needs x.cond)) found
+              (subst (λ (bs : List ℕ). new.field ≡ conditioned bs (place ++ segment.If x.number ∷ []) b line old.field (own_value old.field.plot.net bs line.needs x.cond)) same p.0),
+          asks,
+        ))
+        (λ q. subst (λ (y : Statement-F Statement). IsPastStatement checked layout [] bases place step line old y) (sym (ap out-Statement is ∙ stmt.outs-If x)) (
+          inner,
+          there,
+          subst (λ (c : BodyLayout). IsPastCondition c old.field (own_value old.field.plot.net bases line.needs x.cond)) found
+              (subst (λ (bs : List ℕ). IsPastCondition b old.field (own_value old.field.plot.net bs line.needs x.cond)) same q),
+        ))
+        h
 
     pub call_done : (st : Statement) (x : TCall) (bases2 : List ℕ) → st ≡ stmt.Call x → bases2 ≡ bases
         → Passes (CalledWith checked layout site bases2 place step line x.target (place ++ segment.Call x.name ∷ []) old new (args_met (own_env old.field.plot.net bases2 line.needs) x.args))
-          (IsPastWith checked layout [] bases2 place step line x.target old (args_met (own_env old.field.plot.net bases2 line.needs) x.args)) r
+        (IsPastWith checked layout [] bases2 place step line x.target old (args_met (own_env old.field.plot.net bases2 line.needs) x.args)) r
         → Passes (StatementDone checked layout site bases place step line old new (out-Statement st)) (IsPastStatement checked layout [] bases place step line old (out-Statement st)) r
     call_done st x bases2 is same h =
         passes_as _ _ _ _ r
-          (λ p. subst (λ (y : Statement-F Statement). StatementDone checked layout site bases place step line old new y) (sym (ap out-Statement is ∙ stmt.outs-Call x))
-            (subst (λ (bs : List ℕ). CalledWith checked layout site bs place step line x.target (place ++ segment.Call x.name ∷ []) old new (args_met (own_env old.field.plot.net bs line.needs) x.args)) same p))
-          (λ q. subst (λ (y : Statement-F Statement). IsPastStatement checked layout [] bases place step line old y) (sym (ap out-Statement is ∙ stmt.outs-Call x))
-            (subst (λ (bs : List ℕ). IsPastWith checked layout [] bs place step line x.target old (args_met (own_env old.field.plot.net bs line.needs) x.args)) same q))
-          h
+        (λ p. subst (λ (y : Statement-F Statement). StatementDone checked layout site bases place step line old new y) (sym (ap out-Statement is ∙ stmt.outs-Call x))
+        (subst (λ (bs : List ℕ). CalledWith checked layout site bs place step line x.target (place ++ segment.Call x.name ∷ []) old new (args_met (own_env old.field.plot.net bs line.needs) x.args)) same p))
+        (λ q. subst (λ (y : Statement-F Statement). IsPastStatement checked layout [] bases place step line old y) (sym (ap out-Statement is ∙ stmt.outs-Call x))
+        (subst (λ (bs : List ℕ). IsPastWith checked layout [] bs place step line x.target old (args_met (own_env old.field.plot.net bs line.needs) x.args)) same q))
+        h
 
   pub call_within : (st : Statement) (x : TCall) (bases2 : List ℕ) (before after : ℕ) → st ≡ stmt.Call x → bases2 ≡ bases
       → after ≤ before + (length x.args + call_count checked layout [] bases2 place step line x.target (args_met (own_env old.field.plot.net bases2 line.needs) x.args))
       → after ≤ before + statement_count checked layout [] bases place step line old (out-Statement st)
   call_within st x bases2 before after is same h =
       subst (λ (y : Statement-F Statement). after ≤ before + statement_count checked layout [] bases place step line old y) (sym (ap out-Statement is ∙ stmt.outs-Call x))
-        (subst (λ (bs : List ℕ). after ≤ before + (length x.args + call_count checked layout [] bs place step line x.target (args_met (own_env old.field.plot.net bs line.needs) x.args))) same h)
+      (subst (λ (bs : List ℕ). after ≤ before + (length x.args + call_count checked layout [] bs place step line x.target (args_met (own_env old.field.plot.net bs line.needs) x.args))) same h)
 
 -- ---- what is found by numbers
 
@@ -144,8 +156,8 @@ pub same_statement : (flows : List FlowDef) (b2 b : BodyLayout) (f : FlowDef) (p
     → slice_get flows b.flow ≡ Some f → slice_get (body_at f.body b.path) k ≡ Some x → x2 ≡ get_or ss k x2 → x2 ≡ x
 same_statement flows b2 b f path ss k x2 x same is all flow there at =
     found_same (body_at f.body b.path) ss k x x2
-      (all ∙ ap (λ (p : List ℕ). body_at (flow_body (slice_get flows b2.flow)) p) is ∙ ap (λ (z : BodyLayout). body_at (flow_body (slice_get flows z.flow)) z.path) same ∙ ap (λ (o : Option FlowDef). body_at (flow_body o) b.path) flow)
-      there at
+    (all ∙ ap (λ (p : List ℕ). body_at (flow_body (slice_get flows b2.flow)) p) is ∙ ap (λ (z : BodyLayout). body_at (flow_body (slice_get flows z.flow)) z.path) same ∙ ap (λ (o : Option FlowDef). body_at (flow_body o) b.path) flow)
+    there at
 
 pub same_bases : (is2 is : List Instance) (i : ℕ) (q : Instance) (spot : Spot) → is2 ≡ is → spot ≡ record { bases = bases_in (slice_get is2 i); place = place_in (slice_get is2 i) } → slice_get is i ≡ Some q → spot.bases ≡ q.bases
 same_bases is2 is i q spot same at there = ap (λ (s : Spot). s.bases) at ∙ ap (λ (xs : List Instance). bases_in (slice_get xs i)) same ∙ ap bases_in there
@@ -157,8 +169,8 @@ module _ (checked : Checked) (layout : Layout) (old : State) where
   pub stand_as : (bs2 bs : List ℕ) (p2 p : List Segment) (l2 l : StatementLayout) (x2 x : Statement) → bs2 ≡ bs → p2 ≡ p → l2 ≡ l → x2 ≡ x → CanStand checked layout bs p l old x → CanStand checked layout bs2 p2 l2 old x2
   stand_as bs2 bs p2 p l2 l x2 x e f g m h =
       subst (λ (y : Statement). CanStand checked layout bs2 p2 l2 old y) (sym m)
-        (subst (λ (y : StatementLayout). CanStand checked layout bs2 p2 y old x) (sym g)
-          (subst (λ (y : List Segment). CanStand checked layout bs2 y l old x) (sym f) (subst (λ (y : List ℕ). CanStand checked layout y p l old x) (sym e) h)))
+      (subst (λ (y : StatementLayout). CanStand checked layout bs2 p2 y old x) (sym g)
+      (subst (λ (y : List Segment). CanStand checked layout bs2 y l old x) (sym f) (subst (λ (y : List ℕ). CanStand checked layout y p l old x) (sym e) h)))
 
   -- the statement that was found is the one of these numbers
   abbrev pub AgreesAt : List ℕ → List Segment → StatementLayout → Statement → ℕ → ℕ → Type 0
@@ -171,26 +183,26 @@ module _ (checked : Checked) (layout : Layout) (old : State) where
         → Passes (DidStatement checked layout site old new step i k) (IsPastTaken checked layout old step i k) r
     taken_done site new r h =
         passes_as _ _ _ _ r
-          (λ d q b f l x at. let e = agrees q b f l x at in
-            subst (λ (y : Statement). StatementDone checked layout site q.bases q.place step l old new (out-Statement y)) e.3
-              (subst (λ (y : StatementLayout). StatementDone checked layout site q.bases q.place step y old new (out-Statement x2)) e.2
-                (subst (λ (y : List Segment). StatementDone checked layout site q.bases y step l2 old new (out-Statement x2)) e.1
-                  (subst (λ (y : List ℕ). StatementDone checked layout site y p2 step l2 old new (out-Statement x2)) e.0 d))))
-          (λ d q b f l x at. let e = agrees q b f l x at in
-            subst (λ (y : Statement). IsPastStatement checked layout [] q.bases q.place step l old (out-Statement y)) e.3
-              (subst (λ (y : StatementLayout). IsPastStatement checked layout [] q.bases q.place step y old (out-Statement x2)) e.2
-                (subst (λ (y : List Segment). IsPastStatement checked layout [] q.bases y step l2 old (out-Statement x2)) e.1
-                  (subst (λ (y : List ℕ). IsPastStatement checked layout [] y p2 step l2 old (out-Statement x2)) e.0 d))))
-          h
+        (λ d q b f l x at. let e = agrees q b f l x at in
+        subst (λ (y : Statement). StatementDone checked layout site q.bases q.place step l old new (out-Statement y)) e.3
+        (subst (λ (y : StatementLayout). StatementDone checked layout site q.bases q.place step y old new (out-Statement x2)) e.2
+        (subst (λ (y : List Segment). StatementDone checked layout site q.bases y step l2 old new (out-Statement x2)) e.1
+        (subst (λ (y : List ℕ). StatementDone checked layout site y p2 step l2 old new (out-Statement x2)) e.0 d))))
+        (λ d q b f l x at. let e = agrees q b f l x at in
+        subst (λ (y : Statement). IsPastStatement checked layout [] q.bases q.place step l old (out-Statement y)) e.3
+        (subst (λ (y : StatementLayout). IsPastStatement checked layout [] q.bases q.place step y old (out-Statement x2)) e.2
+        (subst (λ (y : List Segment). IsPastStatement checked layout [] q.bases y step l2 old (out-Statement x2)) e.1
+        (subst (λ (y : List ℕ). IsPastStatement checked layout [] y p2 step l2 old (out-Statement x2)) e.0 d))))
+        h
 
     pub taken_within : (before after : ℕ) → after ≤ before + statement_count checked layout [] bs2 p2 step l2 old (out-Statement x2) → IsWithin checked layout old step (after - before) (rule.Statement i k)
     taken_within before after h = λ q b f l x at.
         let e = agrees q b f l x at in
         let all : after ≤ before + statement_count checked layout [] q.bases q.place step l old (out-Statement x) =
-            subst (λ (y : Statement). after ≤ before + statement_count checked layout [] q.bases q.place step l old (out-Statement y)) e.3
-              (subst (λ (y : StatementLayout). after ≤ before + statement_count checked layout [] q.bases q.place step y old (out-Statement x2)) e.2
-                (subst (λ (y : List Segment). after ≤ before + statement_count checked layout [] q.bases y step l2 old (out-Statement x2)) e.1
-                  (subst (λ (y : List ℕ). after ≤ before + statement_count checked layout [] y p2 step l2 old (out-Statement x2)) e.0 h))) in
+        subst (λ (y : Statement). after ≤ before + statement_count checked layout [] q.bases q.place step l old (out-Statement y)) e.3
+        (subst (λ (y : StatementLayout). after ≤ before + statement_count checked layout [] q.bases q.place step y old (out-Statement x2)) e.2
+        (subst (λ (y : List Segment). after ≤ before + statement_count checked layout [] q.bases y step l2 old (out-Statement x2)) e.1
+        (subst (λ (y : List ℕ). after ≤ before + statement_count checked layout [] y p2 step l2 old (out-Statement x2)) e.0 h))) in
         omega (arith, all)
 
 -- ---- declarations
@@ -206,7 +218,7 @@ pub declared_as : (old new : Field) (bs2 bs : List ℕ) (s2 s : ℕ) (p2 p : Lis
     → new ≡ declared old (last_base bs2 + s2) p2 m2 (own_value old.plot.net bs2 ns2 e2) → new ≡ declared old (last_base bs + s) p m (own_value old.plot.net bs ns e)
 declared_as old new bs2 bs s2 s p2 p m2 m ns2 ns e2 e a b c d f g h =
     subst (λ (y : TExpr). new ≡ declared old (last_base bs + s) p m (own_value old.plot.net bs ns y)) g
-      (subst (λ (y : List Need). new ≡ declared old (last_base bs + s) p m (own_value old.plot.net bs y e2)) f
-        (subst (λ (y : List ℕ). new ≡ declared old (last_base bs + s) p y (own_value old.plot.net bs ns2 e2)) d
-          (subst (λ (y : List Segment). new ≡ declared old (last_base bs + s) y m2 (own_value old.plot.net bs ns2 e2)) c
-            (subst (λ (y : ℕ). new ≡ declared old (last_base bs + y) p2 m2 (own_value old.plot.net bs ns2 e2)) b (subst (λ (y : List ℕ). new ≡ declared old (last_base y + s2) p2 m2 (own_value old.plot.net y ns2 e2)) a h)))))
+    (subst (λ (y : List Need). new ≡ declared old (last_base bs + s) p m (own_value old.plot.net bs y e2)) f
+    (subst (λ (y : List ℕ). new ≡ declared old (last_base bs + s) p y (own_value old.plot.net bs ns2 e2)) d
+    (subst (λ (y : List Segment). new ≡ declared old (last_base bs + s) y m2 (own_value old.plot.net bs ns2 e2)) c
+    (subst (λ (y : ℕ). new ≡ declared old (last_base bs + y) p2 m2 (own_value old.plot.net bs ns2 e2)) b (subst (λ (y : List ℕ). new ≡ declared old (last_base y + s2) p2 m2 (own_value old.plot.net y ns2 e2)) a h)))))

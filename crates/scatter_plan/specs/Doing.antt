@@ -115,7 +115,7 @@ abbrev pub TaskCalled : List ℕ → List Segment → ℕ → List Fault → Ask
 TaskCalled site place step faults asks after more (Err e) = (after ≡ faults ++ failing_at place e ∷ []) × (more ≡ asks)
 TaskCalled site place step faults asks after more (Ok a) =
     (after ≡ faults) × ((p : Prepared) × (asked_of p ≡ a) × (p.request ≡ request site place 0 a)
-      × (more ≡ record { ready = asks.ready ++ p ∷ []; calls = asks.calls ++ new_call place step ∷ []; jobs = asks.jobs + 1 }))
+    × (more ≡ record { ready = asks.ready ++ p ∷ []; calls = asks.calls ++ new_call place step ∷ []; jobs = asks.jobs + 1 }))
 
 -- what grows, and the calls that were asked
 pub record State : Type 0 where

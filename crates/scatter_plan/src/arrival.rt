@@ -76,10 +76,14 @@ fn conclude_statement<'a, L: Ledger>(
     let base = last_base(spot.bases.as_slice());
     let structs = &ground.checked.structs;
     let Growth {
-        entered, faults, ..
+        entered,
+        faults,
+        ..
     } = growth;
     let net = &mut entered.net;
-    end_call(alloc, structs, task, prepared, answer, base, line, net, faults, steps)
+    end_call(
+        alloc, structs, task, prepared, answer, base, line, net, faults, steps,
+    )
 }
 
 /// Ends the call of a step whose attempt had a status of success.
@@ -104,7 +108,9 @@ fn conclude_step<'a, L: Ledger>(
             instance,
             statement,
         } => {
-            conclude_statement(alloc, instance, statement, prepared, answer, ground, growth, steps)
+            conclude_statement(
+                alloc, instance, statement, prepared, answer, ground, growth, steps,
+            )
         }
         _ => unreachable!(),
     }
@@ -170,7 +176,9 @@ fn tell_call<'a, L: Ledger>(
     };
     let step = asking.asked[at].step;
     let prepared = asking.take(at);
-    answer_taken(alloc, at, step, &prepared, answer, ground, growth, asking, steps)
+    answer_taken(
+        alloc, at, step, &prepared, answer, ground, growth, asking, steps,
+    )
 }
 
 /// What an answer does to its call.

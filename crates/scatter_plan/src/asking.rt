@@ -66,12 +66,7 @@ impl Asking {
     }
 
     /// A call is asked, within the limit of jobs.
-    pub fn ask(
-        &mut self,
-        alloc: Global,
-        step: usize,
-        prepared: Prepared,
-    ) -> Result<(), PlanFault>
+    pub fn ask(&mut self, alloc: Global, step: usize, prepared: Prepared) -> Result<(), PlanFault>
         requires new { IsNew (calls self.old) prepared.request.place }
         requires sound { IsAsking self.old }
         ensures sound { OnOk result (IsAsking self.new) }

@@ -90,7 +90,14 @@ fn enter_call(
     let first = enter_flow(alloc, flow, args, place, layout, body, entered)?;
     let dones = flow_dones(alloc, flow, layout, body, first)?;
     let net = &mut entered.net;
-    copy_cells(first, layout.first_output, base, line.first_name, line.names, net)?;
+    copy_cells(
+        first,
+        layout.first_output,
+        base,
+        line.first_name,
+        line.names,
+        net,
+    )?;
     let into = base + line.done;
     net.add_step(Rule::Ends { into }, dones.as_slice())?;
     Ok(())
@@ -154,7 +161,17 @@ fn call_target<'a, L: Ledger>(
         Target::Task(k) => {
             let task = &ground.checked.tasks.as_slice()[k as usize];
             let faults = &mut growth.faults;
-            call_task(alloc, task, args, ground.site, &place, step, faults, asking, steps)
+            call_task(
+                alloc,
+                task,
+                args,
+                ground.site,
+                &place,
+                step,
+                faults,
+                asking,
+                steps,
+            )
         }
         Target::Flow(k) => {
             let flow = &ground.checked.flows.as_slice()[k as usize];
@@ -197,7 +214,17 @@ pub fn call<'a, L: Ledger>(
     let env = env_of(alloc, bases, line.needs.as_slice(), &growth.entered.net)?;
     match args_met(alloc, call.args.as_slice(), &env, steps) {
         Ok(args) => call_target(
-            alloc, call.target, &args, line, bases, place, step, ground, growth, asking, steps,
+            alloc,
+            call.target,
+            &args,
+            line,
+            bases,
+            place,
+            step,
+            ground,
+            growth,
+            asking,
+            steps,
         ),
         Err(CallFault::Bad { name, why }) => {
             push_failing(alloc, &place, name, why, &mut growth.faults)?;

@@ -126,10 +126,15 @@ pub fn condition<L: Ledger>(
 {
     let place = place_below(alloc, place, Segment::If(condition.number))?;
     let needs = line.needs.as_slice();
-    match end_of(alloc, &condition.cond, needs, bases, &growth.entered.net, steps)? {
-        End::Told(value) => {
-            choose(alloc, is_true(&value), bases, place, inner, line, growth)
-        }
+    match end_of(
+        alloc,
+        &condition.cond,
+        needs,
+        bases,
+        &growth.entered.net,
+        steps,
+    )? {
+        End::Told(value) => { choose(alloc, is_true(&value), bases, place, inner, line, growth) }
         End::Failed(code) => {
             push_if_code(alloc, &place, code, &mut growth.faults)?;
             Ok(())

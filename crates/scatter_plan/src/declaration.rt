@@ -97,7 +97,9 @@ pub fn declare<L: Ledger>(
 {
     let cell = last_base(bases) + slot;
     let Growth {
-        entered, faults, ..
+        entered,
+        faults,
+        ..
     } = growth;
     let end = end_of(alloc, e, needs, bases, &entered.net, steps)?;
     tell(alloc, name, place, end, cell, &mut entered.net, faults)

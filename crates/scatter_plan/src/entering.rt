@@ -27,7 +27,12 @@ fn add_statement(
     ensures sound { OnOk result (IsSound net.new) }
     ensures step { OnOk result (view net.new ≡ with_step (view net.old) rule (entering.cells_of bases.now layout.now.needs layout.now.after)) }
 {
-    let cells = cells_of(alloc, bases, layout.needs.as_slice(), layout.after.as_slice())?;
+    let cells = cells_of(
+        alloc,
+        bases,
+        layout.needs.as_slice(),
+        layout.after.as_slice(),
+    )?;
     net.add_step(rule, cells.as_slice())?;
     Ok(())
 }
@@ -91,7 +96,13 @@ pub fn add_instance(
     bases.push(first)?;
     let instance = entered.instances.len();
     let statements = layout.statements.as_slice();
-    add_statements(alloc, instance, bases.as_slice(), statements, &mut entered.net)?;
+    add_statements(
+        alloc,
+        instance,
+        bases.as_slice(),
+        statements,
+        &mut entered.net,
+    )?;
     entered.instances.push(Instance { body, bases, place })?;
     Ok(first)
 }

@@ -95,5 +95,12 @@ pub fn enter_scatter(
     ensures entered { OnOk result (plot entered.new ≡ with_scatter bases.now place.now inner.now layout.now base items (plot entered.old)) }
 {
     let firsts = enter_items(alloc, items, layout.inner, bases, place, inner, entered)?;
-    gather_block(alloc, firsts.as_slice(), inner, layout, base, &mut entered.net)
+    gather_block(
+        alloc,
+        firsts.as_slice(),
+        inner,
+        layout,
+        base,
+        &mut entered.net,
+    )
 }

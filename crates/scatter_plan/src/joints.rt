@@ -112,7 +112,12 @@ pub fn gather_names(
 {
     for k in 0..count {
         let cells = cells_beyond(alloc, firsts, inner, k)?;
-        net.add_step(Rule::Gathers { into: base + outer + k }, cells.as_slice())?;
+        net.add_step(
+            Rule::Gathers {
+                into: base + outer + k,
+            },
+            cells.as_slice(),
+        )?;
     }
     Ok(())
 }
@@ -135,7 +140,12 @@ pub fn end_calls(
 {
     for k in 0..count {
         let cells = cells_beyond(alloc, firsts, inner, k)?;
-        net.add_step(Rule::Ends { into: base + outer + k }, cells.as_slice())?;
+        net.add_step(
+            Rule::Ends {
+                into: base + outer + k,
+            },
+            cells.as_slice(),
+        )?;
     }
     Ok(())
 }
@@ -163,12 +173,7 @@ pub fn copy_cells(
 }
 
 /// Makes so many cells undefined.
-pub fn set_absent(
-    base: usize,
-    first: usize,
-    count: usize,
-    net: &mut Net,
-) -> Result<(), NoMemory>
+pub fn set_absent(base: usize, first: usize, count: usize, net: &mut Net) -> Result<(), NoMemory>
     requires cells { 0 < count → base + first + count ≤ cell_count (view net.old) }
     requires sound { IsSound net.old }
     ensures sound { OnOk result (IsSound net.new) }

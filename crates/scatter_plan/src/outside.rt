@@ -78,8 +78,22 @@ pub fn copy_block(
 {
     let mut dones = Items::new(alloc);
     push_dones(first, inner.statements.as_slice(), &mut dones)?;
-    copy_cells(first, inner.first_name, base, layout.first_name, layout.names, net)?;
-    copy_cells(first, inner.first_call, base, layout.first_call, layout.calls, net)?;
+    copy_cells(
+        first,
+        inner.first_name,
+        base,
+        layout.first_name,
+        layout.names,
+        net,
+    )?;
+    copy_cells(
+        first,
+        inner.first_call,
+        base,
+        layout.first_call,
+        layout.calls,
+        net,
+    )?;
     let into = base + layout.done;
     net.add_step(Rule::Ends { into }, dones.as_slice())?;
     Ok(())

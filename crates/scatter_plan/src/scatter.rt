@@ -92,7 +92,14 @@ pub fn scatter<L: Ledger>(
 {
     let place = place_below(alloc, place, Segment::Scatter(scatter.number))?;
     let needs = line.needs.as_slice();
-    match end_of(alloc, &scatter.over, needs, bases, &growth.entered.net, steps)? {
+    match end_of(
+        alloc,
+        &scatter.over,
+        needs,
+        bases,
+        &growth.entered.net,
+        steps,
+    )? {
         End::Told(value) => enter_all(alloc, value, bases, &place, inner, line, growth),
         End::Failed(code) => {
             push_code(alloc, &place, &scatter.item, code, &mut growth.faults)?;

@@ -49,19 +49,41 @@ pub fn do_statement<'a, L: Ledger>(
     match statement {
         Statement::Decl(it) => {
             let (needs, slot) = (line.needs.as_slice(), line.first_name);
-            declare(alloc, &it.name, &it.value, needs, bases, place, slot, growth, steps)?;
+            declare(
+                alloc, &it.name, &it.value, needs, bases, place, slot, growth, steps,
+            )?;
             Ok(())
         }
         Statement::Call(it) => {
-            call(alloc, it, line, bases, place, step, ground, growth, asking, steps)
+            call(
+                alloc, it, line, bases, place, step, ground, growth, asking, steps,
+            )
         }
         Statement::Scatter(it) => {
             let bodies = ground.layout.bodies.as_slice();
-            scatter(alloc, it, bases, place, &bodies[line.inner], line, growth, steps)
+            scatter(
+                alloc,
+                it,
+                bases,
+                place,
+                &bodies[line.inner],
+                line,
+                growth,
+                steps,
+            )
         }
         Statement::If(it) => {
             let bodies = ground.layout.bodies.as_slice();
-            condition(alloc, it, bases, place, &bodies[line.inner], line, growth, steps)
+            condition(
+                alloc,
+                it,
+                bases,
+                place,
+                &bodies[line.inner],
+                line,
+                growth,
+                steps,
+            )
         }
     }
 }

@@ -58,7 +58,15 @@ pub fn take_statement<'a, L: Ledger>(
     let statements = body_of(ground.checked, body.flow, body.path.as_slice());
     let spot = spot_of(alloc, growth.entered.instances.as_slice(), instance)?;
     do_statement(
-        alloc, &statements[number], line, &spot, step, ground, growth, asking, steps,
+        alloc,
+        &statements[number],
+        line,
+        &spot,
+        step,
+        ground,
+        growth,
+        asking,
+        steps,
     )
 }
 
@@ -86,7 +94,9 @@ pub fn take_input<'a, L: Ledger>(
         unreachable!();
     };
     let (bases, place) = (spot.bases.as_slice(), &spot.place);
-    declare(alloc, &it.name, value, needs, bases, place, input, growth, steps)?;
+    declare(
+        alloc, &it.name, value, needs, bases, place, input, growth, steps,
+    )?;
     Ok(())
 }
 
@@ -113,6 +123,8 @@ pub fn take_output<'a, L: Ledger>(
     let spot = spot_of(alloc, growth.entered.instances.as_slice(), instance)?;
     let (bases, place) = (spot.bases.as_slice(), &spot.place);
     let slot = layout.first_output + output;
-    declare(alloc, &it.name, &it.value, needs, bases, place, slot, growth, steps)?;
+    declare(
+        alloc, &it.name, &it.value, needs, bases, place, slot, growth, steps,
+    )?;
     Ok(())
 }

@@ -51,7 +51,9 @@ fn do_step<'a, L: Ledger>(
         Rule::Statement {
             instance,
             statement,
-        } => take_statement(alloc, instance, statement, step, ground, growth, asking, steps),
+        } => take_statement(
+            alloc, instance, statement, step, ground, growth, asking, steps,
+        ),
         Rule::Input { instance, input } => {
             take_input(alloc, instance, input, ground, growth, steps)
         }

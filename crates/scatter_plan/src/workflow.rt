@@ -200,7 +200,15 @@ pub fn enter_flow(
     let first = add_instance(alloc, layout.body, &[], place, body, entered)?;
     let needs = layout.inputs.as_slice();
     let net = &mut entered.net;
-    add_inputs(alloc, flow.inputs.as_slice(), given, instance, first, needs, net)?;
+    add_inputs(
+        alloc,
+        flow.inputs.as_slice(),
+        given,
+        instance,
+        first,
+        needs,
+        net,
+    )?;
     add_outputs(alloc, layout.outputs.as_slice(), instance, first, net)?;
     Ok(first)
 }

@@ -12,11 +12,11 @@ argument-requires g c = record { ready = taken_ready c.args.env.now c.args.args.
 
 pub loop-arg-preserved : goal.loop-arg-preserved
 loop-arg-preserved g c = (
-      subst (λ (met : List Bind). Taking c.args.env.now c.args.args.now (c.loop-arg.arg-index + 1) met)
-        (sym (c.in_ok-push.ensures.ok ∙ ap (λ (b : Bind). c.loop-arg.met ++ b ∷ []) c.in_ok-arg_bind.ensures))
-        (taking_goes c.args.env.now c.args.args.now c.loop-arg.arg-index c.arg-item.result c.loop-arg.met c.arg-item.is c.loop-arg-test.true c.loop-arg.invariant.0 c.in_ok-value.value c.in_ok-value.ensures.value),
-      omega (arith, c.in_ok-value.ensures.steps, c.loop-arg.invariant.1),
-    )
+  subst (λ (met : List Bind). Taking c.args.env.now c.args.args.now (c.loop-arg.arg-index + 1) met)
+      (sym (c.in_ok-push.ensures.ok ∙ ap (λ (b : Bind). c.loop-arg.met ++ b ∷ []) c.in_ok-arg_bind.ensures))
+      (taking_goes c.args.env.now c.args.args.now c.loop-arg.arg-index c.arg-item.result c.loop-arg.met c.arg-item.is c.loop-arg-test.true c.loop-arg.invariant.0 c.in_ok-value.value c.in_ok-value.ensures.value),
+  omega (arith, c.in_ok-value.ensures.steps, c.loop-arg.invariant.1),
+)
 
 pub returns-clause-value : goal.returns-clause-value
 returns-clause-value g c =

@@ -14,4 +14,4 @@ tell_call-requires-clause-can g c =
 pub returns-clause-takes : goal.returns-clause-takes
 returns-clause-takes g c = λ main given rows was attempt waits.
     takes c.args.ground.now.checked.now c.args.ground.now.layout.now main given c.args.ground.now.site.now rows c.args.growth.now c.args.asking.now c.requires.asking was c.args.place.now attempt waits c.args.answer.now c.tell_call.new.growth c.tell_call.new.asking c.args.steps.now c.tell_call.new.steps c.tell_call.result
-      c.tell_call.ensures.done c.tell_call.ensures.jobs c.tell_call.ensures.steps (λ j p there here not. let e = c.tell_call.ensures.same j p there here not in omega (arith, e))
+    c.tell_call.ensures.done c.tell_call.ensures.jobs c.tell_call.ensures.steps (λ j p there here not. let e = c.tell_call.ensures.same j p there here not in omega (arith, e))

@@ -35,7 +35,7 @@ answer_taken-requires-clause-can g c =
     let place : c.take-prepared.result.request.place ≡ c.args.place.now = some_same (sym c.take-prepared.ensures.place ∙ get_map place_in (calls c.args.asking.now) c.in-Some.at found.0 found.1) ∙ found.2 in
     let own : call_of c.index.result.now ≡ found.0 = some_same (sym (call_there c.args.asking.now.asked.items c.in-Some.at c.index.result.now inside c.index.ensures) ∙ found.1) in
     can_as c.args.ground.now.checked.now c.args.ground.now.layout.now (field c.args.growth.now) (view c.args.growth.now.entered.net).rules c.index.result.now.step found.0.step c.take-prepared.result (ap (λ (x : Call). x.step) own)
-      (c.requires.can c.in-Some.at found.0 t.at c.take-prepared.result found.1 found.2 t.there place)
+    (c.requires.can c.in-Some.at found.0 t.at c.take-prepared.result found.1 found.2 t.there place)
 
 pub answer_taken-requires-clause-place : goal.answer_taken-requires-clause-place
 answer_taken-requires-clause-place g c =
@@ -58,10 +58,13 @@ returns-clause-done g c = λ at d j p i k call same there waits ruled.
     let step : d.step ≡ c.index.result.now.step = ap (λ (x : Call). x.step) (some_same (sym call ∙ ap (slice_get (calls c.args.asking.now)) (sym here) ∙ found.1) ∙ sym own) in
     let taken : IsTaken c.in-Some.at c.take-prepared.result (asks c.args.asking.now) (asks c.take-prepared.new.self) = record { ready = t; calls = c.take-prepared.ensures.calls; jobs = c.take-prepared.ensures.jobs } in
     passes_as _ _ _ _ c.answer_taken.result
-      (λ h. (asks c.take-prepared.new.self, taken_as at c.in-Some.at c.take-prepared.result p (asks c.args.asking.now) (asks c.take-prepared.new.self) here one taken,
-        answered_as c.args.ground.now.checked.now c.args.ground.now.layout.now c.args.ground.now.site.now i k c.take-prepared.result p c.args.answer.now (field c.args.growth.now) (asks c.take-prepared.new.self) (field c.answer_taken.new.growth) (asks c.answer_taken.new.asking) one h))
-      (λ h. (subst (λ (x : Prepared). is_success (successes_of x.codes) c.args.answer.now.status ≡ false) one h.0, subst (λ (x : Prepared). goes_on x ≡ true) one h.1, subst (λ (n : ℕ). 20000 ≤ n) c.take-prepared.ensures.jobs h.2))
-      (c.answer_taken.ensures.done i k (ap (slice_get (view c.args.growth.now.entered.net).rules) (sym step) ∙ ruled))
+    (λ h. (
+      asks c.take-prepared.new.self,
+      taken_as at c.in-Some.at c.take-prepared.result p (asks c.args.asking.now) (asks c.take-prepared.new.self) here one taken,
+      answered_as c.args.ground.now.checked.now c.args.ground.now.layout.now c.args.ground.now.site.now i k c.take-prepared.result p c.args.answer.now (field c.args.growth.now) (asks c.take-prepared.new.self) (field c.answer_taken.new.growth) (asks c.answer_taken.new.asking) one h,
+    ))
+    (λ h. (subst (λ (x : Prepared). is_success (successes_of x.codes) c.args.answer.now.status ≡ false) one h.0, subst (λ (x : Prepared). goes_on x ≡ true) one h.1, subst (λ (n : ℕ). 20000 ≤ n) c.take-prepared.ensures.jobs h.2))
+    (c.answer_taken.ensures.done i k (ap (slice_get (view c.args.growth.now.entered.net).rules) (sym step) ∙ ruled))
 
 pub returns-clause-steps : goal.returns-clause-steps
 returns-clause-steps g c = λ at d j p i k call same there waits ruled h.
@@ -74,7 +77,7 @@ returns-clause-steps g c = λ at d j p i k call same there waits ruled h.
     let here : c.in-Some.at ≡ at = one_at c.args.asking.now.ready.items c.args.asking.now.owners.items c.args.asking.now.asked.items c.args.asking.now.marks c.requires.asking c.in-Some.at at found.0 d found.1 call (found.2 ∙ sym same) in
     let step : d.step ≡ c.index.result.now.step = ap (λ (x : Call). x.step) (some_same (sym call ∙ ap (slice_get (calls c.args.asking.now)) (sym here) ∙ found.1) ∙ sym own) in
     subst (λ (x : Prepared). (y : CanConclude c.args.ground.now.checked.now c.args.ground.now.layout.now (field c.args.growth.now) i k x) → c.answer_taken.new.steps ≤ c.args.steps.now + length y.task.outputs) one
-      (c.answer_taken.ensures.steps i k (ap (slice_get (view c.args.growth.now.entered.net).rules) (sym step) ∙ ruled)) h
+    (c.answer_taken.ensures.steps i k (ap (slice_get (view c.args.growth.now.entered.net).rules) (sym step) ∙ ruled)) h
 
 pub returns-clause-same : goal.returns-clause-same
 returns-clause-same g c = λ j p there waits not.

@@ -12,5 +12,5 @@ copy_block-requires-clause-first c =
 pub copy_block-requires-clause-runs : goal.copy_block-requires-clause-runs
 copy_block-requires-clause-runs c =
     let more : length (view c.add_instance.new.entered.net).values ≡ length (view c.args.entered.now.net).values + c.args.inner.now.cells =
-        entered_count c.args.line.now.inner c.args.bases.now c.args.place c.args.inner.now (plot c.args.entered.now) (plot c.add_instance.new.entered) c.in_ok-first.ensures.entered in
+    entered_count c.args.line.now.inner c.args.bases.now c.args.place c.args.inner.now (plot c.args.entered.now) (plot c.add_instance.new.entered) c.in_ok-first.ensures.entered in
     runs_later (length (view c.args.entered.now.net).values) (length (view c.add_instance.new.entered.net).values) _ c.last_base-base.result c.args.line.now c.last_base-base.ensures (omega (arith, more)) c.requires.runs

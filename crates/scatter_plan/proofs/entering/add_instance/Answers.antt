@@ -8,8 +8,8 @@ use Rattle.scatter_plan.proofs.entering.add_instance.Goals as goal
 pub add_statements-requires-clause-reached : goal.add_statements-requires-clause-reached
 add_statements-requires-clause-reached c =
     let count : length (view c.add_cells.new.self).values ≡ length (view c.args.entered.now.net).values + c.args.layout.now.cells =
-        ap (λ (v : Sown). length v.values) c.in_ok-first.ensures.cells ∙ cells_more (view c.args.entered.now.net) c.args.layout.now.cells in
+    ap (λ (v : Sown). length v.values) c.in_ok-first.ensures.cells ∙ cells_more (view c.args.entered.now.net) c.args.layout.now.cells in
     let bases : c.as_slice.result.now ≡ c.args.outer.now ++ length (view c.args.entered.now.net).values ∷ [] =
-        c.as_slice.ensures ∙ c.in_ok-push.ensures.ok ∙ ap (λ (xs : List ℕ). xs ++ c.in_ok-first.first ∷ []) c.in_ok-bases.ensures ∙ ap (λ (n : ℕ). c.args.outer.now ++ n ∷ []) c.in_ok-first.ensures.first in
+    c.as_slice.ensures ∙ c.in_ok-push.ensures.ok ∙ ap (λ (xs : List ℕ). xs ++ c.in_ok-first.first ∷ []) c.in_ok-bases.ensures ∙ ap (λ (n : ℕ). c.args.outer.now ++ n ∷ []) c.in_ok-first.ensures.first in
     statements_moved (length (view c.add_cells.new.self).values) (length (view c.args.entered.now.net).values + c.args.layout.now.cells) c.as_slice.result.now (c.args.outer.now ++ length (view c.args.entered.now.net).values ∷ [])
-      c.as_slice-statements.result.now c.args.layout.now.statements count bases c.as_slice-statements.ensures (c.requires.room.reached (length (view c.args.entered.now.net).values) (omega arith))
+    c.as_slice-statements.result.now c.args.layout.now.statements count bases c.as_slice-statements.ensures (c.requires.room.reached (length (view c.args.entered.now.net).values) (omega arith))

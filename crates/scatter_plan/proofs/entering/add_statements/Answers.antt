@@ -9,12 +9,12 @@ pub add_statement-requires-clause-needs : goal.add_statement-requires-clause-nee
 add_statement-requires-clause-needs c =
     let same : length (view c.loop-statement.net).values ≡ length (view c.args.net.now).values = ap (λ (xs : List (Option Value)). length xs) c.loop-statement.invariant.1 in
     let here : IsStatementReached (length (view c.loop-statement.net).values) c.args.bases.now c.index-statements-statement.result =
-        statement_reached (length (view c.loop-statement.net).values) (length (view c.args.net.now).values) c.args.bases.now c.args.statements.now c.loop-statement.statement c.index-statements-statement.result c.loop-statement-test.true c.index-statements-statement.is same c.requires.reached in
+    statement_reached (length (view c.loop-statement.net).values) (length (view c.args.net.now).values) c.args.bases.now c.args.statements.now c.loop-statement.statement c.index-statements-statement.result c.loop-statement-test.true c.index-statements-statement.is same c.requires.reached in
     here.needs
 
 pub add_statement-requires-clause-after : goal.add_statement-requires-clause-after
 add_statement-requires-clause-after c =
     let same : length (view c.loop-statement.net).values ≡ length (view c.args.net.now).values = ap (λ (xs : List (Option Value)). length xs) c.loop-statement.invariant.1 in
     let here : IsStatementReached (length (view c.loop-statement.net).values) c.args.bases.now c.index-statements-statement.result =
-        statement_reached (length (view c.loop-statement.net).values) (length (view c.args.net.now).values) c.args.bases.now c.args.statements.now c.loop-statement.statement c.index-statements-statement.result c.loop-statement-test.true c.index-statements-statement.is same c.requires.reached in
+    statement_reached (length (view c.loop-statement.net).values) (length (view c.args.net.now).values) c.args.bases.now c.args.statements.now c.loop-statement.statement c.index-statements-statement.result c.loop-statement-test.true c.index-statements-statement.is same c.requires.reached in
     here.after

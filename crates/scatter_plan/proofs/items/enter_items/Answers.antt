@@ -10,7 +10,7 @@ pub enter_item-requires-clause-room : goal.enter_item-requires-clause-room
 enter_item-requires-clause-room c =
     let i = c.loop-item.invariant in
     let same : length (view c.loop-item.entered.net).values ≡ length (with_items c.args.body c.args.outer.now c.args.place.now c.args.layout.now (length c.loop-item.items) i.gone (plot c.args.entered.now)).net.values =
-        ap (λ (p : Plot). length p.net.values) i.entered in
+    ap (λ (p : Plot). length p.net.values) i.entered in
     let more : length (view c.args.entered.now.net).values ≤ length (with_items c.args.body c.args.outer.now c.args.place.now c.args.layout.now (length c.loop-item.items) i.gone (plot c.args.entered.now)).net.values =
-        items_more c.args.body c.args.outer.now c.args.place.now c.args.layout.now (length c.loop-item.items) i.gone (plot c.args.entered.now) in
+    items_more c.args.body c.args.outer.now c.args.place.now c.args.layout.now (length c.loop-item.items) i.gone (plot c.args.entered.now) in
     room_later (length (view c.args.entered.now.net).values) (length (view c.loop-item.entered.net).values) c.args.outer.now c.args.layout.now (omega (arith, same, more)) c.requires.room

@@ -11,16 +11,16 @@ pub gather_block-requires-clause-firsts : goal.gather_block-requires-clause-firs
 gather_block-requires-clause-firsts c =
     let l = c.args.layout.now.inner in
     let same : length (view c.enter_items.new.entered.net).values ≡ length (with_items l c.args.bases.now c.args.place.now c.args.inner.now 0 c.args.items (plot c.args.entered.now)).net.values =
-        ap (λ (p : Plot). length p.net.values) c.in_ok-firsts.ensures.entered in
+    ap (λ (p : Plot). length p.net.values) c.in_ok-firsts.ensures.entered in
     subst (λ (fs : List ℕ). AreFollowed (length (view c.enter_items.new.entered.net).values) fs c.args.inner.now.cells) (sym (c.as_slice.ensures.value ∙ c.in_ok-firsts.ensures.firsts))
-      (subst (λ (n : ℕ). AreFollowed n (firsts_of l c.args.bases.now c.args.place.now c.args.inner.now 0 c.args.items (plot c.args.entered.now)) c.args.inner.now.cells) (sym same)
-        (firsts_followed l c.args.bases.now c.args.place.now c.args.inner.now 0 c.args.items (plot c.args.entered.now)))
+    (subst (λ (n : ℕ). AreFollowed n (firsts_of l c.args.bases.now c.args.place.now c.args.inner.now 0 c.args.items (plot c.args.entered.now)) c.args.inner.now.cells) (sym same)
+    (firsts_followed l c.args.bases.now c.args.place.now c.args.inner.now 0 c.args.items (plot c.args.entered.now)))
 
 pub gather_block-requires-clause-runs : goal.gather_block-requires-clause-runs
 gather_block-requires-clause-runs c =
     let l = c.args.layout.now.inner in
     let same : length (view c.enter_items.new.entered.net).values ≡ length (with_items l c.args.bases.now c.args.place.now c.args.inner.now 0 c.args.items (plot c.args.entered.now)).net.values =
-        ap (λ (p : Plot). length p.net.values) c.in_ok-firsts.ensures.entered in
+    ap (λ (p : Plot). length p.net.values) c.in_ok-firsts.ensures.entered in
     let more : length (view c.args.entered.now.net).values ≤ length (with_items l c.args.bases.now c.args.place.now c.args.inner.now 0 c.args.items (plot c.args.entered.now)).net.values =
-        items_more l c.args.bases.now c.args.place.now c.args.inner.now 0 c.args.items (plot c.args.entered.now) in
+    items_more l c.args.bases.now c.args.place.now c.args.inner.now 0 c.args.items (plot c.args.entered.now) in
     runs_later (length (view c.args.entered.now.net).values) (length (view c.enter_items.new.entered.net).values) c.args.base c.args.base c.args.layout.now refl (omega (arith, same, more)) c.requires.runs

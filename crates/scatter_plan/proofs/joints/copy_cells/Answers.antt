@@ -10,7 +10,7 @@ pub add_step-requires-clause-there : goal.add_step-requires-clause-there
 add_step-requires-clause-there c =
     let some : 0 < c.args.count = omega arith in
     let same : length (view c.loop-k.net).values ≡ length (view c.args.net.now).values =
-        copied_count (c.args.first + c.args.inner) (c.args.base + c.args.outer) c.loop-k.k (view c.args.net.now) (view c.loop-k.net) c.loop-k.invariant.1 in
+    copied_count (c.args.first + c.args.inner) (c.args.base + c.args.outer) c.loop-k.k (view c.args.net.now) (view c.loop-k.net) c.loop-k.invariant.1 in
     one_there (c.args.first + c.args.inner + c.loop-k.k) (length (view c.loop-k.net).values) (omega (arith, same, c.requires.inner some))
 
 pub overflow_add-into-in-loop-k : goal.overflow_add-into-in-loop-k

@@ -18,5 +18,5 @@ overflow_add-base-in-loop-k c = let some : 0 < c.args.count = omega arith in ome
 pub add_step-requires-clause-there : goal.add_step-requires-clause-there
 add_step-requires-clause-there c =
     let same : length (view c.loop-k.net).values ≡ length (view c.args.net.now).values =
-        ap (λ (v : Sown). length v.values) c.loop-k.invariant.1 ∙ ap (λ (xs : List (Option Value)). length xs) (gathers_keep c.args.firsts.now c.args.inner (c.args.base + c.args.outer) c.loop-k.k (view c.args.net.now)) in
+    ap (λ (v : Sown). length v.values) c.loop-k.invariant.1 ∙ ap (λ (xs : List (Option Value)). length xs) (gathers_keep c.args.firsts.now c.args.inner (c.args.base + c.args.outer) c.loop-k.k (view c.args.net.now)) in
     all_there (length (view c.loop-k.net).values) (length (view c.args.net.now).values) (c.args.inner + c.loop-k.k) (c.args.inner + c.args.count) c.args.firsts.now c.as_slice.result.now same (c.as_slice.ensures ∙ c.in_ok-cells.ensures) c.requires.firsts (omega arith)

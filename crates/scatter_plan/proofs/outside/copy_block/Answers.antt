@@ -27,5 +27,5 @@ add_step-requires-clause-there c =
     let one : length (view c.copy_cells.new.net).values ≡ length (view c.args.net.now).values = copied_count (c.args.first + c.args.inner.now.first_name) (c.args.base + c.args.layout.now.first_name) c.args.layout.now.names (view c.args.net.now) (view c.copy_cells.new.net) c.in_ok-copy_cells.ensures.copies in
     let two : length (view c.copy_cells-2.new.net).values ≡ length (view c.copy_cells.new.net).values = copied_count (c.args.first + c.args.inner.now.first_call) (c.args.base + c.args.layout.now.first_call) c.args.layout.now.calls (view c.copy_cells.new.net) (view c.copy_cells-2.new.net) c.in_ok-copy_cells-2.ensures.copies in
     let all : c.as_slice-2.result.now ≡ dones_at c.args.first c.as_slice.result.now =
-        c.as_slice-2.ensures ∙ c.in_ok-push_dones.ensures ∙ ap (λ (ds : List ℕ). ds ++ dones_at c.args.first c.as_slice.result.now) c.new-dones.ensures in
+    c.as_slice-2.ensures ∙ c.in_ok-push_dones.ensures ∙ ap (λ (ds : List ℕ). ds ++ dones_at c.args.first c.as_slice.result.now) c.new-dones.ensures in
     dones_there c.args.first c.args.inner.now.cells (length (view c.copy_cells-2.new.net).values) c.as_slice.result.now c.args.inner.now.statements c.as_slice-2.result.now all c.as_slice.ensures (omega (arith, one, two, c.requires.first)) c.requires.inner.dones

@@ -17,7 +17,7 @@ end_calls-requires-clause-outer c = λ some.
 pub end_calls-requires-clause-firsts : goal.end_calls-requires-clause-firsts
 end_calls-requires-clause-firsts c =
     followed_less (length (view c.gather_names.new.net).values) (length (view c.args.net.now).values) c.args.inner.now.cells (c.args.inner.now.first_call + c.args.layout.now.calls) c.args.firsts.now
-      (gathered_count c.args.firsts.now c.args.inner.now.first_name (c.args.base + c.args.layout.now.first_name) c.args.layout.now.names (view c.args.net.now) (view c.gather_names.new.net) c.in_ok-gather_names.ensures.gathers) c.requires.inner.calls c.requires.firsts
+    (gathered_count c.args.firsts.now c.args.inner.now.first_name (c.args.base + c.args.layout.now.first_name) c.args.layout.now.names (view c.args.net.now) (view c.gather_names.new.net) c.in_ok-gather_names.ensures.gathers) c.requires.inner.calls c.requires.firsts
 
 pub overflow_add-into : goal.overflow_add-into
 overflow_add-into c = omega (arith, cells_few c.args.net.now, c.requires.runs.done)
@@ -28,4 +28,4 @@ add_step-requires-clause-there c =
     let two : length (view c.end_calls.new.net).values ≡ length (view c.gather_names.new.net).values = ended_count c.args.firsts.now c.args.inner.now.first_call (c.args.base + c.args.layout.now.first_call) c.args.layout.now.calls (view c.gather_names.new.net) (view c.end_calls.new.net) c.in_ok-end_calls.ensures.ends in
     let all : c.as_slice-2.result.now ≡ all_dones c.as_slice.result.now c.args.firsts.now = c.as_slice-2.ensures ∙ c.in_ok-dones.ensures in
     all_dones_there (length (view c.end_calls.new.net).values) c.args.inner.now.cells c.args.firsts.now c.as_slice.result.now c.args.inner.now.statements c.as_slice-2.result.now all c.as_slice.ensures
-      (followed_less (length (view c.end_calls.new.net).values) (length (view c.args.net.now).values) c.args.inner.now.cells c.args.inner.now.cells c.args.firsts.now (two ∙ one) (omega arith) c.requires.firsts) c.requires.inner.dones
+    (followed_less (length (view c.end_calls.new.net).values) (length (view c.args.net.now).values) c.args.inner.now.cells c.args.inner.now.cells c.args.firsts.now (two ∙ one) (omega arith) c.requires.firsts) c.requires.inner.dones

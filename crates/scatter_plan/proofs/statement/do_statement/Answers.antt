@@ -48,23 +48,23 @@ condition-requires-clause-inner g c =
 pub returns-in-Call-clause-done : goal.returns-in-Call-clause-done
 returns-in-Call-clause-done g c =
     call_done c.args.ground.now.checked.now c.args.ground.now.layout.now c.args.ground.now.site.now c.args.spot.now.bases c.args.spot.now.place c.args.step c.args.line.now (state c.args.growth.now c.args.asking.now)
-      (state c.call.new.growth c.call.new.asking) (Unit {0}) c.call.result c.args.statement.now c.in-Call.it c.as_slice-bases.result.now c.in-Call.is c.as_slice-bases.ensures c.call.ensures.called
+    (state c.call.new.growth c.call.new.asking) (Unit {0}) c.call.result c.args.statement.now c.in-Call.it c.as_slice-bases.result.now c.in-Call.is c.as_slice-bases.ensures c.call.ensures.called
 
 pub returns-in-Call-clause-steps : goal.returns-in-Call-clause-steps
 returns-in-Call-clause-steps g c =
     call_within c.args.ground.now.checked.now c.args.ground.now.layout.now c.args.ground.now.site.now c.args.spot.now.bases c.args.spot.now.place c.args.step c.args.line.now (state c.args.growth.now c.args.asking.now)
-      c.args.statement.now c.in-Call.it c.as_slice-bases.result.now c.args.steps.now c.call.new.steps c.in-Call.is c.as_slice-bases.ensures c.call.ensures.steps
+    c.args.statement.now c.in-Call.it c.as_slice-bases.result.now c.args.steps.now c.call.new.steps c.in-Call.is c.as_slice-bases.ensures c.call.ensures.steps
 
 pub returns-in-Scatter-clause-done : goal.returns-in-Scatter-clause-done
 returns-in-Scatter-clause-done g c =
     let h = can_scatter c.args.ground.now.checked.now c.args.ground.now.layout.now c.args.ground.now.site.now c.args.spot.now.bases c.args.spot.now.place c.args.step c.args.line.now (state c.args.growth.now c.args.asking.now) c.args.statement.now c.in-Scatter.it c.in-Scatter.is c.requires.can.can in
     let same : c.index-bodies-line.result ≡ h.0 = found_same c.args.ground.now.layout.now.bodies c.as_slice-bodies.result.now c.args.line.now.inner h.0 c.index-bodies-line.result c.as_slice-bodies.ensures h.1 c.index-bodies-line.is in
     scatter_done c.args.ground.now.checked.now c.args.ground.now.layout.now c.args.ground.now.site.now c.args.spot.now.bases c.args.spot.now.place c.args.step c.args.line.now (state c.args.growth.now c.args.asking.now)
-      (state c.scatter.new.growth c.args.asking.now) (c.scatter.new.growth.count ≤ 1000000) c.scatter.result c.args.statement.now c.in-Scatter.it c.index-bodies-line.result h.0 c.as_slice-bases.result.now c.in-Scatter.is c.as_slice-bases.ensures same h.1 refl c.scatter.ensures.done
+    (state c.scatter.new.growth c.args.asking.now) (c.scatter.new.growth.count ≤ 1000000) c.scatter.result c.args.statement.now c.in-Scatter.it c.index-bodies-line.result h.0 c.as_slice-bases.result.now c.in-Scatter.is c.as_slice-bases.ensures same h.1 refl c.scatter.ensures.done
 
 pub returns-in-If-clause-done : goal.returns-in-If-clause-done
 returns-in-If-clause-done g c =
     let h = can_if c.args.ground.now.checked.now c.args.ground.now.layout.now c.args.ground.now.site.now c.args.spot.now.bases c.args.spot.now.place c.args.step c.args.line.now (state c.args.growth.now c.args.asking.now) c.args.statement.now c.in-If.it c.in-If.is c.requires.can.can in
     let same : c.index-bodies-line-in-If.result ≡ h.0 = found_same c.args.ground.now.layout.now.bodies c.as_slice-bodies-in-If.result.now c.args.line.now.inner h.0 c.index-bodies-line-in-If.result c.as_slice-bodies-in-If.ensures h.1 c.index-bodies-line-in-If.is in
     if_done c.args.ground.now.checked.now c.args.ground.now.layout.now c.args.ground.now.site.now c.args.spot.now.bases c.args.spot.now.place c.args.step c.args.line.now (state c.args.growth.now c.args.asking.now)
-      (state c.condition.new.growth c.args.asking.now) (c.condition.new.growth.count ≤ 1000000) c.condition.result c.args.statement.now c.in-If.it c.index-bodies-line-in-If.result h.0 c.as_slice-bases.result.now c.in-If.is c.as_slice-bases.ensures same h.1 refl c.condition.ensures.done
+    (state c.condition.new.growth c.args.asking.now) (c.condition.new.growth.count ≤ 1000000) c.condition.result c.args.statement.now c.in-If.it c.index-bodies-line-in-If.result h.0 c.as_slice-bases.result.now c.in-If.is c.as_slice-bases.ensures same h.1 refl c.condition.ensures.done

@@ -42,4 +42,4 @@ returns-in-Input-clause-done g c = λ r there.
     let old = state c.args.growth.now c.args.asking.now in
     let new = state c.take_input.new.growth c.args.asking.now in
     subst (λ (x : Rule). Passes (Did ground.checked.now ground.layout.now ground.site.now old new c.args.step x) (IsPastStep ground.checked.now ground.layout.now old c.args.step x) c.take_input.result) same
-      (passes_as _ _ _ _ c.take_input.result (λ d. (d, refl)) (λ q. q) c.take_input.ensures.done)
+    (passes_as _ _ _ _ c.take_input.result (λ d. (d, refl)) (λ q. q) c.take_input.ensures.done)

@@ -29,8 +29,8 @@ returns-clause-sound c =
     let count : length q.asked.items ≡ length n.asked.items = sym (length-map q.asked.items call_of) ∙ sym (ap (λ (cs : List Call). length cs) c.remove-prepared.ensures.calls) ∙ length-map n.asked.items call_of in
     let inside : c.args.at < length n.asked.items = subst (λ (m : ℕ). c.args.at < m) count (owner_there q.ready.items q.owners.items q.asked.items q.marks c.requires.sound c.requires.waits.0 c.args.at c.requires.waits.1) in
     told_more n.ready.items n.owners.items n.asked.items n.marks c.remove-prepared.ensures.sound c.args.at c.index_mut.result.now
-      (record { place = c.index_mut.result.now.place; step = c.index_mut.result.now.step; last = Some c.remove-prepared.result.request.attempt; waits_at = c.index_mut.result.now.waits_at })
-      (read_at n.asked.items c.args.at c.index_mut.result.now c.index_mut.result.now inside c.index_mut.ensures.value) refl refl
+    (record { place = c.index_mut.result.now.place; step = c.index_mut.result.now.step; last = Some c.remove-prepared.result.request.attempt; waits_at = c.index_mut.result.now.waits_at })
+    (read_at n.asked.items c.args.at c.index_mut.result.now c.index_mut.result.now inside c.index_mut.ensures.value) refl refl
 
 pub returns-clause-idle : goal.returns-clause-idle
 returns-clause-idle c =
@@ -38,7 +38,7 @@ returns-clause-idle c =
     let k : ℕ = c.index.result.now.waits_at in
     let there : slice_get q.owners.items k ≡ Some c.args.at = waits_there q.ready.items q.owners.items q.asked.items q.marks c.requires.sound c.requires.waits.0 c.args.at c.requires.waits.1 c.index.result.now c.index.ensures in
     subst (λ (os : List ℕ). (i : ℕ) → slice_get os i ≡ Some c.args.at → ⊥) (sym c.remove-prepared.ensures.owners)
-      (idle_now q.ready.items q.owners.items q.asked.items q.marks c.requires.sound k c.args.at (get_or q.owners.items k 0) there)
+    (idle_now q.ready.items q.owners.items q.asked.items q.marks c.requires.sound k c.args.at (get_or q.owners.items k 0) there)
 
 pub returns-clause-calls : goal.returns-clause-calls
 returns-clause-calls c =

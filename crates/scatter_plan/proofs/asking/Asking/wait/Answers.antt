@@ -16,8 +16,8 @@ returns-clause-sound c =
     let there : slice_get q.asked.items c.args.at ≡ Some a = (place_there q.asked.items c.args.at a c.args.prepared.request.place c.requires.place c.index_mut.ensures.value).0 in
     let place : c.args.prepared.request.place ≡ a.place = (place_there q.asked.items c.args.at a c.args.prepared.request.place c.requires.place c.index_mut.ensures.value).1 in
     subst (λ (rs : List Prepared). AreAsking rs c.push.new.self.items (slice_set q.asked.items c.args.at b) q.marks) (sym c.in_ok-push-2.ensures.items)
-      (subst (λ (os : List ℕ). AreAsking (q.ready.items ++ c.args.prepared ∷ []) os (slice_set q.asked.items c.args.at b) q.marks) (sym c.in_ok-push.ensures.items)
-        (asked_again q.ready.items q.owners.items q.asked.items q.marks c.requires.sound c.args.prepared c.args.at a b there refl place (c.len-waits_at.ensures ∙ q.ready.ok.0) c.requires.idle))
+    (subst (λ (os : List ℕ). AreAsking (q.ready.items ++ c.args.prepared ∷ []) os (slice_set q.asked.items c.args.at b) q.marks) (sym c.in_ok-push.ensures.items)
+    (asked_again q.ready.items q.owners.items q.asked.items q.marks c.requires.sound c.args.prepared c.args.at a b there refl place (c.len-waits_at.ensures ∙ q.ready.ok.0) c.requires.idle))
 
 pub returns-clause-calls : goal.returns-clause-calls
 returns-clause-calls c =
