@@ -1,7 +1,7 @@
 -- The main workflow is entered, and nothing was done.
-use Rattle.std.proofs.Common.{zero, suc, ◌≡◌, ◌≤◌, ◌<◌, ◌+◌, ◌*◌, ◌^◌, ℕ, Bool, true, false, nat_lt, ◌&&◌, ◌||◌, List, [], ◌∷◌, ◌++◌, Option, Some, None, Result, Ok, Err, drop, get_or, length, slice_get, arith, sym, ap, ◌∙◌, subst, refl}
+use Rattle.std.proofs.Common.{zero, suc, ◌≡◌, ◌≤◌, ◌<◌, ◌+◌, ◌^◌, ℕ, Bool, true, false, nat_lt, ◌&&◌, List, [], ◌∷◌, ◌++◌, Option, Some, Result, Ok, Err, drop, get_or, length, slice_get, arith, sym, ap, ◌∙◌, subst, refl}
 use Rattle.std.specs.List.{list_all}
-use Rattle.std.proofs.lemmas.Bool.{and_from, and_parts, false≢true, lt-ltb, ltb-true, or_right}
+use Rattle.std.proofs.lemmas.Bool.{and_from, and_parts, lt-ltb, ltb-true, or_right}
 use Rattle.std.proofs.lemmas.Option.{same_Some, slice_get_within}
 use Rattle.std.proofs.Math.Seq.{drop-cons}
 use Rattle.wdl_base.specs.declared.fault.Fault.{Fault}
@@ -39,7 +39,7 @@ use Rattle.plan_growth.specs.Growth.{IsGrowing, growth_work, sheet_of}
 use Rattle.plan_growth.proofs.GoOn.{plans_begin}
 use Rattle.plan_ends.proofs.Ends.{listed_too}
 use Rattle.scatter_plan.specs.Doing.{Asks, State, asks, field, state}
-use Rattle.scatter_plan.specs.Holding.{IsHolding, paid_of, waiting}
+use Rattle.scatter_plan.specs.Holding.{IsHolding, waiting}
 use Rattle.scatter_plan.specs.declared.fault.PlanFault.{PlanFault}
 use Rattle.scatter_plan.specs.declared.fault.PlanFault.TheVariants.{TooMany, NoMemory}
 use Rattle.scatter_plan.specs.declared.growth.Growth.{Growth}

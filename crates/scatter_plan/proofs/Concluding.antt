@@ -1,13 +1,11 @@
 -- What is found of the call of a step, and what its answer makes.
-use Rattle.std.proofs.Common.{◌≡◌, ◌≤◌, ℕ, ◌+◌, Bool, true, false, List, Option, Some, None, Result, Ok, Err, OnOk, length, map, slice_get, ap, refl, sym, subst, ◌∙◌, arith}
+use Rattle.std.proofs.Common.{◌≡◌, ℕ, ◌+◌, List, Some, Result, Ok, Err, OnOk, slice_get, ap, sym, subst, ◌∙◌}
 use Rattle.wdl_base.specs.declared.answer.Answer.{Answer}
 use Rattle.wdl_base.specs.declared.fault.Fault.{Fault}
-use Rattle.wdl_base.specs.declared.place.Segment.{Segment}
-use Rattle.wdl_value.specs.declared.env.Bind.{Bind}
 use Rattle.wdl_value.specs.Fits.{Structs}
 use Rattle.wdl_typed.specs.declared.checked.Checked.{Checked}
 use Rattle.wdl_typed.specs.declared.task.TaskDef.{TaskDef}
-use Rattle.wdl_typed.specs.Requests.{Tried, is_success, tells}
+use Rattle.wdl_typed.specs.Requests.{is_success, tells}
 use Rattle.wdl_typed.specs.Statuses.{successes_of}
 use Rattle.wdl_task.specs.declared.request.Prepared.{Prepared}
 use Rattle.wdl_task.specs.Readiness.{IsTold}
@@ -18,7 +16,7 @@ use Rattle.plan_room.specs.Room.{HasRuns}
 use Rattle.plan_growth.specs.declared.rule.Rule.{Rule}
 use Rattle.plan_growth.specs.declared.rule.Rule.TheVariants as rule
 use Rattle.plan_growth.specs.Entering.{Sown, with_net}
-use Rattle.scatter_plan.specs.Arriving.{Answered, CanConclude, Concluded, IsTaken, concluded, ended_faults, ended_net}
+use Rattle.scatter_plan.specs.Arriving.{Answered, CanConclude, IsTaken, concluded, ended_faults, ended_net}
 use Rattle.scatter_plan.specs.Doing.{Asks, Field, last_base}
 
 pub on_both : {A E : Type 0} (P Q R : Type 0) (r : Result A E) → (P → Q → R) → OnOk r P → OnOk r Q → OnOk r R

@@ -1,7 +1,6 @@
 -- How many cells a net has after a move.
-use Rattle.std.proofs.Common.{◌≡◌, ◌<◌, ◌≤◌, ◌^◌, ℕ, zero, suc, ◌+◌, List, [], ◌∷◌, ◌++◌, Option, Some, None, length, map, get_or, ap, refl, sym, subst, ◌∙◌, arith}
+use Rattle.std.proofs.Common.{◌≡◌, ◌<◌, ◌≤◌, ◌^◌, ℕ, zero, suc, ◌+◌, List, [], ◌∷◌, ◌++◌, Option, Some, None, length, get_or, ap, refl, sym, subst, ◌∙◌, arith}
 use Rattle.std.specs.Prelude.{replicate}
-use Rattle.std.specs.List.{All}
 use Rattle.std.proofs.lemmas.List.Elements.{All-cons, All-nil}
 use Rattle.std.proofs.lemmas.List.{get_or-map, length-map, length-append, length-set, length-replicate}
 use Rattle.wdl_base.specs.declared.place.Segment.{Segment}
@@ -15,7 +14,7 @@ use Rattle.wdl_typed.specs.declared.task.TInput.{TInput}
 use Rattle.wdl_typed.specs.Declarations.{plain_key}
 use Rattle.wdl_typed.specs.Scope.{lookup}
 use Rattle.value_net.specs.declared.net.ValueNet.{ValueNet}
-use Rattle.value_net.specs.Nets.{View, view, with_cells, with_step}
+use Rattle.value_net.specs.Nets.{view, with_cells, with_step}
 use Rattle.plan_layout.specs.declared.layout.BodyLayout.{BodyLayout}
 use Rattle.plan_layout.specs.declared.layout.FlowLayout.{FlowLayout}
 use Rattle.plan_layout.specs.declared.layout.Need.{Need}

@@ -1,7 +1,6 @@
 -- An answer keeps what holds of a plan, over one row more.
-use Rattle.std.proofs.Common.{◌≡◌, ℕ, zero, suc, ◌+◌, ◌-◌, ◌<◌, ◌≤◌, ◌⊎◌, inl, inr, Bool, true, false, not, cond, ◌&&◌, ◌||◌, ◌==◌, nat_eq, nat_lt, List, [], ◌∷◌, ◌++◌, append-nil, append_assoc, Contains, length, length-append, map, take, get_or, swap_remove, slice_set, Option, Some, None, Ok, Err, count_by, slice_get, sym, ap, ◌∙◌, subst, refl, arith}
+use Rattle.std.proofs.Common.{◌≡◌, ℕ, zero, suc, ◌+◌, ◌-◌, ◌<◌, ◌≤◌, ◌⊎◌, inl, inr, Bool, true, false, not, cond, ◌&&◌, ◌||◌, nat_lt, List, [], ◌∷◌, ◌++◌, append-nil, Contains, length, length-append, map, take, get_or, swap_remove, slice_set, Some, Ok, Err, count_by, slice_get, sym, ap, ◌∙◌, subst, refl, arith}
 use Rattle.std.proofs.lemmas.Bool.{cases_eq, lt-ltb, ltb-false, ltb-true, or_left}
-use Rattle.std.proofs.lemmas.Bool.Decides.{Decides-eqb}
 use Rattle.std.proofs.lemmas.List.Elements.{Contains-append_cases}
 use Rattle.std.proofs.lemmas.List.Sums.{sum_by-append, sum_by-cons}
 use Rattle.std.proofs.lemmas.Option.{slice_get_within}
@@ -10,7 +9,6 @@ use Rattle.wdl_base.specs.declared.fault.Fault.{Fault}
 use Rattle.wdl_base.specs.declared.place.Segment.{Segment}
 use Rattle.wdl_base.specs.declared.place.Segment.TheVariants as segment
 use Rattle.wdl_base.specs.declared.request.Request.{Request}
-use Rattle.wdl_base.specs.Same.{same_place}
 use Rattle.wdl_value.specs.declared.env.Bind.{Bind}
 use Rattle.wdl_value.specs.declared.value.Value.TheVariants as kind
 use Rattle.wdl_value.specs.Tables.{Row, has_row, is_at}
@@ -25,7 +23,7 @@ use Rattle.flow_laws.specs.Laws.{run_with}
 use Rattle.net_laws.specs.Works.{work_of}
 use Rattle.plan_moves.specs.Sheets.{rules_of, state_of}
 use Rattle.plan_lists.proofs.Ends.{too_many_now}
-use Rattle.wdl_typed.specs.Requests.{Asked, Failing, Successes, Tried, asks as asks_of, bad_status, is_success, job_dir, request, tells}
+use Rattle.wdl_typed.specs.Requests.{Asked, Failing, Successes, Tried, bad_status, is_success, job_dir, tells}
 use Rattle.wdl_typed.specs.Statuses.{successes_of}
 use Rattle.wdl_task.specs.declared.request.Prepared.{Prepared}
 use Rattle.wdl_task.specs.Views.{asked_of, next_of}
@@ -34,11 +32,10 @@ use Rattle.flow_laws.proofs.Elements.{only_one}
 use Rattle.flow_laws.proofs.Rows.{at_itself}
 use Rattle.net_laws.specs.Growing as net
 use Rattle.net_laws.specs.Growing.{Form, copies, declares, does, ends, gathers, whole}
-use Rattle.net_laws.specs.Moving.{IsEven}
 use Rattle.net_laws.specs.Net.{Given, Scope, Work}
 use Rattle.plan_moves.specs.Telling.{IsWaiting, work_after}
 use Rattle.plan_moves.proofs.Telling.{arrive}
-use Rattle.plan_lists.specs.Lists.{JobTest, Listed, Swaps, any_job, jobs_in, unanswered}
+use Rattle.plan_lists.specs.Lists.{JobTest, Listed, any_job, jobs_in, unanswered}
 use Rattle.plan_lists.proofs.Steps as listing
 use Rattle.plan_lists.proofs.Weights.{jobs_weigh}
 use Rattle.plan_layout.specs.declared.layout.Layout.{Layout}

@@ -24,7 +24,6 @@ use Rattle.wdl_typed.specs.Flow.{args_met, flow, too_many}
 use Rattle.wdl_typed.specs.Requests.{Tried}
 use Rattle.wdl_task.specs.declared.request.Prepared.{Prepared}
 use Rattle.flow_laws.specs.Laws.{run_with}
-use Rattle.flow_laws.proofs.Checked.{kept}
 use Rattle.step_net.specs.Views.{Wants}
 use Rattle.value_net.specs.Nets.{are_set, with_taken}
 use Rattle.net_laws.specs.Growing.{Form, whole}

@@ -17,7 +17,6 @@ use Rattle.wdl_typed.specs.declared.task.TaskDef.{TaskDef}
 use Rattle.wdl_typed.specs.Flow.{args_met}
 use Rattle.wdl_typed.specs.Requests.{Asked, Tried, asks as asks_of}
 use Rattle.wdl_task.specs.Counts.{prepare_count}
-use Rattle.flow_laws.proofs.Checked.{kept}
 use Rattle.step_net.specs.Views.{Wants}
 use Rattle.value_net.specs.Nets.{are_set, with_taken}
 use Rattle.net_laws.specs.Cost.{called_cost, met_cost, some_cost}

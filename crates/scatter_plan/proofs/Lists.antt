@@ -1,5 +1,5 @@
 -- Elements of lists that grow, and of which one is taken out.
-use Rattle.std.proofs.Common.{◌≡◌, ◌≢◌, ◌<◌, ◌≤◌, ◌⊎◌, inl, inr, ℕ, zero, suc, ◌+◌, ◌-◌, List, [], ◌∷◌, ◌++◌, Option, Some, None, length, map, get_or, take, slice_get, arith, ap, refl, sym, subst, ◌∙◌}
+use Rattle.std.proofs.Common.{◌≡◌, ◌≢◌, ◌<◌, ◌⊎◌, inl, inr, ℕ, zero, suc, ◌+◌, ◌-◌, List, [], ◌∷◌, ◌++◌, Some, length, get_or, take, slice_get, arith, ap, refl, sym, ◌∙◌}
 use Rattle.std.specs.List.{slice_set, swap_remove}
 use Rattle.std.proofs.lemmas.List.{length-set, length-take-le}
 use Rattle.step_net.proofs.Gets.{get_other, get_same, get_set, some_same}

@@ -1,5 +1,5 @@
 -- A plan is made anew over a journal, one entry after the other.
-use Rattle.std.proofs.Common.{zero, suc, ◌≡◌, ◌≤◌, ◌<◌, ◌+◌, ℕ, Bool, true, false, cond, not, ◌&&◌, ◌⊎◌, inl, inr, List, [], ◌∷◌, ◌++◌, append_assoc, append-nil, ◌||◌, take, get_or, Contains, count_by, length, arith, sym, ap, ◌∙◌, subst, refl}
+use Rattle.std.proofs.Common.{zero, suc, ◌≡◌, ◌≤◌, ◌<◌, ◌+◌, ℕ, Bool, true, false, cond, not, ◌&&◌, ◌⊎◌, inl, inr, List, [], ◌∷◌, ◌++◌, append_assoc, append-nil, ◌||◌, take, get_or, count_by, length, arith, sym, ap, ◌∙◌, subst, refl}
 use Rattle.std.specs.List.{list_any}
 use Rattle.std.proofs.lemmas.Bool.{and_from, and_parts, false≢true, not-true, or_cases}
 use Rattle.std.proofs.lemmas.List.Sums.{sum_by-cons}

@@ -1,5 +1,5 @@
 -- The cells of a call's outputs, the last one first.
-use Rattle.std.proofs.Common.{◌≡◌, ◌<◌, ◌≤◌, ℕ, ◌+◌, List, [], ◌∷◌, ◌++◌, Some, length, ap, ◌∙◌, refl, arith}
+use Rattle.std.proofs.Common.{◌≡◌, ◌<◌, ℕ, ◌+◌, List, [], ◌∷◌, ◌++◌, Some, length, ap, ◌∙◌, refl, arith}
 use Rattle.std.proofs.lemmas.List.{length-append, length-set}
 use Rattle.wdl_value.specs.declared.env.Bind.{Bind}
 use Rattle.plan_growth.specs.Entering.{Sown}

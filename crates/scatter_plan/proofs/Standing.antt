@@ -1,5 +1,5 @@
 -- What each form of statement asks for and made, by the statement.
-use Rattle.std.proofs.Common.{◌≡◌, ◌≤◌, ◌<◌, ℕ, zero, suc, ◌+◌, ◌-◌, List, [], ◌∷◌, ◌++◌, Option, Some, Result, Ok, Err, length, get_or, slice_get, ap, refl, sym, subst, ◌∙◌, arith}
+use Rattle.std.proofs.Common.{◌≡◌, ◌≤◌, ◌<◌, ℕ, ◌+◌, ◌-◌, List, [], ◌∷◌, ◌++◌, Option, Some, Result, Ok, Err, length, get_or, slice_get, ap, refl, sym, subst, ◌∙◌, arith}
 use Rattle.wdl_base.specs.declared.place.Segment.{Segment}
 use Rattle.wdl_base.specs.declared.place.Segment.TheVariants as segment
 use Rattle.wdl_base.specs.declared.fault.Fault.{Fault}
@@ -7,8 +7,6 @@ use Rattle.wdl_base.specs.declared.fault.Why.{Why}
 use Rattle.wdl_task.specs.declared.fault.CallFault.TheVariants.{Bad}
 use Rattle.wdl_task.specs.Tells.{Fails}
 use Rattle.wdl_value.specs.declared.env.Bind.{Bind}
-use Rattle.wdl_value.specs.declared.value.Value.{Value}
-use Rattle.wdl_value.specs.Outcome.{Outcome}
 use Rattle.wdl_typed.specs.declared.checked.Checked.{Checked}
 use Rattle.wdl_typed.specs.declared.expr.TExpr.{TExpr}
 use Rattle.wdl_typed.specs.declared.flow.Statement.{Statement, Statement-F, out-Statement}

@@ -1,10 +1,10 @@
 -- What a plan that was told of rows shows, and what one answer more makes of it.
-use Rattle.std.proofs.Common.{◌≡◌, ◌≤◌, ◌+◌, ℕ, Bool, true, false, cond, List, [], ◌∷◌, ◌++◌, append_assoc, Option, Some, None, Result, Ok, Err, count_by, length, option_and_then, slice_get, arith, sym, ap, ◌∙◌, subst, refl}
+use Rattle.std.proofs.Common.{◌≡◌, ◌≤◌, ℕ, true, false, cond, List, [], ◌∷◌, ◌++◌, append_assoc, Option, Some, None, Result, Ok, Err, option_and_then, slice_get, arith, sym, ap, ◌∙◌, subst, refl}
 use Rattle.wdl_value.specs.declared.env.Bind.{Bind}
 use Rattle.wdl_value.specs.Tables.{Row}
 use Rattle.wdl_typed.specs.declared.checked.Checked.{Checked}
 use Rattle.wdl_typed.specs.declared.flow.FlowDef.{FlowDef}
-use Rattle.wdl_typed.specs.Flow.{Flowing, is_clean, outputs_of, too_many}
+use Rattle.wdl_typed.specs.Flow.{Flowing, is_clean, too_many}
 use Rattle.wdl_task.specs.declared.request.Prepared.{Prepared}
 use Rattle.flow_laws.specs.Laws.{run_with}
 use Rattle.net_laws.specs.Cost.{flow_cost}
@@ -16,13 +16,13 @@ use Rattle.scatter_plan.specs.declared.fault.PlanFault.{PlanFault}
 use Rattle.scatter_plan.specs.declared.fault.PlanFault.TheVariants.{TooMany, NoMemory}
 use Rattle.scatter_plan.specs.declared.growth.Growth.{Growth}
 use Rattle.scatter_plan.specs.declared.plan.Plan.{Plan}
-use Rattle.scatter_plan.specs.Answering.{Answered, Settled, Settles, TakesAnswer}
+use Rattle.scatter_plan.specs.Answering.{Answered, Settles, TakesAnswer}
 use Rattle.scatter_plan.specs.Askings.{IsAsking}
 use Rattle.scatter_plan.specs.Calls.{Answers, Arrives, IsRenewed}
 use Rattle.scatter_plan.specs.Doing.{State, state}
-use Rattle.scatter_plan.specs.Holding.{IsHolding, paid_of, task_cost}
-use Rattle.scatter_plan.specs.Plans.{IsHeld, IsMade, IsOfFlowing, IsTold, cost_in, cost_with, flow_in, flow_of, flow_with, outputs_if_clean, outputs_with, paid_in}
-use Rattle.scatter_plan.specs.Settling.{Begins, IsMadeOf, Turned, Turns, is_over, main_flow, outputs_when}
+use Rattle.scatter_plan.specs.Holding.{IsHolding, task_cost}
+use Rattle.scatter_plan.specs.Plans.{IsHeld, IsMade, IsOfFlowing, IsTold, cost_in, cost_with, flow_in, flow_of, flow_with, outputs_with, paid_in}
+use Rattle.scatter_plan.specs.Settling.{Begins, Turned, Turns, is_over, main_flow, outputs_when}
 use Rattle.scatter_plan.specs.Stepping.{library_in}
 use Rattle.scatter_plan.proofs.Settled.{few, paid_within, shown_outputs, tells}
 

@@ -1,5 +1,5 @@
 -- What holds of a plan while its steps are done.
-use Rattle.std.proofs.Common.{◌≡◌, ℕ, zero, suc, ◌+◌, ◌-◌, ◌<◌, ◌≤◌, true, List, [], ◌∷◌, ◌++◌, append-nil, append_assoc, length, Option, Some, None, Result, Ok, Err, slice_get, sym, ap, ◌∙◌, subst, refl, arith}
+use Rattle.std.proofs.Common.{◌≡◌, ℕ, zero, suc, ◌+◌, ◌-◌, ◌<◌, ◌≤◌, true, List, [], ◌∷◌, ◌++◌, append-nil, append_assoc, length, Option, Some, None, Result, Err, slice_get, sym, ap, ◌∙◌, subst, refl, arith}
 use Rattle.wdl_value.specs.declared.env.Bind.{Bind}
 use Rattle.wdl_value.specs.Tables.{Row}
 use Rattle.wdl_typed.specs.declared.checked.Checked.{Checked}
@@ -19,7 +19,7 @@ use Rattle.scatter_plan.specs.Askings.{IsAsking}
 use Rattle.scatter_plan.specs.Doing.{State, state}
 use Rattle.scatter_plan.specs.Holding.{IsHolding, paid_of}
 use Rattle.scatter_plan.specs.Passes.{Passes}
-use Rattle.scatter_plan.specs.Settling.{Turned, Turns, main_flow}
+use Rattle.scatter_plan.specs.Settling.{Turned, main_flow}
 use Rattle.scatter_plan.specs.Stepping.{Did, IsPastStep, IsWithin, library_in}
 use Rattle.scatter_plan.proofs.HoldMany.{past_many}
 use Rattle.scatter_plan.proofs.HoldReady.{readies}

@@ -1,5 +1,5 @@
 -- The calls of tasks that were asked, and their attempts that wait.
-use Rattle.std.specs.Prelude.{◌≡◌, ℕ, ◌+◌, ◌≤◌, Bool, List, Option, Some, None, length, map, slice_get, swap_remove, IsTrue, ◌↔◌}
+use Rattle.std.specs.Prelude.{◌≡◌, ℕ, ◌≤◌, List, Option, Some, None, length, map, slice_get, swap_remove}
 use Rattle.wdl_base.specs.declared.place.Segment.{Segment}
 use Rattle.wdl_task.specs.declared.request.Prepared.{Prepared}
 use Rattle.wdl_flow.specs.Marks.{place_mark}

@@ -8,15 +8,11 @@ use Rattle.wdl_value.specs.declared.value.Value.{Value}
 use Rattle.wdl_value.specs.Outcome.{Outcome}
 use Rattle.wdl_value.specs.Parts.{bool_in, items_in}
 use Rattle.wdl_typed.specs.declared.checked.Checked.{Checked}
-use Rattle.wdl_typed.specs.declared.expr.TExpr.{TExpr}
 use Rattle.wdl_typed.specs.declared.flow.FlowDef.{FlowDef}
 use Rattle.wdl_typed.specs.declared.flow.Statement.{Statement, Statement-F, out-Statement}
 use Rattle.wdl_typed.specs.declared.flow.Statement.TheOpen as layer
 use Rattle.wdl_typed.specs.declared.flow.Target.{Target}
 use Rattle.wdl_typed.specs.declared.flow.Target.TheVariants as target
-use Rattle.wdl_typed.specs.declared.flow.TCall.{TCall}
-use Rattle.wdl_typed.specs.declared.flow.TIf.{TIf}
-use Rattle.wdl_typed.specs.declared.flow.TScatter.{TScatter}
 use Rattle.wdl_typed.specs.declared.task.TaskDef.{TaskDef}
 use Rattle.wdl_typed.specs.Flow.{args_met, failing_at, fault_at}
 use Rattle.wdl_typed.specs.Requests.{Asked, Tried, asks as asks_of, request}

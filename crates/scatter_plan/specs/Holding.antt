@@ -1,6 +1,5 @@
 -- What holds of a plan between its steps: its net grows of the main workflow, and its lists tell of what has grown.
-use Rattle.std.specs.Prelude.{◌≡◌, ℕ, ◌+◌, ◌-◌, ◌≤◌, ◌<◌, Bool, true, List, [], ◌∷◌, Contains, Option, Some, None, Ok, count_by, length, map, slice_get}
-use Rattle.wdl_base.specs.declared.place.Segment.{Segment}
+use Rattle.std.specs.Prelude.{◌≡◌, ℕ, ◌+◌, ◌-◌, ◌≤◌, ◌<◌, Bool, true, List, [], ◌∷◌, Contains, Some, Ok, count_by, length, slice_get}
 use Rattle.wdl_value.specs.declared.env.Bind.{Bind}
 use Rattle.wdl_value.specs.Tables.{Row}
 use Rattle.wdl_typed.specs.declared.checked.Checked.{Checked}
@@ -9,14 +8,14 @@ use Rattle.wdl_typed.specs.declared.task.TaskDef.{TaskDef}
 use Rattle.wdl_typed.specs.declared.task.TDecl.{TDecl}
 use Rattle.wdl_typed.specs.Declarations.{plain_key}
 use Rattle.wdl_typed.specs.Journal.{keys_distinct}
-use Rattle.wdl_typed.specs.Requests.{Asked, asks as asks_of, request}
+use Rattle.wdl_typed.specs.Requests.{asks as asks_of, request}
 use Rattle.wdl_typed.specs.Statuses.{successes_of}
 use Rattle.wdl_task.specs.declared.request.Prepared.{Prepared}
 use Rattle.wdl_task.specs.Counts.{prepare_count}
 use Rattle.wdl_task.specs.Readiness.{are_given}
 use Rattle.wdl_task.specs.Views.{asked_of}
 use Rattle.net_laws.specs.Cost.{TaskCost}
-use Rattle.net_laws.specs.Growing.{Form, whole}
+use Rattle.net_laws.specs.Growing.{whole}
 use Rattle.net_laws.specs.Moving.{IsEven}
 use Rattle.net_laws.specs.Net.{Given, Work, find, slot_keys}
 use Rattle.plan_moves.specs.Telling.{IsWaiting}

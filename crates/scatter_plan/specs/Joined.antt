@@ -1,5 +1,5 @@
 -- What a step that joins cells makes of a net.
-use Rattle.std.specs.Prelude.{◌≡◌, ℕ, ◌+◌, ◌<◌, ◌^◌, List, [], ◌∷◌, Option, Some, None, get_or, map, slice_get}
+use Rattle.std.specs.Prelude.{◌≡◌, ℕ, ◌+◌, ◌<◌, ◌^◌, List, [], Option, Some, None, get_or, map, slice_get}
 use Rattle.std.specs.List.{All}
 use Rattle.step_net.specs.Views.{Wants}
 use Rattle.wdl_value.specs.declared.value.Value.{Value}

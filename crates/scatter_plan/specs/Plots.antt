@@ -1,6 +1,6 @@
 -- What was entered, as the laws see it.
 use Rattle.std.specs.Prelude.{ℕ, length}
-use Rattle.value_net.specs.Nets.{IsSound, view}
+use Rattle.value_net.specs.Nets.{view}
 use Rattle.plan_growth.specs.Entering.{Plot, Sown}
 use Rattle.scatter_plan.specs.declared.growth.Entered.{Entered}
 

@@ -1,4 +1,4 @@
-use Rattle.std.proofs.Common.{◌≡◌, ℕ, length, arith}
+use Rattle.std.proofs.Common.{◌≡◌, length, arith}
 use Rattle.wdl_task.specs.Views.{asked_of}
 use Rattle.scatter_plan.proofs.OutputRuns.{told_count}
 use Rattle.scatter_plan.proofs.answer.end_call.Goals as goal

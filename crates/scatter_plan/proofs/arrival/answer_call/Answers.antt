@@ -1,4 +1,4 @@
-use Rattle.std.proofs.Common.{◌≡◌, ◌≤◌, refl, ap, subst, arith}
+use Rattle.std.proofs.Common.{arith}
 use Rattle.scatter_plan.proofs.HoldTakes.{can_conclude, takes, waits_there}
 use Rattle.scatter_plan.proofs.arrival.answer_call.Goals as goal
 

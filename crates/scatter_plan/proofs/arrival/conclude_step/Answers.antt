@@ -1,5 +1,4 @@
-use Rattle.std.proofs.Common.{◌≡◌, ◌≤◌, ℕ, ◌+◌, OnOk, length, sym, subst, ◌∙◌}
-use Rattle.plan_growth.specs.declared.rule.Rule.TheVariants as rule
+use Rattle.std.proofs.Common.{◌≤◌, ℕ, ◌+◌, OnOk, length, sym, subst, ◌∙◌}
 use Rattle.step_net.proofs.Gets.{some_same}
 use Rattle.scatter_plan.specs.Arriving.{CanConclude, Concluded}
 use Rattle.scatter_plan.specs.Doing.{field}

@@ -1,10 +1,9 @@
-use Rattle.std.proofs.Common.{◌≡◌, ◌<◌, ◌≤◌, ℕ, ◌+◌, Some, false, true, length, map, slice_get, ap, refl, sym, subst, ◌∙◌, arith}
+use Rattle.std.proofs.Common.{◌≡◌, ◌<◌, ◌≤◌, ℕ, ◌+◌, Some, false, true, length, slice_get, ap, sym, subst, ◌∙◌}
 use Rattle.std.proofs.lemmas.List.{length-map}
 use Rattle.wdl_typed.specs.Requests.{is_success}
 use Rattle.wdl_typed.specs.Statuses.{successes_of}
 use Rattle.wdl_task.specs.declared.request.Prepared.{Prepared}
 use Rattle.value_net.specs.Nets.{view}
-use Rattle.plan_growth.specs.declared.rule.Rule.TheVariants as rule
 use Rattle.step_net.proofs.Gets.{get_map, some_same}
 use Rattle.scatter_plan.specs.Arriving.{CanConclude, IsTaken, goes_on}
 use Rattle.scatter_plan.specs.Askings.{Call, call_of, calls, place_in}

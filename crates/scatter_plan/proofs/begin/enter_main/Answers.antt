@@ -1,4 +1,4 @@
-use Rattle.std.proofs.Common.{List, arith, length, subst, sym, ◌<◌, ◌≡◌}
+use Rattle.std.proofs.Common.{List, arith, length, subst, sym, ◌<◌}
 use Rattle.plan_layout.specs.declared.layout.BodyLayout.{BodyLayout}
 use Rattle.scatter_plan.proofs.Beginning.{body_found, body_within, enters_there, found_in, main_of, room_there}
 use Rattle.scatter_plan.proofs.begin.enter_main.Goals as goal

@@ -1,16 +1,12 @@
-use Rattle.std.proofs.Common.{◌≡◌, ◌<◌, ◌^◌, ℕ, List, [], ◌∷◌, ◌++◌, Ok, Err, length, ap, subst, sym, ◌∙◌, arith}
-use Rattle.wdl_base.specs.declared.fault.Fault.{Fault}
-use Rattle.wdl_base.specs.declared.place.Segment.{Segment}
+use Rattle.std.proofs.Common.{◌≡◌, ◌<◌, ◌^◌, List, [], ◌∷◌, ◌++◌, Ok, length, ap, subst, sym, ◌∙◌, arith}
 use Rattle.wdl_base.specs.declared.place.Segment.TheVariants as segment
 use Rattle.wdl_value.specs.declared.env.Bind.{Bind}
 use Rattle.wdl_typed.specs.declared.expr.TExpr.{TExpr}
 use Rattle.wdl_typed.specs.declared.expr.TField.{TField}
 use Rattle.wdl_typed.specs.Flow.{args_met}
-use Rattle.wdl_typed.specs.Requests.{Failing, Tried}
 use Rattle.value_net.specs.Nets.{view}
 use Rattle.plan_layout.specs.declared.layout.Need.{Need}
-use Rattle.scatter_plan.specs.Doing.{Field, field, state}
-use Rattle.scatter_plan.specs.Plots.{plot}
+use Rattle.scatter_plan.specs.Doing.{state}
 use Rattle.scatter_plan.specs.Values.{own_env}
 use Rattle.scatter_plan.proofs.Counts.{cells_few}
 use Rattle.scatter_plan.proofs.Reach.{reached_as}

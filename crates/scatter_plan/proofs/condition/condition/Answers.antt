@@ -1,4 +1,4 @@
-use Rattle.std.proofs.Common.{◌<◌, ◌^◌, ℕ, length, arith}
+use Rattle.std.proofs.Common.{◌<◌, ◌^◌, length, arith}
 use Rattle.value_net.specs.Nets.{view}
 use Rattle.scatter_plan.proofs.Counts.{cells_few}
 use Rattle.scatter_plan.proofs.Reach.{reached_as}

@@ -1,4 +1,4 @@
-use Rattle.std.proofs.Common.{◌≡◌, ◌<◌, ◌^◌, ℕ, List, length, subst, sym, ◌∙◌, arith}
+use Rattle.std.proofs.Common.{◌<◌, ◌^◌, List, length, subst, sym, ◌∙◌, arith}
 use Rattle.value_net.specs.Nets.{view}
 use Rattle.plan_layout.specs.declared.layout.Need.{Need}
 use Rattle.plan_room.specs.Reached.{AreReached}

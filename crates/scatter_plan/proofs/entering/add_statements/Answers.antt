@@ -1,4 +1,4 @@
-use Rattle.std.proofs.Common.{◌≡◌, ℕ, List, Option, length, ap}
+use Rattle.std.proofs.Common.{◌≡◌, List, Option, length, ap}
 use Rattle.wdl_value.specs.declared.value.Value.{Value}
 use Rattle.value_net.specs.Nets.{view}
 use Rattle.plan_room.specs.Reached.{IsStatementReached}

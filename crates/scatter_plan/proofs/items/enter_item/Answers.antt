@@ -1,5 +1,4 @@
-use Rattle.std.proofs.Common.{◌≡◌, ◌<◌, ℕ, ◌+◌, length, arith}
-use Rattle.value_net.specs.Nets.{view}
+use Rattle.std.proofs.Common.{arith}
 use Rattle.scatter_plan.specs.Plots.{plot}
 use Rattle.scatter_plan.proofs.Counts.{entered_count}
 use Rattle.scatter_plan.proofs.items.enter_item.Goals as goal

@@ -1,4 +1,4 @@
-use Rattle.std.proofs.Common.{◌≡◌, ◌≤◌, ℕ, length, ap, arith}
+use Rattle.std.proofs.Common.{◌≡◌, ◌≤◌, length, ap, arith}
 use Rattle.value_net.specs.Nets.{view}
 use Rattle.plan_growth.specs.Entering.{Plot, with_items}
 use Rattle.scatter_plan.specs.Plots.{plot}

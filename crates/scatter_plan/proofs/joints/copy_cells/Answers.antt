@@ -1,4 +1,4 @@
-use Rattle.std.proofs.Common.{◌≡◌, ◌<◌, ◌^◌, ℕ, ◌+◌, List, Option, length, ap, ◌∙◌, arith}
+use Rattle.std.proofs.Common.{◌≡◌, ◌<◌, ◌+◌, length, arith}
 use Rattle.value_net.specs.Nets.{view}
 use Rattle.scatter_plan.proofs.Counts.{cells_few, copied_count, one_there}
 use Rattle.scatter_plan.proofs.joints.copy_cells.Goals as goal

@@ -1,4 +1,4 @@
-use Rattle.std.proofs.Common.{◌≡◌, ◌<◌, ℕ, ◌+◌, List, Option, length, ap, ◌∙◌, arith}
+use Rattle.std.proofs.Common.{◌≡◌, ◌<◌, ◌+◌, List, Option, length, ap, ◌∙◌, arith}
 use Rattle.wdl_value.specs.declared.value.Value.{Value}
 use Rattle.value_net.specs.Nets.{view}
 use Rattle.plan_growth.specs.Entering.{Sown}

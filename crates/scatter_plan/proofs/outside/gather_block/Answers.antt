@@ -1,4 +1,4 @@
-use Rattle.std.proofs.Common.{◌≡◌, ◌<◌, ◌^◌, ℕ, ◌+◌, length, ap, ◌∙◌, arith}
+use Rattle.std.proofs.Common.{◌≡◌, ◌+◌, length, ◌∙◌, arith}
 use Rattle.value_net.specs.Nets.{view}
 use Rattle.plan_growth.specs.Entering.{all_dones}
 use Rattle.scatter_plan.proofs.Counts.{cells_few, ended_count, gathered_count}

@@ -1,10 +1,9 @@
-use Rattle.std.proofs.Common.{◌≡◌, ◌<◌, ◌≤◌, ℕ, List, [], length, refl, sym, subst, arith}
-use Rattle.wdl_typed.specs.declared.flow.Statement.TheOpen as layer
+use Rattle.std.proofs.Common.{◌≡◌, ◌<◌, ◌≤◌, ℕ, List, length, refl, sym, subst, arith}
 use Rattle.value_net.specs.Nets.{view}
 use Rattle.plan_layout.specs.declared.layout.BodyLayout.{BodyLayout}
 use Rattle.plan_room.specs.Reached.{HasRoom}
 use Rattle.plan_room.specs.Room.{HasInner}
-use Rattle.scatter_plan.specs.Doing.{CanStatement, state}
+use Rattle.scatter_plan.specs.Doing.{state}
 use Rattle.scatter_plan.proofs.Standing.{call_done, call_within, can_if, can_scatter, found_same, if_done, inside_of, scatter_done}
 use Rattle.scatter_plan.proofs.statement.do_statement.Goals as goal
 

@@ -1,12 +1,9 @@
-use Rattle.std.proofs.Common.{◌≡◌, ◌<◌, ◌≤◌, ◌^◌, ℕ, ◌+◌, List, Some, length, slice_get, ap, refl, subst, sym, ◌∙◌, arith}
-use Rattle.wdl_typed.specs.declared.expr.TExpr.{TExpr}
+use Rattle.std.proofs.Common.{◌≡◌, ◌<◌, ℕ, ◌+◌, List, length, slice_get, ap, subst, sym, ◌∙◌, arith}
 use Rattle.wdl_typed.specs.declared.flow.FlowDef.{FlowDef}
 use Rattle.wdl_typed.specs.declared.task.TDecl.{TDecl}
-use Rattle.wdl_typed.specs.declared.task.TInput.{TInput}
 use Rattle.value_net.specs.Nets.{view}
 use Rattle.plan_layout.specs.declared.layout.BodyLayout.{BodyLayout}
 use Rattle.plan_layout.specs.declared.layout.FlowLayout.{FlowLayout}
-use Rattle.step_net.proofs.Gets.{some_same}
 use Rattle.scatter_plan.specs.Doing.{field, last_base}
 use Rattle.scatter_plan.proofs.Counts.{cells_few}
 use Rattle.scatter_plan.proofs.Standing.{declared_as, found_same, reached_at, ready_as, same_bases, same_place_in}

@@ -1,4 +1,3 @@
-use Rattle.std.proofs.Common.{◌≡◌, List}
 use Rattle.scatter_plan.specs.Doing.{state}
 use Rattle.scatter_plan.proofs.Standing.{AgreesAt, same_bases, same_line, same_place_in, same_statement, stand_as, taken_done, taken_within}
 use Rattle.scatter_plan.proofs.taking.take_statement.Goals as goal

@@ -1,4 +1,4 @@
-use Rattle.std.proofs.Common.{◌≡◌, ℕ, refl, subst, sym, ◌∙◌}
+use Rattle.std.proofs.Common.{◌≡◌, refl, subst, sym, ◌∙◌}
 use Rattle.plan_growth.specs.declared.rule.Rule.{Rule}
 use Rattle.scatter_plan.specs.Doing.{state}
 use Rattle.plan_growth.specs.declared.rule.Rule.TheVariants as rule

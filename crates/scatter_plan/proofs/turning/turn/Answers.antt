@@ -1,11 +1,6 @@
-use Rattle.std.proofs.Common.{◌≡◌, ℕ, List, Option, Some, None, subst}
 use Rattle.std.proofs.lemmas.Result.{err_from_is_err_and}
-use Rattle.wdl_value.specs.declared.env.Bind.{Bind}
-use Rattle.wdl_value.specs.Tables.{Row}
-use Rattle.value_net.specs.Nets.{IsTaken, view}
-use Rattle.plan_growth.specs.declared.rule.Rule.{Rule}
+use Rattle.value_net.specs.Nets.{view}
 use Rattle.scatter_plan.specs.Doing.{state}
-use Rattle.scatter_plan.specs.Holding.{IsHolding}
 use Rattle.scatter_plan.proofs.TurnLoop.{begins, ends, next, none_of, past, taken_of}
 use Rattle.scatter_plan.proofs.Turns as turns
 use Rattle.scatter_plan.proofs.turning.turn.Goals as goal

@@ -1,5 +1,4 @@
-use Rattle.std.proofs.Common.{◌≡◌, ◌<◌, ◌^◌, ℕ, ◌+◌, length, arith}
-use Rattle.value_net.specs.Nets.{view}
+use Rattle.std.proofs.Common.{arith}
 use Rattle.scatter_plan.proofs.Counts.{cells_few}
 use Rattle.scatter_plan.proofs.workflow.add_inputs.Goals as goal
 

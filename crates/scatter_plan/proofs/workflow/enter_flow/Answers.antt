@@ -1,4 +1,4 @@
-use Rattle.std.proofs.Common.{◌≡◌, ℕ, ◌+◌, List, [], length, ap, ◌∙◌, arith}
+use Rattle.std.proofs.Common.{◌≡◌, ◌+◌, List, [], length, ap, ◌∙◌, arith}
 use Rattle.wdl_typed.specs.declared.task.TInput.{TInput}
 use Rattle.value_net.specs.Nets.{view}
 use Rattle.scatter_plan.specs.Plots.{plot}

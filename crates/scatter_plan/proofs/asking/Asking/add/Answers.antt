@@ -1,4 +1,4 @@
-use Rattle.std.proofs.Common.{◌≡◌, ℕ, List, [], ◌∷◌, ◌++◌, None, length, ap, ◌∙◌}
+use Rattle.std.proofs.Common.{◌≡◌, ℕ, [], ◌∷◌, ◌++◌, None, length, ap, ◌∙◌}
 use Rattle.wdl_flow.specs.Marks.{place_mark}
 use Rattle.scatter_plan.specs.declared.asking.Asked.{Asked}
 use Rattle.scatter_plan.proofs.Asks.{all_same, asked_more}

@@ -1,4 +1,3 @@
-use Rattle.std.proofs.Common.{◌≡◌, ◌≤◌, refl}
 use Rattle.std.proofs.lemmas.Bool.{false≢true, le-leb, leb-true}
 use Rattle.scatter_plan.proofs.Asks.{answered_from, answered_to, never_answered}
 use Rattle.scatter_plan.proofs.asking.Asking.answered.Goals as goal

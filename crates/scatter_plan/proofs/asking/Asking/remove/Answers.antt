@@ -1,4 +1,4 @@
-use Rattle.std.proofs.Common.{◌≡◌, ◌<◌, ◌≤◌, ℕ, ◌+◌, List, Some, length, slice_get, sym, subst, refl, ◌∙◌, arith}
+use Rattle.std.proofs.Common.{◌<◌, ℕ, length, sym, subst, refl, ◌∙◌, arith}
 use Rattle.scatter_plan.proofs.Asks.{calls_kept, moved_there, removed_else, removed_then}
 use Rattle.scatter_plan.proofs.Lists.{read_at}
 use Rattle.scatter_plan.proofs.asking.Asking.remove.Goals as goal

@@ -1,11 +1,10 @@
-use Rattle.std.proofs.Common.{◌≡◌, ◌<◌, ℕ, List, [], ◌∷◌, ◌++◌, Some, length, map, slice_get, sym, subst, ap, refl, ◌∙◌}
+use Rattle.std.proofs.Common.{◌≡◌, ℕ, List, [], ◌∷◌, ◌++◌, Some, slice_get, sym, subst, refl, ◌∙◌}
 use Rattle.std.specs.List.{slice_set}
-use Rattle.wdl_base.specs.declared.place.Segment.{Segment}
 use Rattle.wdl_task.specs.declared.request.Prepared.{Prepared}
 use Rattle.scatter_plan.specs.declared.asking.Asked.{Asked}
-use Rattle.scatter_plan.specs.Askings.{AreAsking, call_of}
+use Rattle.scatter_plan.specs.Askings.{AreAsking}
 use Rattle.scatter_plan.proofs.Asks.{asked_again, calls_kept, place_there}
-use Rattle.scatter_plan.proofs.Lists.{read_at, within}
+use Rattle.scatter_plan.proofs.Lists.{within}
 use Rattle.scatter_plan.proofs.asking.Asking.wait.Goals as goal
 
 pub returns-clause-sound : goal.returns-clause-sound

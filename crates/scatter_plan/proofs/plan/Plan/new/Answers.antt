@@ -1,5 +1,4 @@
 use Rattle.std.proofs.Common.{refl, subst, sym}
-use Rattle.scatter_plan.specs.declared.fault.Unplanned.{Unplanned}
 use Rattle.scatter_plan.specs.declared.plan.Plan.{Plan}
 use Rattle.scatter_plan.specs.Calls.{GivesBack, IsRenewed}
 use Rattle.scatter_plan.specs.Plans.{IsMade}
