@@ -216,11 +216,19 @@ def said(words, where, shell):
     return ran.returncode, ran.stdout, ran.stderr
 
 
-def trouble(command, answer):
+def is_lost(line, where):
+    """Whether a line of status 5 names a file that is not there: a mutation can change the path of an import."""
+    path = os.path.join(where.encode(), line.removeprefix(b"cannot read ").removesuffix(b"\n"))
+    return line.startswith(b"cannot read ") and not os.path.exists(path)
+
+
+def trouble(command, answer, where):
     """What is wrong with an answer, if anything."""
     if answer is None:
         return "it hangs"
     status, out, err = answer
+    if status == 5 and not out and is_lost(err, where):
+        return None
     if status not in STATUSES[command]:
         return f"status {status}"
     if status == 0 and (err or not out.endswith(b"\n")):
@@ -287,7 +295,7 @@ def case(number):
     where = tempfile.mkdtemp(prefix="wdl-fuzz-")
     command, words, shell = prepared(Maker(number), where)
     answer = said(words, where, shell)
-    wrong = trouble(command, answer)
+    wrong = trouble(command, answer, where)
     if wrong:
         shutil.copytree(where, f"{TOP}/out/fuzz/{number}", dirs_exist_ok=True)
         wrong = f"{number}: {wrong}: {' '.join(words)}: {answer and answer[2][-200:]!r}"
