@@ -55,6 +55,24 @@ workflow w { input { %s }
 %s
 output { %s } }
 """
+# Calls in a document that has a form in CWL: the block, the type of the output there, and the file that the call is given.
+STEPS = [
+    ("%s", "File", "f"),
+    ("scatter (i in fs) { %s }", "Array[File]", "i"),
+    ("if (k) { %s }", "File?", "f"),
+    ("scatter (i in fs) { if (k) { %s } }", "Array[File?]", "i"),
+    ("if (k) { scatter (i in fs) { %s } }", "Array[File]?", "i"),
+    ("scatter (i in fss) { scatter (j in i) { %s } }", "Array[Array[File]]", "j"),
+]
+FILE_INPUTS = 'File f Array[File] fs Array[Array[File]] fss Boolean k Int n = 2 String tag = "a b"'
+FILE_TASK = """task t { input { File f Int n = 1 String s = "x" }
+command <<<
+  head -n ~{n} ~{f} > out.txt; echo "~{s}"
+>>>
+output { File o = %s } %s }
+"""
+FILE_RUNTIMES = ["", 'runtime { memory: "1 GB" }', 'runtime { returnCodes: "*" }', "runtime { returnCodes: [3, 0, 3] }"]
+FILE_JSON = {"w.f": "/a", "w.fs": ["/a", "b c"], "w.fss": [[], ["/a"]], "w.k": True}
 PIECES = [
     b"\0", b"\xff", b"\r\n", b"~{", b"}", b">>>", b"<<<", b'"', b"'", b"\\", b"//", b"#",
     b"(" * 70, b"[" * 70, b"Array[" * 12, b"if true then 1 else " * 70, b"9" * 40,
@@ -128,6 +146,24 @@ class Maker:
         inputs, outputs = "Int k = 3", f"Int last = c{count - 1}.r"
         return (WORKFLOW % (PLAIN_TASK, inputs, body, outputs)).encode()
 
+    def step(self, number):
+        """A call in its block, and the output of the workflow that is the call's."""
+        block, kind, file = self.one(STEPS) if number else STEPS[0]
+        if number and file == "f":
+            file = self.one(["f", "c0.o"])
+        given = self.one(["", ", n = n", ", n, s = tag"])
+        call = f"call t as c{number} {{ input: f = {file}{given} }}"
+        return block % call, f"{kind} r{number} = c{number}.o"
+
+    def files(self, front=""):
+        """A document that has a form in CWL. Behind an import it calls the imported workflow too."""
+        steps = [self.step(number) for number in range(self.rng.randrange(1, 6))]
+        if front:
+            steps.append(("call x.w as sub { input: f, fs, fss, k }", "File last = sub.r0"))
+        body, outputs = ("\n".join(it) for it in zip(*steps))
+        output, runtime = self.one(['"out.txt"', "stdout()"]), self.one(FILE_RUNTIMES)
+        return (WORKFLOW % (front + FILE_TASK % (output, runtime), FILE_INPUTS, body, outputs)).encode()
+
     def mutated(self, data):
         data = bytearray(data)
         for _ in range(self.rng.choice([1, 1, 2, 4, 16])):
@@ -180,11 +216,19 @@ def said(words, where, shell):
     return ran.returncode, ran.stdout, ran.stderr
 
 
-def trouble(command, answer):
+def is_lost(line, where):
+    """Whether a line of status 5 names a file that is not there: a mutation can change the path of an import."""
+    path = os.path.join(where.encode(), line.removeprefix(b"cannot read ").removesuffix(b"\n"))
+    return line.startswith(b"cannot read ") and not os.path.exists(path)
+
+
+def trouble(command, answer, where):
     """What is wrong with an answer, if anything."""
     if answer is None:
         return "it hangs"
     status, out, err = answer
+    if status == 5 and not out and is_lost(err, where):
+        return None
     if status not in STATUSES[command]:
         return f"status {status}"
     if status == 0 and (err or not out.endswith(b"\n")):
@@ -214,20 +258,33 @@ def journaled(maker, where):
     return "run", ["run", "--root", f"{where}/run", "--journal", "j", "w.wdl"], "sh"
 
 
+def lay(maker, where, of_files):
+    """Writes the documents and the inputs of a case, and says whether the main document is mutated. With OF_FILES both have a form in CWL."""
+    if of_files:
+        text, other = maker.files(maker.one(["", 'import "x.wdl"\n'])), maker.files()
+        inputs = json.dumps(FILE_JSON).encode()
+    else:
+        text = maker.plain() if maker.rng.random() < 0.5 else maker.document()
+        other = maker.document() if maker.rng.random() < 0.5 else b'version 1.1\nimport "w.wdl"\n'
+        inputs = maker.json()
+    is_mutated = maker.rng.random() < 0.5
+    write(where, "w.wdl", maker.mutated(text) if is_mutated else text)
+    write(where, "i.json", maker.mutated(inputs) if of_files and maker.rng.random() < 0.3 else inputs)
+    write(where, "x.wdl", maker.mutated(other) if of_files and maker.rng.random() < 0.1 else other)
+    return is_mutated
+
+
 def prepared(maker, where):
     """The files of a case: the command, the words and the program that runs jobs. A mutated command is never run."""
     kind = maker.rng.random()
     if kind < 0.02:
         return journaled(maker, where)
-    text = maker.plain() if maker.rng.random() < 0.5 else maker.document()
-    is_mutated = maker.rng.random() < 0.5
-    write(where, "w.wdl", maker.mutated(text) if is_mutated else text)
-    write(where, "i.json", maker.json())
-    write(where, "x.wdl", maker.document() if maker.rng.random() < 0.5 else b'version 1.1\nimport "w.wdl"\n')
+    is_cwl = 0.6 <= kind < 0.75
+    is_mutated = lay(maker, where, maker.rng.random() < (0.7 if is_cwl else 0.1))
     if kind < 0.6:
         return "check", ["check", "w.wdl"], "true"
     given = maker.one([[], ["--inputs", "i.json"]])
-    if kind < 0.75:
+    if is_cwl:
         return "cwl", ["cwl", *given, "w.wdl"], "true"
     words = ["run", *given, "--workers", maker.one(["1", "4", "64"]), "--root", f"{where}/run", "w.wdl"]
     return "run", words, "true" if is_mutated else "sh"
@@ -238,7 +295,7 @@ def case(number):
     where = tempfile.mkdtemp(prefix="wdl-fuzz-")
     command, words, shell = prepared(Maker(number), where)
     answer = said(words, where, shell)
-    wrong = trouble(command, answer)
+    wrong = trouble(command, answer, where)
     if wrong:
         shutil.copytree(where, f"{TOP}/out/fuzz/{number}", dirs_exist_ok=True)
         wrong = f"{number}: {wrong}: {' '.join(words)}: {answer and answer[2][-200:]!r}"

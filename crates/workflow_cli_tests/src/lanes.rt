@@ -1,12 +1,9 @@
 use std::alloc::Global;
-use std::sync::Wait;
 use std::test::Fail;
-use std::thread::Threads;
-use std::time::Clock;
 use workflow_cases::{Case, read_case, shown};
 
 /// A document of scatters in one another.
-const LANES: &str = r##"version 1.1
+pub const LANES: &str = r##"version 1.1
 # counts lines by lane
 struct Sample {
   String id
@@ -70,27 +67,37 @@ fn inputs(alloc: Global) -> Result<String, Fail> {
     Ok(text)
 }
 
-/// The answers of the 40 jobs.
-fn answers(alloc: Global) -> Result<String, Fail> {
-    let mut lines = String::new(alloc);
+/// The places of the 40 jobs, each with a newline.
+pub fn places(alloc: Global) -> Result<String, Fail> {
+    let mut places = String::new(alloc);
     for sample in 0..4 {
         for lane in 0..9 {
-            let line = format!(in alloc;
-                "answer scatter-0/{sample}/scatter-0/{lane}/count 0 0 2\n"
-            )?;
-            lines.push_str(line.as_str())?;
+            let place = format!(in alloc; "scatter-0/{sample}/scatter-0/{lane}/count\n")?;
+            places.push_str(place.as_str())?;
         }
-        let line = format!(in alloc; "answer scatter-0/{sample}/total 0 0 18\n")?;
+        let place = format!(in alloc; "scatter-0/{sample}/total\n")?;
+        places.push_str(place.as_str())?;
+    }
+    Ok(places)
+}
+
+/// The answers of the 40 jobs: each lane has 2 lines, and each sample 18.
+fn answers(alloc: Global) -> Result<String, Fail> {
+    let mut lines = String::new(alloc);
+    let places = places(alloc)?;
+    for place in places.as_str().lines() {
+        let said = if place.ends_with("total") { 18 } else { 2 };
+        let line = format!(in alloc; "answer {place} 0 0 {said}\n")?;
         lines.push_str(line.as_str())?;
     }
     Ok(lines)
 }
 
-/// The run of a document with these inputs and answers, and with more lines of a case.
-fn case_of(alloc: Global, document: &[u8], more: &str) -> Result<Case, Fail> {
+/// The run of a document over four samples, which keeps a journal, with more lines of a case.
+pub fn case_of(alloc: Global, document: &[u8], more: &str) -> Result<Case, Fail> {
     let answers = answers(alloc)?;
     let inputs = inputs(alloc)?;
-    let words = "$ run --inputs i.json --workers 1 lanes.wdl";
+    let words = "$ run --inputs i.json --workers 1 --journal j lanes.wdl";
     let lines = format!(in alloc; "{}{words}\n{more}", answers.as_str())?;
     let mut case = read_case(alloc, lines.as_str())?;
     case.add_file(alloc, "lanes.wdl", document)?;
@@ -98,85 +105,19 @@ fn case_of(alloc: Global, document: &[u8], more: &str) -> Result<Case, Fail> {
     Ok(case)
 }
 
-/// What is seen of the run of a document, with these lines more.
-fn seen<R: Threads + Wait + Clock + Sync + AllocGlobal>(
-    rt: &R,
-    document: &[u8],
-    more: &str,
-) -> Result<String, Fail> {
-    let alloc = rt.alloc();
-    shown(rt, alloc, case_of(alloc, document, more)?)
-}
-
-/// Whether what is seen of the run, with these lines more, begins with these numbers, the status and how many jobs it collected, and
-/// goes on in the next line with this.
-fn ends<R: Threads + Wait + Clock + Sync + AllocGlobal>(
-    rt: &R,
-    more: &str,
-    numbers: &str,
-    written: &str,
-) -> Result<bool, Fail> {
-    let seen = seen(rt, LANES.as_bytes(), more)?;
-    let (head, rest) = seen.as_str().split_once('\n').unwrap_or(("", ""));
-    Ok(head.starts_with(numbers) && rest.starts_with(written))
-}
-
-/// Whether the call of this place, where it is refused, ends the run.
-fn ends_at<R: Threads + Wait + Clock + Sync + AllocGlobal>(
-    rt: &R,
-    place: &str,
-) -> Result<bool, Fail> {
-    let alloc = rt.alloc();
-    let more = format!(in alloc; "refuse {place}")?;
-    let line = format!(in alloc; "! cannot launch {place}\n")?;
-    ends(rt, more.as_str(), "9 ", line.as_str())
-}
+/// What is seen of a run but for its first line begins so.
+const WRITTEN: &str =
+    "{\"lanes.by_id\":{\"a\":18,\"b\":18,\"c\":18,\"d\":18},\"lanes.totals\":[18,18,18,18]}\n\
+                       /tmp/wdl-run/scatter-0/0/scatter-0/0/count wc -l < /data/a1.txt | head -n 100 # a\n";
 
 #[test]
 fn forty_jobs_give_the_totals(rt: HostRuntime) -> Result<(), Fail> {
-    let written =
-        "{\"lanes.by_id\":{\"a\":18,\"b\":18,\"c\":18,\"d\":18},\"lanes.totals\":[18,18,18,18]}\n\
-                   /tmp/wdl-run/scatter-0/0/scatter-0/0/count wc -l < /data/a1.txt | head -n 100 # a\n";
-    assert!(rt; ends(&rt, "", "0 40 ", written)?);
-    Ok(())
-}
-
-#[test]
-fn an_output_that_is_cut_has_status_6(rt: HostRuntime) -> Result<(), Fail> {
-    assert!(rt; ends(&rt, "room 10 100", "6 ", "{\"lanes.by! cannot write\n")?);
-    assert!(rt; ends(&rt, "room 0 100", "6 ", "! cannot write\n")?);
-    Ok(())
-}
-
-#[test]
-fn a_read_that_fails_has_status_5(rt: HostRuntime) -> Result<(), Fail> {
-    assert!(rt; ends(&rt, "lost 1", "5 0", "! cannot read lanes.wdl\n")?);
-    assert!(rt; ends(&rt, "lost 2", "5 0", "! cannot read i.json\n")?);
-    Ok(())
-}
-
-#[test]
-fn a_job_that_is_refused_has_status_9(rt: HostRuntime) -> Result<(), Fail> {
     let alloc = rt.alloc();
-    for sample in 0..4 {
-        for lane in 0..9 {
-            let place = format!(in alloc; "scatter-0/{sample}/scatter-0/{lane}/count")?;
-            assert!(rt; ends_at(&rt, place.as_str())?, "{sample} {lane}");
-        }
-        let place = format!(in alloc; "scatter-0/{sample}/total")?;
-        assert!(rt; ends_at(&rt, place.as_str())?, "{sample}");
+    for document in [LANES, LANES.strip_suffix('\n').unwrap_or("")] {
+        let seen = shown(&rt, alloc, case_of(alloc, document.as_bytes(), "")?)?;
+        let (numbers, rest) = seen.as_str().split_once('\n').unwrap_or(("", ""));
+        assert!(rt; numbers.starts_with("0 40 "));
+        assert!(rt; rest.starts_with(WRITTEN));
     }
-    Ok(())
-}
-
-#[test]
-fn a_front_of_the_document_is_refused(rt: HostRuntime) -> Result<(), Fail> {
-    let whole = LANES.strip_suffix('\n').unwrap_or("").as_bytes();
-    for length in 0..whole.len() {
-        let seen = seen(&rt, &whole[..length], "")?;
-        assert!(rt; seen.as_str().starts_with("3 0\n! lanes.wdl:"), "{length}");
-    }
-    let seen = seen(&rt, whole, "")?;
-    assert!(rt; seen.as_str().starts_with("0 40 "));
     Ok(())
 }

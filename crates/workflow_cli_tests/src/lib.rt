@@ -17,9 +17,13 @@ mod inputs;
 #[cfg(test)]
 mod lanes;
 #[cfg(test)]
+mod left;
+#[cfg(test)]
 mod notes;
 #[cfg(test)]
 mod progress;
+#[cfg(test)]
+mod refusals;
 #[cfg(test)]
 mod resume;
 #[cfg(test)]

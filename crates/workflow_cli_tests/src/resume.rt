@@ -1,4 +1,4 @@
-use report_text::number_of;
+use crate::left::{ends, wrote};
 use std::alloc::Global;
 use std::sync::Wait;
 use std::test::Fail;
@@ -42,24 +42,6 @@ fn run<R: Threads + Wait + Clock + Sync + AllocGlobal>(
         case.keeper = keeper;
     }
     run_case(rt, alloc, case)
-}
-
-/// The status of a run, how many jobs it launched, and how many entries it left in its journal and rows in its keeper.
-fn ends(outcome: &Outcome) -> (u8, u64, usize, usize) {
-    let ended = &outcome.ended;
-    let launched = ended.counts.put;
-    let rows = outcome.keeper.rows.len();
-    (
-        number_of(&ended.status),
-        launched,
-        ended.journal.len(),
-        rows,
-    )
-}
-
-/// Whether a run wrote this to its output and to its error stream.
-fn wrote(outcome: &Outcome, out: &str, err: &str) -> bool {
-    outcome.out.bytes.as_slice() == out.as_bytes() && outcome.err.bytes.as_slice() == err.as_bytes()
 }
 
 #[test]
