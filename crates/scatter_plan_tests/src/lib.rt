@@ -1,0 +1,9 @@
+//! Tests of `scatter_plan`: after each answer, in any order, it has what the flow from scratch has.
+#![tactic(auto)]
+
+#[cfg(test)]
+mod comparing;
+#[cfg(test)]
+mod documents;
+#[cfg(test)]
+mod running;
