@@ -101,7 +101,7 @@ task say {
 workflow w {
   input { String last = "z" }
   call say as first { input: s = "a" }
-  call say as second { input: s = "b" }
+  call say as second after first { input: s = "b" }
   call say as third { input: s = first.r + second.r }
   call say as fourth { input: s = third.r + last }
   output { String r = fourth.r }

@@ -86,7 +86,7 @@ done
 check "the last square" 2313441 "$(sed 's/.*"forty.power":\([0-9]*\).*/\1/' first)"
 
 echo "after a failure"
-# The job that fails ends first. With two workers the other one is waited for, and no third job begins.
+# The job that fails ends first. With two workers the other one is waited for, and the job behind that one does not begin.
 cat >failing.wdl <<END
 version 1.1
 task step {
@@ -102,7 +102,7 @@ task step {
 workflow failing {
   call step as bad { input: name = "bad", status = 3, wait = "0.1" }
   call step as slow { input: name = "slow", status = 0, wait = "0.6" }
-  call step as third { input: name = "third", status = 0, wait = "0" }
+  call step as third after slow { input: name = "third", status = 0, wait = "0" }
   output { String all = bad.out + slow.out + third.out }
 }
 END
