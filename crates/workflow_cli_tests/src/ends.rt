@@ -7,13 +7,13 @@ text workflow w { call say as top { input: s = "t" } call say as left { input: s
 text call say as bottom { input: s = left.r + right.r } }
 file w.wdl
 answer top 0 0 t
-answer left 0 3
-answer right 0 0 r
+answer left 0 0 l
+answer right 0 3
 $ run --workers 1 w.wdl
-> 1 2 +top -top +left -left
-> ! failed left: status 3
+> 1 2 +top -top +right -right
+> ! failed right: status 3
 > /tmp/wdl-run/top echo t
-> /tmp/wdl-run/left echo t
+> /tmp/wdl-run/right echo t
 
 say
 text workflow w { call say { input: s = "a" } call say as b { input: s = say.r } output { String x = b.r String y = say.r } }
