@@ -34,7 +34,7 @@ name_text (Some name) = codes " " ++ name
 abbrev pub line_of : Status → List (List ℕ) → List ℕ
 line_of status.Ok paths = []
 line_of (status.Failed fault) paths = codes "failed " ++ place_text fault.place ++ why_text fault.name fault.why ++ codes "\n"
-line_of status.Usage paths = codes "usage: wdl run [--inputs FILE] [--workers N] [--root DIR] [--journal FILE] FILE | check FILE | inputs FILE | cwl [--inputs FILE] FILE\n"
+line_of status.Usage paths = codes "usage: wdl run [--inputs FILE] [--workers N] [--root DIR] [--journal FILE] FILE | check FILE | inputs FILE | cwl [--inputs FILE] FILE | load N\n"
 line_of (status.Document code span) paths = span_text paths span ++ codes ": " ++ code_text code ++ codes "\n"
 line_of (status.Inputs code name) paths = codes "inputs: " ++ code_text code ++ name_text name ++ codes "\n"
 line_of (status.Read path) paths = codes "cannot read " ++ path ++ codes "\n"

@@ -1,4 +1,5 @@
-//! How a command of the program ended: its status, the number that the program ends with, and the line that it writes.
+//! How a command of the program ended: its status, the number that the
+//! program ends with, and the line that it writes.
 #![tactic(auto)]
 
 mod code;
@@ -7,6 +8,3 @@ mod status;
 
 pub use line::{code_text, line_of, no_memory_line, write_line};
 pub use status::{Status, number_of};
-
-#[cfg(test)]
-mod tests;

@@ -49,6 +49,7 @@ fn span_text(alloc: Global, span: Span, paths: &Items<Text>) -> Result<Text, NoM
     Ok(Text::from_string(format!(in alloc; "{path}:{start}..{end}")?))
 }
 
+/// The line of `Status::Failed`: where the fault is, and why.
 #[tactic(auto, using(crate::proofs::Plain::plain))]
 fn failed_line(alloc: Global, fault: &Fault) -> Result<Text, NoMemory>
     ensures { IfOk result (λ t. t ≡ spec.line_of (status.Failed fault.now) []) }
@@ -67,6 +68,7 @@ fn failed_line(alloc: Global, fault: &Fault) -> Result<Text, NoMemory>
     }
 }
 
+/// The line of `Status::Document`: the part of the document, and the code.
 #[tactic(auto, using(crate::proofs::Plain::plain))]
 fn document_line(
     alloc: Global,
@@ -84,6 +86,7 @@ fn document_line(
     Ok(Text::from_string(format!(in alloc; "{span}: {code}\n")?))
 }
 
+/// The line of `Status::Inputs`: the code, and the input where one is named.
 #[tactic(auto, using(crate::proofs::Plain::plain))]
 fn inputs_line(alloc: Global, code: u16, name: &Option<Text>) -> Result<Text, NoMemory>
     ensures { IfOk result (λ t. t ≡ spec.line_of (status.Inputs code name.now) []) }
@@ -99,6 +102,7 @@ fn inputs_line(alloc: Global, code: u16, name: &Option<Text>) -> Result<Text, No
     }
 }
 
+/// The line of `Status::Read`: the path of the file.
 #[tactic(auto, using(crate::proofs::Plain::plain))]
 fn read_line(alloc: Global, path: &Text) -> Result<Text, NoMemory>
     ensures { IfOk result (λ t. t ≡ spec.line_of (status.Read path.now) []) }
@@ -107,6 +111,7 @@ fn read_line(alloc: Global, path: &Text) -> Result<Text, NoMemory>
     Ok(Text::from_string(format!(in alloc; "cannot read {path}\n")?))
 }
 
+/// The line of `Status::NotInSubset`: the rule, and the part of the document.
 #[tactic(auto, using(crate::proofs::Plain::plain))]
 fn subset_line(alloc: Global, rule: u16, span: Span, paths: &Items<Text>) -> Result<Text, NoMemory>
     requires { span.doc < length paths.now }
@@ -117,6 +122,7 @@ fn subset_line(alloc: Global, rule: u16, span: Span, paths: &Items<Text>) -> Res
     Ok(Text::from_string(format!(in alloc; "not in the subset: {rule} at {span}\n")?))
 }
 
+/// The line of `Status::Launch`: the place of the call.
 #[tactic(auto, using(crate::proofs::Plain::plain))]
 fn launch_line(alloc: Global, place: &Place) -> Result<Text, NoMemory>
     ensures { IfOk result (λ t. t ≡ spec.line_of (status.Launch place.now) []) }
@@ -140,8 +146,9 @@ pub fn no_memory_line() -> &'static str
     "no memory\n"
 }
 
-/// The line that a status writes on the error stream, with its newline: none for `Ok`. The paths are those of the
-/// documents, by their numbers; each span's document has one.
+/// The line that a status writes on the error stream, with its newline: none
+/// for `Ok`. The paths are those of the documents, by their numbers; each span's
+/// document has one.
 pub fn line_of(alloc: Global, status: &Status, paths: &Items<Text>) -> Result<Text, NoMemory>
     requires { HasPath status.now paths.now }
     ensures value { IfOk result (λ t. t ≡ spec.line_of status.now paths.now) }
@@ -152,7 +159,7 @@ pub fn line_of(alloc: Global, status: &Status, paths: &Items<Text>) -> Result<Te
         Status::Usage => Text::from_plain(
             alloc,
             "usage: wdl run [--inputs FILE] [--workers N] [--root DIR] [--journal FILE] FILE \
-             | check FILE | inputs FILE | cwl [--inputs FILE] FILE\n",
+             | check FILE | inputs FILE | cwl [--inputs FILE] FILE | load N\n",
         ),
         Status::Document(code, span) => document_line(alloc, *code, *span, paths),
         Status::Inputs(code, name) => inputs_line(alloc, *code, name),

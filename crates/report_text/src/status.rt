@@ -12,7 +12,8 @@ pub enum Status {
     Failed(Fault),
     /// The words of the command line have no reading.
     Usage,
-    /// The bytes are no document, no library or no checked workflow: the code of the rule that is broken, and where.
+    /// The bytes are no document, no library or no checked workflow: the code of
+    /// the rule that is broken, and where.
     Document(u16, Span),
     /// The inputs break the rule of that code, at the input of that name.
     Inputs(u16, Option<Text>),
@@ -22,7 +23,8 @@ pub enum Status {
     Write,
     /// An allocation failed.
     NoMemory,
-    /// The workflow is not in the subset that has a CWL document: the number of the rule that is broken, and where.
+    /// The workflow is not in the subset that has a CWL document: the number of
+    /// the rule that is broken, and where.
     NotInSubset(u16, Span),
     /// The command of the call at that place could not be started.
     Launch(Place),

@@ -2,7 +2,7 @@
 ghost use Rattle.std.specs.Prelude.{[]};
 ghost use Rattle.report_text.specs.Lines.{HasPath};
 
-use crate::{Status, line_of, no_memory_line, number_of, write_line};
+use report_text::{Status, line_of, no_memory_line, number_of, write_line};
 use std::alloc::Global;
 use std::test::Fail;
 use wdl_value::{EvalCode, Fault, Items, Name, Segment, Span, Text, Why};
@@ -188,7 +188,7 @@ fn each_code_has_its_word(rt: HostRuntime) -> Result<(), Fail> {
 const STATUS_LINES: &str = "\
 1 failed scatter-0/2/if-1/say: status 255\n\
 2 usage: wdl run [--inputs FILE] [--workers N] [--root DIR] [--journal FILE] FILE \
-| check FILE | inputs FILE | cwl [--inputs FILE] FILE\n\
+| check FILE | inputs FILE | cwl [--inputs FILE] FILE | load N\n\
 4 inputs: 401 NotJson\n\
 5 cannot read b.wdl\n\
 6 cannot write\n\
