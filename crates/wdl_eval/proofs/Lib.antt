@@ -1,3 +1,5 @@
+pub mod Choices
+pub mod Found
 pub mod Limited
 pub mod Steps
 pub mod Names
@@ -9,6 +11,7 @@ pub mod Indices
 pub mod Lists
 pub mod Maps
 pub mod Members
+pub mod MemberLimits
 pub mod Texts
 pub mod PartMaps
 pub mod Pieces

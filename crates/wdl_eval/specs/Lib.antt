@@ -1,3 +1,4 @@
+pub mod Binds
 pub mod Found
 pub mod Laws
 pub mod Marks

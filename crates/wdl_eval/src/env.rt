@@ -20,7 +20,8 @@ fn same_key(a: &Key, b: &Key) -> bool
     a.first.same(&b.first) && same_second(&a.second, &b.second)
 }
 
-/// The value of the first name of that key. It takes no memory, and its time is linear in the number of names.
+/// The value of the first name of that key. It takes no memory, and its time is linear in the
+/// number of names.
 pub fn lookup<'a>(env: &'a [Bind], key: &Key) -> Option<&'a Value>
     ensures value { option_copied result ≡ spec.lookup env.now key.now }
 {

@@ -1,6 +1,6 @@
 //! The value of an expression, by recursion on it.
 
-ghost use Rattle.std.specs.Prelude.{◌≡◌, ◌+◌};
+ghost use Rattle.std.specs.Prelude.{◌≡◌, ◌+◌, [], None};
 ghost use Rattle.std.specs.Option.{option_copied};
 ghost use Rattle.wdl_stdlib.specs.Gives.{Gives};
 ghost use Rattle.wdl_typed.specs.Evaluation as spec;
@@ -10,6 +10,7 @@ ghost use Rattle.wdl_eval.specs.Nodes as nodes;
 ghost use Rattle.wdl_eval.specs.Nodes.{setting_of};
 ghost use Rattle.wdl_eval.specs.Ready.{IsReady};
 
+use crate::bindings::{Bindings, LentBind};
 use crate::fault::NodeFault;
 use crate::forms::{
     applied, cast_to, item_of, map_of, member_of, neg_of, not_of, only_bool, operated, pair_of,
@@ -20,14 +21,37 @@ use crate::outcome::{copied, limited};
 use crate::placeholder::{with_chars, with_hole};
 use crate::setting::Setting;
 use std::alloc::Global;
+use std::slice::from_ref;
 use std::sync::ledger::Ledger;
+use wdl_names::Index;
 use wdl_stdlib::EvalFault;
 use wdl_typed::{TExpr, TField, TPair, TPart};
-use wdl_value::{Answer, Env, Field, Items, MapRow, Op, Steps, Text, Value};
+use wdl_value::{Answer, Env, Field, Func, Items, MapRow, Op, Steps, Text, Value};
 
-/// The value of an expression, or the first code from 501 to 516 that its parts meet from left to right; `&&`, `||` and
-/// `if` evaluate only what they need, and a value past a limit is 510 at each node. `dir` is the directory of the job and
-/// `answer` what its command left. One step is counted, however deep the expression.
+/// The value of an expression over a setting, or its code. One step is counted.
+fn value_at<'s, 'a, L: Ledger>(
+    alloc: Global,
+    e: &'s TExpr,
+    setting: &'s Setting<'s, 'a>,
+    steps: &mut Steps<L>,
+) -> Result<Value, EvalFault>
+    requires ready { IsReady e.now (setting_of setting.now).env }
+    ensures value { Gives (spec.value_of (setting_of setting.now) e.now) result }
+    ensures steps { steps.new ≡ steps.old + 1 }
+{
+    steps.tick();
+    match evaluate(alloc, e, setting) {
+        Ok(value) => Ok(value),
+        Err(NodeFault::Code(code)) => Err(EvalFault::Code(code)),
+        Err(NodeFault::NoMemory) => Err(EvalFault::NoMemory),
+        Err(NodeFault::Wrong) => unreachable!(),
+    }
+}
+
+/// The value of an expression, or the first code from 501 to 516 that its parts meet from left to
+/// right; `&&`, `||` and `if` evaluate only what they need, and a value past a limit is 510 at each
+/// node. `dir` is the directory of the job and `answer` what its command left. One step is counted,
+/// however deep the expression.
 pub fn eval<L: Ledger>(
     alloc: Global,
     e: &TExpr,
@@ -40,28 +64,51 @@ pub fn eval<L: Ledger>(
     ensures value { Gives (spec.value_of (record { env = env.now; dir = dir.now; answer = option_copied answer.entry }) e.now) result }
     ensures steps { steps.new ≡ steps.old + 1 }
 {
-    steps.tick();
     let setting = Setting {
-        env: env.as_slice(),
+        env: Bindings::Kept(env.as_slice()),
         dir,
         answer,
     };
-    match evaluate(alloc, e, &setting) {
-        Ok(value) => Ok(value),
-        Err(NodeFault::Code(code)) => Err(EvalFault::Code(code)),
-        Err(NodeFault::NoMemory) => Err(EvalFault::NoMemory),
-        Err(NodeFault::Wrong) => unreachable!(),
+    value_at(alloc, e, &setting, steps)
+}
+
+/// Names that are lent, where no command left anything.
+fn lent_setting<'s, 'a>(env: &'s Index<LentBind<'a>>, dir: &'s Text) -> Setting<'s, 'a>
+    ensures { setting_of result ≡ record { env = env.now; dir = dir.now; answer = None } }
+{
+    Setting {
+        env: Bindings::Lent(env),
+        dir,
+        answer: None,
     }
 }
 
-/// The value of any expression, well typed or not, or its code; no step is counted. It is `Wrong` where a part is of a kind
-/// that no well-typed expression has there.
+/// The same over names that are lent, outside of jobs. A name is found in logarithmic time, and its
+/// value is not measured again. It is copied where it becomes the result or a part of it, and where
+/// it is one of several arguments of a function.
+pub fn eval_lent<'a, L: Ledger>(
+    alloc: Global,
+    e: &TExpr,
+    env: &Index<LentBind<'a>>,
+    steps: &mut Steps<L>,
+) -> Result<Value, EvalFault>
+    requires ready { IsReady e.now env.now }
+    ensures value { Gives (spec.value_of (record { env = env.now; dir = []; answer = None }) e.now) result }
+    ensures steps { steps.new ≡ steps.old + 1 }
+{
+    let dir = Text::empty(alloc);
+    let setting = lent_setting(env, &dir);
+    value_at(alloc, e, &setting, steps)
+}
+
+/// The value of any expression, well typed or not, or its code; no step is counted. It is `Wrong`
+/// where a part is of a kind that no well-typed expression has there.
 #[cycle(evaluate)]
 #[tactic(auto, using(crate::proofs::Limited::limited_once))]
-pub fn evaluate<'a>(
+pub fn evaluate<'s, 'a>(
     alloc: Global,
-    e: &'a TExpr,
-    setting: &'a Setting<'a>,
+    e: &'s TExpr,
+    setting: &'s Setting<'s, 'a>,
 ) -> Result<Value, NodeFault>
     ensures { Meets (spec.value_met (setting_of setting.now) e.now) result }
 {
@@ -96,12 +143,7 @@ pub fn evaluate<'a>(
         TExpr::StructOf(name, members) => {
             struct_of(alloc, name, fields(alloc, members.as_slice(), setting)?)
         }
-        TExpr::Apply(f, args) => applied(
-            alloc,
-            *f,
-            &values(alloc, args.as_slice(), setting)?,
-            setting,
-        ),
+        TExpr::Apply(f, args) => called(alloc, *f, args.as_slice(), setting),
         TExpr::Strung(parts) => limited(Value::Str(text(alloc, parts.as_slice(), setting)?)),
         TExpr::Cast(a, t) => cast_to(alloc, found(alloc, a.get(), setting)?.get(), t),
     }
@@ -109,7 +151,11 @@ pub fn evaluate<'a>(
 
 /// The value of an expression, lent where it can be.
 #[cycle(evaluate)]
-fn found<'a>(alloc: Global, e: &'a TExpr, setting: &'a Setting<'a>) -> Result<Found<'a>, NodeFault>
+fn found<'s, 'a>(
+    alloc: Global,
+    e: &'s TExpr,
+    setting: &'s Setting<'s, 'a>,
+) -> Result<Found<'s>, NodeFault>
     ensures { Finds (spec.value_met (setting_of setting.now) e.now) result }
 {
     if let Some(value) = lent(e, setting)? {
@@ -120,11 +166,11 @@ fn found<'a>(alloc: Global, e: &'a TExpr, setting: &'a Setting<'a>) -> Result<Fo
 
 /// `left[right]`, once the left side has a value.
 #[cycle(evaluate)]
-fn at<'a>(
+fn at<'s, 'a>(
     alloc: Global,
-    right: &'a TExpr,
+    right: &'s TExpr,
     left: &Value,
-    setting: &'a Setting<'a>,
+    setting: &'s Setting<'s, 'a>,
 ) -> Result<Value, NodeFault>
     ensures { Meets (nodes.within (nodes.at_met left.now (spec.value_met (setting_of setting.now) right.now))) result }
 {
@@ -133,12 +179,12 @@ fn at<'a>(
 
 /// An operator, once its left side has a value.
 #[cycle(evaluate)]
-fn after_left<'a>(
+fn after_left<'s, 'a>(
     alloc: Global,
-    right: &'a TExpr,
+    right: &'s TExpr,
     op: Op,
     left: &Value,
-    setting: &'a Setting<'a>,
+    setting: &'s Setting<'s, 'a>,
 ) -> Result<Value, NodeFault>
     ensures { Meets (nodes.within (spec.after_left op left.now (spec.value_met (setting_of setting.now) right.now))) result }
 {
@@ -159,22 +205,43 @@ fn after_left<'a>(
 
 /// `(left, right)`, once the left side has a value.
 #[cycle(evaluate)]
-fn paired<'a>(
+fn paired<'s, 'a>(
     alloc: Global,
-    right: &'a TExpr,
+    right: &'s TExpr,
     left: Value,
-    setting: &'a Setting<'a>,
+    setting: &'s Setting<'s, 'a>,
 ) -> Result<Value, NodeFault>
     ensures { Meets (nodes.within (nodes.pair_met left (spec.value_met (setting_of setting.now) right.now))) result }
 {
     pair_of(alloc, left, evaluate(alloc, right, setting)?)
 }
 
+/// The value of a function. A single argument is lent where it can be.
 #[cycle(evaluate)]
-fn values<'a>(
+fn called<'s, 'a>(
     alloc: Global,
-    es: &'a [TExpr],
-    setting: &'a Setting<'a>,
+    f: Func,
+    args: &'s [TExpr],
+    setting: &'s Setting<'s, 'a>,
+) -> Result<Value, NodeFault>
+    ensures { Meets (nodes.within (nodes.called (setting_of setting.now) f (nodes.values_met (setting_of setting.now) args.now))) result }
+{
+    if let [arg] = args {
+        return applied(
+            alloc,
+            f,
+            from_ref(found(alloc, arg, setting)?.get()),
+            setting,
+        );
+    }
+    applied(alloc, f, values(alloc, args, setting)?.as_slice(), setting)
+}
+
+#[cycle(evaluate)]
+fn values<'s, 'a>(
+    alloc: Global,
+    es: &'s [TExpr],
+    setting: &'s Setting<'s, 'a>,
 ) -> Result<Items<Value>, NodeFault>
     ensures { Meets (nodes.values_met (setting_of setting.now) es.now) result }
 {
@@ -186,10 +253,10 @@ fn values<'a>(
 }
 
 #[cycle(evaluate)]
-fn rows<'a>(
+fn rows<'s, 'a>(
     alloc: Global,
-    pairs: &'a [TPair<TExpr>],
-    setting: &'a Setting<'a>,
+    pairs: &'s [TPair<TExpr>],
+    setting: &'s Setting<'s, 'a>,
 ) -> Result<Items<MapRow<Value>>, NodeFault>
     ensures { Meets (nodes.rows_met (setting_of setting.now) pairs.now) result }
 {
@@ -203,10 +270,10 @@ fn rows<'a>(
 }
 
 #[cycle(evaluate)]
-fn fields<'a>(
+fn fields<'s, 'a>(
     alloc: Global,
-    members: &'a [TField<TExpr>],
-    setting: &'a Setting<'a>,
+    members: &'s [TField<TExpr>],
+    setting: &'s Setting<'s, 'a>,
 ) -> Result<Items<Field<Value>>, NodeFault>
     ensures { Meets (nodes.fields_met (setting_of setting.now) members.now) result }
 {
@@ -220,10 +287,10 @@ fn fields<'a>(
 }
 
 #[cycle(evaluate)]
-fn text<'a>(
+fn text<'s, 'a>(
     alloc: Global,
-    parts: &'a [TPart<TExpr>],
-    setting: &'a Setting<'a>,
+    parts: &'s [TPart<TExpr>],
+    setting: &'s Setting<'s, 'a>,
 ) -> Result<Text, NodeFault>
     ensures { Meets (nodes.text_met (setting_of setting.now) parts.now) result }
 {

@@ -4,7 +4,8 @@ ghost use Rattle.wdl_eval.specs.declared.fault.NodeFault.TheVariants.{NoMemory a
 use std::alloc::{AllocError, AllocFailed};
 use wdl_value::{EvalCode, NoMemory};
 
-/// Why a node has no value: a code, a part of a wrong kind, which no well-typed expression has, or want of memory.
+/// Why a node has no value: a code, a part of a wrong kind, which no well-typed expression has, or
+/// want of memory.
 #[derive(Clone, Copy, Debug, PartialEq, Eq)]
 pub enum NodeFault {
     Code(EvalCode),

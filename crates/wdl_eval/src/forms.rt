@@ -11,7 +11,6 @@ ghost use Rattle.wdl_typed.specs.Scope.{lookup as looked_up};
 ghost use Rattle.wdl_eval.specs.Meets.{Meets};
 ghost use Rattle.wdl_eval.specs.Nodes.{setting_of, within};
 
-use crate::env::lookup;
 use crate::fault::NodeFault;
 use crate::keys::are_distinct;
 use crate::outcome::{copied, given, limited};
@@ -24,13 +23,10 @@ use wdl_value::{
 };
 
 /// The value of a name.
-pub fn value_of(alloc: Global, key: &Key, setting: &Setting<'_>) -> Result<Value, NodeFault>
+pub fn value_of(alloc: Global, key: &Key, setting: &Setting<'_, '_>) -> Result<Value, NodeFault>
     ensures { Meets (within (spec.found (looked_up (setting_of setting.now).env key.now))) result }
 {
-    match lookup(setting.env, key) {
-        Some(value) => copied(alloc, value),
-        None => Err(NodeFault::Wrong),
-    }
+    Ok(setting.env.value(key)?.copy(alloc)?)
 }
 
 /// The part of a pair, or the member of a struct.
@@ -117,12 +113,12 @@ pub fn struct_of(
 pub fn applied(
     alloc: Global,
     f: Func,
-    args: &Items<Value>,
-    setting: &Setting<'_>,
+    args: &[Value],
+    setting: &Setting<'_, '_>,
 ) -> Result<Value, NodeFault>
     ensures { Meets (within (spec.met (applied_value (setting_of setting.now).dir (setting_of setting.now).answer f args.now))) result }
 {
-    given(apply(alloc, f, args.as_slice(), setting.dir, setting.answer))
+    given(apply(alloc, f, args, setting.dir, setting.answer))
 }
 
 /// A value cast to a type: an empty list is no `Array[T]+` (code 505).

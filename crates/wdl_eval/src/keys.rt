@@ -47,8 +47,8 @@ fn mark_of(alloc: Global, key: &Value) -> Result<Option<String>, NoMemory>
     }
 }
 
-/// Whether no two rows have one key. Its time is n log n in the rows where each key has a mark, as the keys of each
-/// well-typed map have, and else quadratic.
+/// Whether no two rows have one key. Its time is n log n in the rows where each key has a mark, as
+/// the keys of each well-typed map have, and else quadratic.
 pub fn are_distinct(alloc: Global, rows: &[MapRow<Value>]) -> Result<bool, NoMemory>
     ensures { IfOk result (λ b. b ≡ keyed.distinct_keys rows.now) }
 {

@@ -1,19 +1,19 @@
 //! Values that are lent, so that a part of a value costs no copy of the whole.
 
-ghost use Rattle.std.specs.Prelude.{◌≡◌, Ok};
+ghost use Rattle.std.specs.Prelude.{◌≡◌, true};
 ghost use Rattle.wdl_value.specs.declared.value.Value.{out-Value};
 ghost use Rattle.wdl_typed.specs.Evaluation as spec;
-ghost use Rattle.wdl_typed.specs.Scope.{lookup as looked_up};
+ghost use Rattle.wdl_value.specs.Limits.{is_within};
 ghost use Rattle.wdl_eval.specs.Found.{held, Offers};
 ghost use Rattle.wdl_eval.specs.Meets.{Lends};
 ghost use Rattle.wdl_eval.specs.Nodes.{setting_of, within};
 
-use crate::env::lookup;
 use crate::fault::NodeFault;
+use crate::outcome::offered;
 use crate::parts::member_in;
 use crate::setting::Setting;
 use wdl_typed::TExpr;
-use wdl_value::{EvalCode, Key, Name, Value, is_within_limits};
+use wdl_value::{Name, Value};
 
 /// A value that is lent, or one that was made.
 #[derive(Drop)]
@@ -34,41 +34,25 @@ impl Found<'_> {
     }
 }
 
-/// The value, where it keeps the limits of values.
-fn offered(value: &Value) -> Result<Option<&Value>, NodeFault>
-    ensures { Offers (within (Ok value.now)) result }
+/// The member of a value that keeps the limits of values, as each of its parts then does: nothing
+/// is measured.
+fn member_lent<'s>(value: &'s Value, name: &Name) -> Result<&'s Value, NodeFault>
+    requires within { is_within value.now ≡ true }
+    ensures { Lends (within (spec.member_at name.now (out-Value value.now))) result }
 {
-    if is_within_limits(value) {
-        return Ok(Some(value));
-    }
-    Err(NodeFault::Code(EvalCode::TooLarge))
-}
-
-fn name_lent<'a>(key: &Key, setting: &Setting<'a>) -> Result<Option<&'a Value>, NodeFault>
-    ensures { Offers (within (spec.found (looked_up (setting_of setting.now).env key.now))) result }
-{
-    match lookup(setting.env, key) {
-        Some(value) => offered(value),
-        None => Err(NodeFault::Wrong),
-    }
-}
-
-fn member_lent<'a>(value: &'a Value, name: &Name) -> Result<Option<&'a Value>, NodeFault>
-    ensures { Offers (within (spec.member_at name.now (out-Value value.now))) result }
-{
-    offered(member_in(value, name)?)
+    member_in(value, name)
 }
 
 /// The value of a literal, of a name, or of a member of such; other expressions have none to lend.
-pub fn lent<'a>(e: &'a TExpr, setting: &Setting<'a>) -> Result<Option<&'a Value>, NodeFault>
+pub fn lent<'s, 'a>(e: &'s TExpr, setting: &Setting<'s, 'a>) -> Result<Option<&'s Value>, NodeFault>
     ensures { Offers (spec.value_met (setting_of setting.now) e.now) result }
 {
     match e {
-        TExpr::Lit(value) => offered(value),
-        TExpr::Get(key) => name_lent(key, setting),
+        TExpr::Lit(value) => Ok(Some(offered(value)?)),
+        TExpr::Get(key) => Ok(Some(setting.env.value(key)?)),
         TExpr::Member(a, name) => {
             if let Some(value) = lent(a.get(), setting)? {
-                return member_lent(value, name);
+                return Ok(Some(member_lent(value, name)?));
             }
             Ok(None)
         }

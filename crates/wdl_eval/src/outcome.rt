@@ -5,7 +5,7 @@ ghost use Rattle.wdl_value.specs.declared.value.Value.{Value as Val};
 ghost use Rattle.wdl_value.specs.Outcome.{Outcome};
 ghost use Rattle.wdl_stdlib.specs.Gives.{Gives};
 ghost use Rattle.wdl_typed.specs.Evaluation.{met};
-ghost use Rattle.wdl_eval.specs.Meets.{Meets};
+ghost use Rattle.wdl_eval.specs.Meets.{Lends, Meets};
 ghost use Rattle.wdl_eval.specs.Nodes.{within};
 
 use crate::fault::NodeFault;
@@ -29,6 +29,16 @@ pub fn limited(value: Value) -> Result<Value, NodeFault>
     ensures { Meets (within (Ok value)) result }
 {
     if is_within_limits(&value) {
+        return Ok(value);
+    }
+    Err(NodeFault::Code(EvalCode::TooLarge))
+}
+
+/// The value, where it keeps the limits of values. Nothing is copied.
+pub fn offered(value: &Value) -> Result<&Value, NodeFault>
+    ensures { Lends (within (Ok value.now)) result }
+{
+    if is_within_limits(value) {
         return Ok(value);
     }
     Err(NodeFault::Code(EvalCode::TooLarge))

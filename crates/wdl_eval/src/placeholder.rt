@@ -68,8 +68,9 @@ fn or_default(alloc: Global, text: &Text, value: &Value) -> Result<Text, NodeFau
     }
 }
 
-/// The text that a placeholder prints for a value: by its option, and nothing for an undefined value where no option says
-/// otherwise. `Wrong` comes exactly where the option takes no such value.
+/// The text that a placeholder prints for a value: by its option, and nothing for an undefined
+/// value where no option says otherwise. `Wrong` comes exactly where the option takes no such
+/// value.
 pub fn hole_text(alloc: Global, choice: &Choice, value: &Value) -> Result<Text, NodeFault>
     ensures { Meets (spec.hole_text choice.now (out-Value value.now)) result }
 {

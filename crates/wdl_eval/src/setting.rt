@@ -1,9 +1,11 @@
-use wdl_value::{Answer, Bind, Text};
+use crate::bindings::Bindings;
+use wdl_value::{Answer, Text};
 
-/// What an expression is evaluated over: the values of its names, the directory of the job, and what its command left.
+/// What an expression is evaluated over: the values of its names, the directory of the job, and
+/// what its command left.
 #[derive(Drop)]
-pub struct Setting<'a> {
-    pub env: &'a [Bind],
-    pub dir: &'a Text,
-    pub answer: Option<&'a Answer>,
+pub struct Setting<'s, 'a> {
+    pub env: Bindings<'s, 'a>,
+    pub dir: &'s Text,
+    pub answer: Option<&'s Answer>,
 }

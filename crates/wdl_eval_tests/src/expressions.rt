@@ -1,7 +1,7 @@
 use crate::notation::{expression, key};
 use std::alloc::Global;
 use std::test::Fail;
-use wdl_eval::{NodeFault, Setting, evaluate};
+use wdl_eval::{Bindings, NodeFault, Setting, evaluate};
 use wdl_typed::TExpr;
 use wdl_value::{Answer, Bind, Body, Items, Key, Seen, Text, Value, same_value};
 
@@ -66,7 +66,7 @@ fn test_world(alloc: Global) -> Result<World, Fail> {
 
 fn met(alloc: Global, expr: &TExpr, world: &World) -> Result<Value, NodeFault> {
     let setting = Setting {
-        env: world.env.as_slice(),
+        env: Bindings::Kept(world.env.as_slice()),
         dir: &world.dir,
         answer: Some(&world.answer),
     };
