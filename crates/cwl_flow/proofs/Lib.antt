@@ -3,5 +3,4 @@ pub mod Firsts
 pub mod Found
 pub mod Plain
 pub mod Signatures
-pub mod Skip
 pub mod Walks

@@ -9,13 +9,13 @@ ghost use Rattle.cwl_flow.specs.Drafts as draft;
 
 use crate::context::Context;
 use crate::ids::{block_id, id_of};
-use crate::index::Index;
 use crate::links::Kind;
 use crate::uses::{only, outer_uses, plain_key};
 use crate::wires::{add_outer_wires, add_wire, seen_type, type_at};
 use cwl_image::Linkage;
 use cwl_model::{CwlIn, CwlTy, FlowOut, Link, Mode, Wire};
 use std::alloc::Global;
+use wdl_names::Index;
 use wdl_typed::{Statement, TExpr, TIf, TScatter};
 use wdl_value::{Items, Key, Name, NoMemory, Text};
 

@@ -7,13 +7,13 @@ ghost use Rattle.cwl_flow.specs.Calls.{Calls};
 ghost use Rattle.cwl_flow.specs.Drafts as draft;
 
 use crate::context::Context;
-use crate::index::Index;
 use crate::links::declared_by;
 use crate::wires::args_wired;
 use cwl_image::Linkage;
 use cwl_model::{CwlFlow, CwlStep, Mode, Process};
 use cwl_tool::task_tool;
 use std::alloc::Global;
+use wdl_names::Index;
 use wdl_typed::{Checked, TCall, TDecl, Target};
 use wdl_value::{Items, NoMemory, Text};
 

@@ -7,7 +7,6 @@ ghost use Rattle.cwl_flow.specs.Drafts as draft;
 
 use crate::calls::empty;
 use crate::context::Context;
-use crate::index::Index;
 use crate::uses::plain_key;
 use crate::walk::{body_steps, flow_process};
 use crate::wires::link_of;
@@ -15,6 +14,7 @@ use cwl_image::Linkage;
 use cwl_model::{FlowOut, Link, Process};
 use cwl_tool::{cwl_type, inputs_of};
 use std::alloc::Global;
+use wdl_names::Index;
 use wdl_typed::{Checked, FlowDef, TDecl, TInput};
 use wdl_value::{Items, NoMemory};
 

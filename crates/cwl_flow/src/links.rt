@@ -9,11 +9,11 @@ ghost use Rattle.cwl_flow.specs.Drafts as draft;
 
 use crate::context::Context;
 use crate::ids::{block_id, id_of};
-use crate::index::Index;
 use cwl_image::Linkage;
 use cwl_model::{CwlTy, Link};
 use cwl_tool::cwl_type;
 use std::alloc::Global;
+use wdl_names::Index;
 use wdl_typed::{Statement, TCall, TDecl, Target};
 use wdl_value::{Boxed, Key, Name, NoMemory, Text};
 

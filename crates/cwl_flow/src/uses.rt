@@ -7,10 +7,10 @@ ghost use Rattle.cwl_image.specs.Image as image;
 ghost use Rattle.cwl_flow.specs.Drafts as draft;
 
 use crate::context::Context;
-use crate::index::Index;
 use crate::links::body_links;
 use cwl_tool::reference;
 use std::alloc::Global;
+use wdl_names::Index;
 use wdl_typed::{Statement, TExpr, TField};
 use wdl_value::{Items, Key, Name, NoMemory};
 

@@ -10,11 +10,11 @@ use crate::blocks::{Block, if_block, outputs_of, scatter_block};
 use crate::calls::{call_step, no_step};
 use crate::context::Context;
 use crate::ids::ids_of;
-use crate::index::Index;
 use crate::links::add_links;
 use cwl_image::Linkage;
 use cwl_model::{CwlFlow, CwlIn, CwlStep, FlowOut, Process};
 use std::alloc::Global;
+use wdl_names::Index;
 use wdl_typed::{Checked, Statement};
 use wdl_value::{Items, NoMemory};
 

@@ -5,11 +5,11 @@ ghost use Rattle.std.specs.Option.{option_copied};
 ghost use Rattle.cwl_image.specs.Image as image;
 
 use crate::ids::id_of;
-use crate::index::Index;
 use cwl_image::Linkage;
 use cwl_model::{CwlTy, Link, Wire};
 use cwl_tool::{cwl_type, reference};
 use std::alloc::Global;
+use wdl_names::Index;
 use wdl_typed::{TExpr, TField};
 use wdl_value::{Items, Key, NoMemory, Text};
 

@@ -32,7 +32,7 @@ status  meaning
      9  the command of a job cannot be started
     10  the journal cannot be used
     11  the run has too many jobs
-    12  the command is not built yet
+    12  the command is not built yet (`wdl bundle`)
 
 example:
   wdl run --inputs lanes.json lanes.wdl
@@ -138,7 +138,22 @@ example:
 ";
 
 pub const LOAD: &str = "\
-wdl load N is not built yet: it ends with status 12.
+Runs a workflow of N calls that it makes itself, whose answers come from a
+table, and shows how many jobs ran: no file is read and no command started. It
+measures the runner itself.
+
+usage: wdl load N
+
+  N  how many calls, from 1 to 10000
+
+status  meaning
+     0  success: calls, jobs and the last value were written
+     2  the command line is not valid
+     6  the output cannot be written
+     7  out of memory
+
+example:
+  wdl load 1000
 ";
 
 pub const BUNDLE: &str = "\

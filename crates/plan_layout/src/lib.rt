@@ -5,7 +5,6 @@ mod body;
 mod flows;
 mod laws;
 mod layout;
-mod mark;
 mod needs;
 mod referring;
 mod scope;

@@ -6,11 +6,10 @@ ghost use Rattle.wdl_typed.specs.Scope as scope;
 ghost use Rattle.plan_layout.specs.Spots as spec;
 
 use crate::layout::Need;
-use crate::mark::key_mark;
 use std::alloc::Global;
 use std::marker::Model;
-use wdl_names::Places;
-use wdl_value::{Items, Key, Name, NoMemory};
+use wdl_names::{Places, key_mark, same_key};
+use wdl_value::{Items, Key, NoMemory};
 
 /// Names with the places of their cells, found by a look-up in logarithmic time. Of two with one key the first counts.
 #[derive(Drop)]
@@ -33,23 +32,6 @@ impl Model for Spots {
     ghost view = { λ s. s.spots };
 
     ghost invariant = { λ s. s.places ≡ spot_marks s.spots };
-}
-
-/// Whether both are the same name, or none.
-fn same_second(a: &Option<Name>, b: &Option<Name>) -> bool
-    ensures { result ≡ scope.same_second a.now b.now }
-{
-    match (a, b) {
-        (None, None) => true,
-        (Some(a), Some(b)) => a.same(b),
-        _ => false,
-    }
-}
-
-fn same_key(a: &Key, b: &Key) -> bool
-    ensures { result ≡ scope.same_key a.now b.now }
-{
-    a.first.same(&b.first) && same_second(&a.second, &b.second)
 }
 
 fn spot_among<'a>(spots: &'a [Need], key: &Key) -> Option<&'a Need>

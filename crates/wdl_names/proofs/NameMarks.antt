@@ -51,3 +51,9 @@ pub find-skip : {X : Type 0} (named : X → List ℕ) (name : List ℕ) (xs : Li
 find-skip named name = skip (find (λ x. bytes_eq (named x) name)) (λ x. name_mark (named x)) (name_mark name) (λ x xs differ.
     let e = apart (bytes_eq (named x) name) _ _ (name_marks_agree (named x) name) differ in
     ap (λ t. cond t (Some x) (find (λ y. bytes_eq (named y) name) xs)) e)
+
+pub find_key-skip : {X : Type 0} (keyed : X → Key) (key : Key) (xs : List X)
+    → find (λ x. same_key (keyed x) key) (drop (first_place (key_mark key) (map (λ x. key_mark (keyed x)) xs)) xs) ≡ find (λ x. same_key (keyed x) key) xs
+find_key-skip keyed key = skip (find (λ x. same_key (keyed x) key)) (λ x. key_mark (keyed x)) (key_mark key) (λ x xs differ.
+    let e = apart (same_key (keyed x) key) _ _ (key_marks_agree (keyed x) key) differ in
+    ap (λ t. cond t (Some x) (find (λ y. same_key (keyed y) key) xs)) e)

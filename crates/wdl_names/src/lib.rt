@@ -2,7 +2,10 @@
 #![tactic(auto)]
 
 mod distinct;
+mod index;
 mod indexed;
+mod key;
+mod keyed;
 mod mark;
 mod named;
 mod names;
@@ -10,7 +13,11 @@ mod places;
 mod words;
 
 pub use distinct::{add, add_all, are_distinct};
+pub use index::Index;
 pub use indexed::Indexed;
+pub use key::same_key;
+pub use keyed::Keyed;
+pub use mark::key_mark;
 pub use named::Named;
 pub use names::Names;
 pub use places::Places;

@@ -3,6 +3,7 @@ ghost use Rattle.std.specs.Option.{option_copied};
 ghost use Rattle.wdl_typed.specs.Scope as scope;
 ghost use Rattle.wdl_names.specs.Names as spec;
 
+use crate::key::same_key;
 use crate::mark::{call_mark, key_mark, name_mark};
 use crate::places::Places;
 use sqlite_items::Items;
@@ -35,23 +36,6 @@ impl Model for Names {
     ghost view = { λ n. n.bounds };
 
     ghost invariant = { λ n. (n.keys ≡ key_marks n.bounds) × (n.calls ≡ call_marks n.bounds) };
-}
-
-/// Whether both are the same name, or none.
-fn same_second(a: &Option<Name>, b: &Option<Name>) -> bool
-    ensures { result ≡ scope.same_second a.now b.now }
-{
-    match (a, b) {
-        (None, None) => true,
-        (Some(a), Some(b)) => a.same(b),
-        _ => false,
-    }
-}
-
-fn same_key(a: &Key, b: &Key) -> bool
-    ensures { result ≡ scope.same_key a.now b.now }
-{
-    a.first.same(&b.first) && same_second(&a.second, &b.second)
 }
 
 fn is_output_of(key: &Key, name: &Name) -> bool

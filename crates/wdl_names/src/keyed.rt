@@ -1,14 +1,13 @@
-use cwl_image::Linkage;
 use wdl_value::Key;
 
-/// What stands for a reference.
+/// What is found under a key.
 pub trait Keyed {
     ghost use Rattle.std.specs.Prelude.{◌≡◌};
     ghost use Rattle.wdl_base.specs.declared.name.Key.{Key};
 
     ghost keyed: { Self → Key };
 
-    /// The reference.
+    /// The key.
     fn key(&self) -> &Key
         ensures { result.now ≡ keyed self.now };
 }
@@ -18,13 +17,5 @@ impl Keyed for Key {
 
     fn key(&self) -> &Key {
         self
-    }
-}
-
-impl Keyed for Linkage {
-    ghost keyed = { λ l. l.key };
-
-    fn key(&self) -> &Key {
-        &self.key
     }
 }

@@ -3,15 +3,15 @@ ghost use Rattle.std.specs.List.{find};
 ghost use Rattle.std.specs.Option.{option_copied};
 ghost use Rattle.wdl_typed.specs.Scope as scope;
 
+use crate::key::same_key;
 use crate::keyed::Keyed;
 use crate::mark::key_mark;
+use crate::places::Places;
 use std::alloc::Global;
 use std::marker::Model;
-use wdl_names::Places;
-use wdl_value::{Items, Key, Name, NoMemory};
+use wdl_value::{Items, Key, NoMemory};
 
-/// A list that grows, whose items are found by their references in logarithmic time. Of two with one reference the first
-/// counts.
+/// A list that grows, whose items are found by their keys in logarithmic time. Of two with one key the first counts.
 #[derive(Drop)]
 pub struct Index<T: Keyed + Drop> {
     items: Items<T>,
@@ -30,23 +30,6 @@ impl<T: Keyed + Drop> Model for Index<T> {
     ghost view = { λ s. s.items };
 
     ghost invariant = { λ s. s.places ≡ map (λ (x : T). key_mark (T.keyed x)) s.items };
-}
-
-/// Whether both are the same name, or none.
-fn same_second(a: &Option<Name>, b: &Option<Name>) -> bool
-    ensures { result ≡ scope.same_second a.now b.now }
-{
-    match (a, b) {
-        (None, None) => true,
-        (Some(a), Some(b)) => a.same(b),
-        _ => false,
-    }
-}
-
-fn same_key(a: &Key, b: &Key) -> bool
-    ensures { result ≡ scope.same_key a.now b.now }
-{
-    a.first.same(&b.first) && same_second(&a.second, &b.second)
 }
 
 fn found_among<'a, T: Keyed>(items: &'a [T], key: &Key) -> Option<&'a T>
@@ -99,7 +82,7 @@ impl<T: Keyed + Drop> Index<T> {
         Ok(())
     }
 
-    /// The first item of that reference.
+    /// The first item of that key.
     pub fn find(&self, key: &Key) -> Option<&T>
         ensures { option_copied result ≡ find (λ x. scope.same_key (T.keyed x) key.now) self.now }
     {
