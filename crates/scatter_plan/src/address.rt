@@ -1,6 +1,6 @@
 //! Where cells stand, and what a step sees of them.
 
-ghost use Rattle.std.specs.Prelude.{◌≡◌, ◌++◌, ◌^◌, Some, map, IfOk, OnOk};
+ghost use Rattle.std.specs.Prelude.{◌≡◌, ◌++◌, ◌^◌, map, IfOk, OnOk};
 ghost use Rattle.value_net.specs.Nets.{value_at, view};
 ghost use Rattle.wdl_typed.specs.Flow as flow;
 ghost use Rattle.net_laws.specs.Net.{known_in};
@@ -11,7 +11,9 @@ ghost use Rattle.plan_room.specs.Reached.{AreReached, IsReached};
 use crate::growth::Net;
 use plan_layout::Need;
 use std::alloc::Global;
-use wdl_value::{Bind, Env, Items, NoMemory, Value};
+use wdl_eval::LentBind;
+use wdl_names::Index;
+use wdl_value::{Items, NoMemory};
 
 /// The cell of what is needed, of the instance whose cells begin at each level where the bases say.
 pub fn cell_at(bases: &[usize], need: &Need) -> usize
@@ -49,23 +51,12 @@ pub fn cells_of(
     Ok(cells)
 }
 
-/// Adds a name with its value.
-fn push_bind(alloc: Global, need: &Need, value: &Value, env: &mut Env) -> Result<(), NoMemory>
-    ensures { OnOk result (env.new ≡ env.old ++ flow.bound_by need.now.key (Some value.now)) }
-{
-    let key = need.key.copy(alloc)?;
-    let value = value.copy(alloc)?;
-    env.push(Bind { key, value })?;
-    Ok(())
-}
-
-/// Adds a name with its value, where it is set.
-fn bind(
-    alloc: Global,
+/// Lends a name with its value, where it is set.
+fn bind<'a>(
     bases: &[usize],
-    need: &Need,
-    net: &Net,
-    env: &mut Env,
+    need: &'a Need,
+    net: &'a Net,
+    env: &mut Index<LentBind<'a>>,
 ) -> Result<(), NoMemory>
     requires { IsReached (2 ^ 64) bases.now need.now }
     ensures { OnOk result (env.new ≡ env.old ++ flow.bound_by need.now.key (value_at (view net.now).values (slots.cell_at bases.now need.now))) }
@@ -73,17 +64,25 @@ fn bind(
     let Some(value) = net.value(cell_at(bases, need)) else {
         return Ok(());
     };
-    push_bind(alloc, need, value, env)
+    env.push(LentBind {
+        key: &need.key,
+        value,
+    })
 }
 
-/// The names that a step needs, with their values.
-pub fn env_of(alloc: Global, bases: &[usize], needs: &[Need], net: &Net) -> Result<Env, NoMemory>
+/// The names that a step needs, with their values, each lent from the layout and the net.
+pub fn env_of<'a>(
+    alloc: Global,
+    bases: &[usize],
+    needs: &'a [Need],
+    net: &'a Net,
+) -> Result<Index<LentBind<'a>>, NoMemory>
     requires { AreReached (2 ^ 64) bases.now needs.now }
     ensures { IfOk result (λ env. env ≡ flow.env_of (map (known_in (value_at (view net.now).values)) (slots.slots_at bases.now needs.now))) }
 {
-    let mut env = Items::new(alloc);
+    let mut env = Index::empty(alloc);
     for need in needs {
-        bind(alloc, bases, need, net, &mut env)?;
+        bind(bases, need, net, &mut env)?;
     }
     Ok(env)
 }

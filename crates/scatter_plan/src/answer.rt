@@ -20,6 +20,7 @@ use crate::telling::push_failing;
 use plan_layout::StatementLayout;
 use std::alloc::Global;
 use std::sync::ledger::Ledger;
+use wdl_eval::Measured;
 use wdl_task::{CallFault, Prepared, conclude, retry};
 use wdl_typed::TaskDef;
 use wdl_value::{Answer, Env, Fault, Items, NoMemory, Place, Steps, Structs, Text, Value, Why};
@@ -39,9 +40,9 @@ fn set_outputs(
     ensures ended { OnOk result (view net.new ≡ with_ended (base + first) (base + done) outs (view net.old)) }
 {
     while let Some(bind) = outs.pop() {
-        net.set(base + first + outs.len(), bind.value)?;
+        net.set(base + first + outs.len(), Measured::new(bind.value))?;
     }
-    net.set(base + done, Value::Absent)?;
+    net.set(base + done, Measured::new(Value::Absent))?;
     Ok(())
 }
 

@@ -10,23 +10,24 @@ ghost use Rattle.wdl_plain.specs.Readiness.{AreArgsReady};
 
 use std::alloc::Global;
 use std::sync::ledger::Ledger;
-use wdl_eval::{EvalFault, eval};
+use wdl_eval::{EvalFault, LentBind, eval_lent};
+use wdl_names::Index;
 use wdl_task::CallFault;
 use wdl_typed::{TExpr, TField};
-use wdl_value::{Bind, Env, Items, Key, Name, NoMemory, Steps, Text, Value, Why};
+use wdl_value::{Bind, Env, Items, Key, Name, NoMemory, Steps, Value, Why};
 
 /// The value of an argument.
-fn argument<L: Ledger>(
+fn argument<'a, L: Ledger>(
     alloc: Global,
     arg: &TField<TExpr>,
-    env: &Env,
+    env: &Index<LentBind<'a>>,
     steps: &mut Steps<L>,
 ) -> Result<Value, CallFault>
     requires ready { IsReady arg.now.value env.now }
     ensures value { Tells (flow.named_arg arg.now.name (value_of (before env.now) arg.now.value)) result }
     ensures steps { steps.new ≤ steps.old + 1 }
 {
-    match eval(alloc, &arg.value, env, &Text::empty(alloc), None, steps) {
+    match eval_lent(alloc, &arg.value, env, steps) {
         Ok(value) => Ok(value),
         Err(EvalFault::Code(code)) => Err(CallFault::Bad {
             name: arg.name.to_text(alloc)?,
@@ -50,10 +51,10 @@ fn arg_bind(alloc: Global, name: &Name, value: Value) -> Result<Bind, NoMemory>
 }
 
 /// The arguments in their order; the first fault is the answer.
-pub fn args_met<L: Ledger>(
+pub fn args_met<'a, L: Ledger>(
     alloc: Global,
     args: &[TField<TExpr>],
-    env: &Env,
+    env: &Index<LentBind<'a>>,
     steps: &mut Steps<L>,
 ) -> Result<Env, CallFault>
     requires ready { AreArgsReady env.now args.now }

@@ -14,7 +14,8 @@ use wdl_value::{NoMemory, Place, copy_place, same_place};
 /// The most jobs that a plan may have.
 pub const JOB_LIMIT: usize = 20_000;
 
-/// A call of a task: its place and its step, its last attempt that was answered, and where the next one waits.
+/// A call of a task: its place and its step, its last attempt that was answered, and where the next
+/// one waits.
 #[derive(Debug, Drop)]
 pub struct Asked {
     pub place: Place,
@@ -23,8 +24,8 @@ pub struct Asked {
     waits_at: usize,
 }
 
-/// All calls of tasks that were asked, in the order of asking, found by their places in logarithmic time, their attempts
-/// that wait for an answer, and how many attempts there were.
+/// All calls of tasks that were asked, in the order of asking, found by their places in logarithmic
+/// time, their attempts that wait for an answer, and how many attempts there were.
 #[derive(Debug, Drop)]
 pub struct Asking {
     pub ready: Vec<Prepared>,

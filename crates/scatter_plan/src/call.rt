@@ -1,12 +1,13 @@
 //! Calls (OpenWDL 1.1, "Call Statement").
 
-ghost use Rattle.std.specs.Prelude.{◌≡◌, ◌<◌, ◌≤◌, ◌+◌, ◌++◌, ◌∷◌, [], List, Ok, length, OnOk};
+ghost use Rattle.std.specs.Prelude.{◌≡◌, ◌<◌, ◌≤◌, ◌+◌, ◌++◌, ◌∷◌, [], ◌^◌, List, Ok, length, OnOk};
 ghost use Rattle.wdl_base.specs.declared.place.Segment.TheVariants as segment;
 ghost use Rattle.wdl_value.specs.declared.env.Bind.{Bind};
 ghost use Rattle.wdl_typed.specs.Flow.{args_met as flow_args_met};
 ghost use Rattle.wdl_typed.specs.Requests.{Asked, asks as asks_of};
 ghost use Rattle.wdl_task.specs.Counts.{prepare_count};
 ghost use Rattle.wdl_task.specs.Readiness.{Kept};
+ghost use Rattle.wdl_task.specs.Tells.{Tells};
 ghost use Rattle.wdl_plain.specs.Readiness.{AreArgsReady};
 ghost use Rattle.value_net.specs.Nets.{IsSound, view};
 ghost use Rattle.plan_growth.specs.Blocks.{with_call};
@@ -23,7 +24,7 @@ use crate::arguments::args_met;
 use crate::asking::{Asking, JOB_LIMIT};
 use crate::counting::{COUNT_LIMIT, add_count};
 use crate::fault::PlanFault;
-use crate::growth::{Entered, Ground, Growth};
+use crate::growth::{Entered, Ground, Growth, Net};
 use crate::joints::copy_cells;
 use crate::spot::last_base;
 use crate::telling::{call_place, push_failing};
@@ -182,6 +183,24 @@ fn call_target<'a, L: Ledger>(
     }
 }
 
+/// The arguments of a call, over the names that its step needs.
+fn args_of<L: Ledger>(
+    alloc: Global,
+    call: &TCall,
+    line: &StatementLayout,
+    bases: &[usize],
+    net: &Net,
+    steps: &mut Steps<L>,
+) -> Result<Env, CallFault>
+    requires reached { AreReached (2 ^ 64) bases.now line.now.needs }
+    requires ready { AreArgsReady (own_env (view net.now) bases.now line.now.needs) call.now.args }
+    ensures value { Tells (flow_args_met (own_env (view net.now) bases.now line.now.needs) call.now.args) result }
+    ensures steps { steps.new ≤ steps.old + length call.now.args }
+{
+    let env = env_of(alloc, bases, line.needs.as_slice(), net)?;
+    args_met(alloc, call.args.as_slice(), &env, steps)
+}
+
 /// Does a call of an instance at a place.
 pub fn call<'a, L: Ledger>(
     alloc: Global,
@@ -211,8 +230,7 @@ pub fn call<'a, L: Ledger>(
     ensures jobs { asking.old.jobs ≤ JOB_LIMIT → OnOk result (asking.new.jobs ≤ JOB_LIMIT) }
 {
     let place = call_place(alloc, place, &call.name)?;
-    let env = env_of(alloc, bases, line.needs.as_slice(), &growth.entered.net)?;
-    match args_met(alloc, call.args.as_slice(), &env, steps) {
+    match args_of(alloc, call, line, bases, &growth.entered.net, steps) {
         Ok(args) => call_target(
             alloc,
             call.target,

@@ -1,4 +1,5 @@
-//! Declarations, defaults of inputs, and outputs (OpenWDL 1.1, "Workflow Inputs", "Workflow Outputs").
+//! Declarations, defaults of inputs, and outputs (OpenWDL 1.1, "Workflow Inputs", "Workflow
+//! Outputs").
 
 ghost use Rattle.std.specs.Prelude.{◌≡◌, ◌<◌, ◌≤◌, ◌+◌, ◌^◌, length, IfOk, OnOk};
 ghost use Rattle.wdl_eval.specs.Ready.{IsReady};
@@ -15,9 +16,9 @@ use crate::telling::push_code;
 use plan_layout::Need;
 use std::alloc::Global;
 use std::sync::ledger::Ledger;
-use wdl_eval::{EvalFault, eval};
+use wdl_eval::{EvalFault, Measured, eval_lent};
 use wdl_typed::TExpr;
-use wdl_value::{EvalCode, Fault, Items, Name, NoMemory, Place, Steps, Text, Value};
+use wdl_value::{EvalCode, Fault, Items, Name, NoMemory, Place, Steps, Value};
 
 /// What an expression comes to.
 #[derive(Debug, Drop)]
@@ -41,7 +42,7 @@ pub fn end_of<L: Ledger>(
     ensures steps { steps.new ≤ steps.old + 1 }
 {
     let env = env_of(alloc, bases, needs, net)?;
-    match eval(alloc, e, &env, &Text::empty(alloc), None, steps) {
+    match eval_lent(alloc, e, &env, steps) {
         Ok(value) => Ok(End::Told(value)),
         Err(EvalFault::Code(code)) => Ok(End::Failed(code)),
         Err(EvalFault::NoMemory) => Err(NoMemory),
@@ -66,14 +67,15 @@ pub fn tell(
 {
     match end {
         End::Told(value) => {
-            net.set(cell, value)?;
+            net.set(cell, Measured::new(value))?;
             Ok(())
         }
         End::Failed(code) => push_code(alloc, place, name, code, faults),
     }
 }
 
-/// Evaluates a declaration, a default or an output of an instance at a place, whose cell stands at a slot.
+/// Evaluates a declaration, a default or an output of an instance at a place, whose cell stands at
+/// a slot.
 pub fn declare<L: Ledger>(
     alloc: Global,
     name: &Name,

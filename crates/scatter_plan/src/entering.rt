@@ -75,8 +75,8 @@ pub fn push_dones(
     Ok(())
 }
 
-/// Adds the cells of an instance of a body inside those that begin at these cells, and a step for each of its statements. Answers its
-/// first cell.
+/// Adds the cells of an instance of a body inside those that begin at these cells, and a step for
+/// each of its statements. Answers its first cell.
 pub fn add_instance(
     alloc: Global,
     body: usize,

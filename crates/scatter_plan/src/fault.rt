@@ -5,8 +5,8 @@ use std::alloc::{AllocError, AllocFailed};
 use wdl_typed::Checked;
 use wdl_value::{Env, NoMemory, Text};
 
-/// Why a plan goes no further: the flow over the answers has more than 20,000 jobs or more than 1,000,000 instances of
-/// statements, or out of memory.
+/// Why a plan goes no further: the flow over the answers has more than 20,000 jobs or more than
+/// 1,000,000 instances of statements, or out of memory.
 #[derive(Clone, Copy, Debug, PartialEq, Eq)]
 pub enum PlanFault {
     TooMany,

@@ -7,11 +7,12 @@ use plan_growth::{Instance, Rule};
 use plan_layout::Layout;
 use std::alloc::Global;
 use value_net::ValueNet;
+use wdl_eval::Measured;
 use wdl_typed::Checked;
-use wdl_value::{Fault, Items, Text, Value};
+use wdl_value::{Fault, Items, Text};
 
-/// The cells and steps of a plan.
-pub type Net = ValueNet<Value, Rule>;
+/// The cells and steps of a plan. Each value is measured once, when its cell is set.
+pub type Net = ValueNet<Measured, Rule>;
 
 /// The cells and steps, and the instances of bodies that were entered.
 #[derive(Drop)]

@@ -15,6 +15,7 @@ use crate::outside::gather_block;
 use crate::telling::place_below;
 use plan_layout::{BodyLayout, StatementLayout};
 use std::alloc::Global;
+use wdl_eval::Measured;
 use wdl_value::{Items, NoMemory, Place, Segment, Value};
 
 /// Enters the body for an item.
@@ -35,7 +36,7 @@ fn enter_item(
     ensures entered { OnOk result (plot entered.new ≡ entering.with_item body outer.now place layout.now item (plot entered.old)) }
 {
     let first = add_instance(alloc, body, outer, place, layout, entered)?;
-    entered.net.set(first, item)?;
+    entered.net.set(first, Measured::new(item))?;
     Ok(first)
 }
 

@@ -1,5 +1,5 @@
-//! Cells that are made of others: gathered names, calls that ended at each item, and what is inside a block under its name
-//! outside.
+//! Cells that are made of others: gathered names, calls that ended at each item, and what is inside
+//! a block under its name outside.
 
 ghost use Rattle.std.specs.Prelude.{◌≡◌, ◌∷◌, [], ◌+◌, ◌<◌, ◌≤◌, ◌^◌, true, ℕ, Some, map, length, IfOk, OnOk};
 ghost use Rattle.wdl_value.specs.declared.value.Value.TheVariants as kind;
@@ -12,6 +12,7 @@ ghost use Rattle.scatter_plan.specs.Plots.{cell_count};
 use crate::growth::Net;
 use plan_growth::Rule;
 use std::alloc::Global;
+use wdl_eval::Measured;
 use wdl_value::{Items, NoMemory, Value};
 
 /// A copy of the value of a cell that is set.
@@ -20,7 +21,7 @@ fn value_of(alloc: Global, net: &Net, cell: usize) -> Result<Value, NoMemory>
     ensures { IfOk result (λ value. value_at (view net.now).values cell ≡ Some value) }
 {
     match net.value(cell) {
-        Some(value) => value.copy(alloc),
+        Some(value) => value.get().copy(alloc),
         None => unreachable!(),
     }
 }
@@ -47,7 +48,7 @@ pub fn gather(alloc: Global, step: usize, into: usize, net: &mut Net) -> Result<
     ensures gathered { OnOk result (IsGathered (view net.old) step into (view net.new)) }
 {
     let values = values_of(alloc, net, net.needs_of(step))?;
-    net.set(into, Value::List(values))?;
+    net.set(into, Measured::new(Value::List(values)))?;
     Ok(())
 }
 
@@ -58,7 +59,7 @@ pub fn end(into: usize, net: &mut Net) -> Result<(), NoMemory>
     ensures sound { OnOk result (IsSound net.new) }
     ensures ended { OnOk result (view net.new ≡ with_value (view net.old) into kind.Absent) }
 {
-    net.set(into, Value::Absent)?;
+    net.set(into, Measured::new(Value::Absent))?;
     Ok(())
 }
 
@@ -73,7 +74,7 @@ pub fn copy(alloc: Global, step: usize, into: usize, net: &mut Net) -> Result<()
     ensures copied { OnOk result (IsCopied (view net.old) step into (view net.new)) }
 {
     let value = value_of(alloc, net, net.needs_of(step)[0])?;
-    net.set(into, value)?;
+    net.set(into, Measured::new(value))?;
     Ok(())
 }
 
@@ -150,7 +151,8 @@ pub fn end_calls(
     Ok(())
 }
 
-/// Adds the steps that copy so many cells of an instance that begins at the first, to cells of the one that begins at the base.
+/// Adds the steps that copy so many cells of an instance that begins at the first, to cells of the
+/// one that begins at the base.
 pub fn copy_cells(
     first: usize,
     inner: usize,
@@ -180,7 +182,7 @@ pub fn set_absent(base: usize, first: usize, count: usize, net: &mut Net) -> Res
     ensures absent { OnOk result (view net.new ≡ with_absent (base + first) count (view net.old)) }
 {
     for k in 0..count {
-        net.set(base + first + k, Value::Absent)?;
+        net.set(base + first + k, Measured::new(Value::Absent))?;
     }
     Ok(())
 }

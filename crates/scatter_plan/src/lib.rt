@@ -1,5 +1,5 @@
-//! A plan of a workflow: cells that are set once, and steps that are done once, when all that they need is set. What an answer
-//! changes is done when it arrives, and nothing else is done again.
+//! A plan of a workflow: cells that are set once, and steps that are done once, when all that they
+//! need is set. What an answer changes is done when it arrives, and nothing else is done again.
 #![tactic(auto)]
 
 mod address;

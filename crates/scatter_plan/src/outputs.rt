@@ -29,7 +29,7 @@ fn push_output(
     let Some(value) = net.value(cell) else {
         return Ok(());
     };
-    let value = value.copy(alloc)?;
+    let value = value.get().copy(alloc)?;
     let first = output.name.copy(alloc)?;
     let key = Key {
         first,

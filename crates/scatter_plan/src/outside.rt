@@ -16,6 +16,7 @@ use crate::joints::{copy_cells, end_calls, gather_names, set_absent};
 use plan_growth::Rule;
 use plan_layout::{BodyLayout, StatementLayout};
 use std::alloc::Global;
+use wdl_eval::Measured;
 use wdl_value::{Items, NoMemory, Value};
 
 /// The cells that say that the statements of all these instances of a body are done.
@@ -34,7 +35,8 @@ fn all_dones(
     Ok(dones)
 }
 
-/// Adds the steps that gather what the instances of a scatter's body give out, which begin at these cells.
+/// Adds the steps that gather what the instances of a scatter's body give out, which begin at these
+/// cells.
 pub fn gather_block(
     alloc: Global,
     firsts: &[usize],
@@ -60,7 +62,8 @@ pub fn gather_block(
     Ok(())
 }
 
-/// Adds the steps that copy what the instance of a condition's body gives out, which begins at this cell.
+/// Adds the steps that copy what the instance of a condition's body gives out, which begins at this
+/// cell.
 pub fn copy_block(
     alloc: Global,
     first: usize,
@@ -108,6 +111,6 @@ pub fn pass_by(layout: &StatementLayout, base: usize, net: &mut Net) -> Result<(
 {
     set_absent(base, layout.first_name, layout.names, net)?;
     set_absent(base, layout.first_call, layout.calls, net)?;
-    net.set(base + layout.done, Value::Absent)?;
+    net.set(base + layout.done, Measured::new(Value::Absent))?;
     Ok(())
 }

@@ -22,7 +22,8 @@ use wdl_task::Prepared;
 use wdl_typed::Checked;
 use wdl_value::{Answer, Entry, Env, Fault, NoMemory, Place, Steps, Text};
 
-/// What a plan is of: a checked form with the number of its main workflow and its layout, inputs and a site.
+/// What a plan is of: a checked form with the number of its main workflow and its layout, inputs
+/// and a site.
 #[derive(Drop)]
 struct Origin {
     checked: Checked,
@@ -32,8 +33,9 @@ struct Origin {
     main: usize,
 }
 
-/// A plan of the main workflow of a checked form, for its inputs and a site. After a refusal of `arrive` or `renew` it is spent: it
-/// keeps what it was made of, and nothing is said of the rest until a `renew` that gives `Ok`.
+/// A plan of the main workflow of a checked form, for its inputs and a site. After a refusal of
+/// `arrive` or `renew` it is spent: it keeps what it was made of, and nothing is said of the rest
+/// until a `renew` that gives `Ok`.
 #[derive(Drop)]
 pub struct Plan {
     origin: Origin,

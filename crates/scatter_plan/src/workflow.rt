@@ -1,4 +1,5 @@
-//! Workflows that are entered (OpenWDL 1.1, "Workflow Definition"): their inputs, their body and their outputs.
+//! Workflows that are entered (OpenWDL 1.1, "Workflow Definition"): their inputs, their body and
+//! their outputs.
 
 ghost use Rattle.std.specs.Prelude.{◌≡◌, ◌<◌, ◌≤◌, ◌+◌, ◌++◌, ◌∷◌, [], ◌^◌, length, IfOk, OnOk};
 ghost use Rattle.std.specs.List.{All};
@@ -16,7 +17,7 @@ use crate::growth::{Entered, Net};
 use plan_growth::Rule;
 use plan_layout::{BodyLayout, FlowLayout, Need};
 use std::alloc::Global;
-use wdl_eval::lookup;
+use wdl_eval::{Measured, lookup};
 use wdl_typed::{FlowDef, TInput};
 use wdl_value::{Env, Items, Key, Name, NoMemory, Place, Value};
 
@@ -71,7 +72,7 @@ fn add_default(
     match &input.value {
         Some(_) => add_own_step(alloc, rule, first, needs, net),
         None => {
-            net.set(cell, Value::Absent)?;
+            net.set(cell, Measured::new(Value::Absent))?;
             Ok(())
         }
     }
@@ -96,7 +97,7 @@ fn add_input(
 {
     match given_value(alloc, given, &input.name)? {
         Some(value) => {
-            net.set(cell, value)?;
+            net.set(cell, Measured::new(value))?;
             Ok(())
         }
         None => add_default(alloc, input, rule, cell, first, needs, net),

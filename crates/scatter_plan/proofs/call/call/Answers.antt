@@ -1,11 +1,7 @@
-use Rattle.std.proofs.Common.{◌≡◌, ◌<◌, ◌^◌, List, [], ◌∷◌, ◌++◌, Ok, length, ap, subst, sym, ◌∙◌, arith}
+use Rattle.std.proofs.Common.{◌<◌, ◌^◌, [], ◌∷◌, ◌++◌, length, refl, subst, arith}
 use Rattle.wdl_base.specs.declared.place.Segment.TheVariants as segment
-use Rattle.wdl_value.specs.declared.env.Bind.{Bind}
-use Rattle.wdl_typed.specs.declared.expr.TExpr.{TExpr}
-use Rattle.wdl_typed.specs.declared.expr.TField.{TField}
 use Rattle.wdl_typed.specs.Flow.{args_met}
 use Rattle.value_net.specs.Nets.{view}
-use Rattle.plan_layout.specs.declared.layout.Need.{Need}
 use Rattle.scatter_plan.specs.Doing.{state}
 use Rattle.scatter_plan.specs.Values.{own_env}
 use Rattle.scatter_plan.proofs.Counts.{cells_few}
@@ -16,30 +12,21 @@ use Rattle.wdl_task.specs.Tells.{Fails}
 use Rattle.scatter_plan.proofs.Standing.{bad_call, can_moved}
 use Rattle.scatter_plan.proofs.call.call.Goals as goal
 
-pub env_of-requires : goal.env_of-requires
-env_of-requires g c =
+pub args_of-requires-clause-reached : goal.args_of-requires-clause-reached
+args_of-requires-clause-reached g c =
     let few : length (view c.args.growth.now.entered.net).values < 2 ^ 64 = cells_few c.args.growth.now.entered.net in
-    reached_as (length (view c.args.growth.now.entered.net).values) (2 ^ 64) c.args.bases.now c.args.line.now.needs c.as_slice.result.now (omega (arith, few)) c.as_slice.ensures c.requires.reached
+    reached_as (length (view c.args.growth.now.entered.net).values) (2 ^ 64) c.args.bases.now c.args.line.now.needs c.args.line.now.needs (omega (arith, few)) refl c.requires.reached
 
 pub call_target-requires-clause-can : goal.call_target-requires-clause-can
 call_target-requires-clause-can g c =
-    let net = view c.args.growth.now.entered.net in
-    let met : args_met (own_env net c.args.bases.now c.args.line.now.needs) c.args.call.now.args ≡ Ok c.in-Ok.args =
-    ap (λ (ns : List Need). args_met (own_env net c.args.bases.now ns) c.args.call.now.args) (sym c.as_slice.ensures)
-    ∙ ap (λ (env : List Bind). args_met env c.args.call.now.args) (sym c.in_ok-env.ensures)
-    ∙ ap (λ (as_ : List (TField TExpr)). args_met c.in_ok-env.env as_) (sym c.as_slice-2.ensures) ∙ c.in-Ok.ensures.value in
     can_moved c.args.ground.now.checked.now c.args.ground.now.layout.now c.args.bases.now c.args.line.now (state c.args.growth.now c.args.asking.now) c.in-Ok.args c.args.place.now c.in_ok-place.place
-    (c.args.place.now ++ segment.Call c.args.call.now.name ∷ []) c.in_ok-place.place c.args.call.now.target c.in_ok-place.ensures (c.requires.can c.in-Ok.args met)
+    (c.args.place.now ++ segment.Call c.args.call.now.name ∷ []) c.in_ok-place.place c.args.call.now.target c.in_ok-place.ensures (c.requires.can c.in-Ok.args c.in-Ok.ensures.value)
 
 pub returns-in-Err-Bad-clause-called : goal.returns-in-Err-Bad-clause-called
 returns-in-Err-Bad-clause-called g c =
     let net = view c.args.growth.now.entered.net in
-    let same : args_met (own_env net c.args.bases.now c.args.line.now.needs) c.args.call.now.args ≡ args_met c.in_ok-env.env c.as_slice-2.result.now =
-    ap (λ (ns : List Need). args_met (own_env net c.args.bases.now ns) c.args.call.now.args) (sym c.as_slice.ensures)
-    ∙ ap (λ (env : List Bind). args_met env c.args.call.now.args) (sym c.in_ok-env.ensures)
-    ∙ ap (λ (as_ : List (TField TExpr)). args_met c.in_ok-env.env as_) (sym c.as_slice-2.ensures) in
-    let fails : Fails (args_met c.in_ok-env.env c.as_slice-2.result.now) (Bad c.in-Err-Bad.name c.in-Err-Bad.why) =
-    subst (λ (f : CallFault). Fails (args_met c.in_ok-env.env c.as_slice-2.result.now) f) c.in-Err-Bad.field-0-is c.in-Err-Bad.ensures.value in
+    let met = args_met (own_env net c.args.bases.now c.args.line.now.needs) c.args.call.now.args in
+    let fails : Fails met (Bad c.in-Err-Bad.name c.in-Err-Bad.why) = subst (λ (f : CallFault). Fails met f) c.in-Err-Bad.field-0-is c.in-Err-Bad.ensures.value in
     bad_call c.args.ground.now.checked.now c.args.ground.now.layout.now c.args.bases.now c.args.line.now (state c.args.growth.now c.args.asking.now) c.args.ground.now.site.now c.args.place.now
-    (c.args.place.now ++ segment.Call c.args.call.now.name ∷ []) c.in_ok-place.place c.args.step c.args.call.now.target c.push_failing.new.faults (args_met c.in_ok-env.env c.as_slice-2.result.now)
-    (args_met (own_env net c.args.bases.now c.args.line.now.needs) c.args.call.now.args) c.in-Err-Bad.name c.in-Err-Bad.why same fails c.in_ok-place.ensures c.in_ok-push_failing-in-Err-Bad.ensures
+    (c.args.place.now ++ segment.Call c.args.call.now.name ∷ []) c.in_ok-place.place c.args.step c.args.call.now.target c.push_failing.new.faults met met c.in-Err-Bad.name c.in-Err-Bad.why refl fails
+    c.in_ok-place.ensures (rw c.in-Err-Bad.field-0-is at c.in_ok-push_failing-in-Err-Bad.ensures)
