@@ -1,9 +1,8 @@
 -- How many elements of a list pass a test.
-use Rattle.std.proofs.Common.{zero, suc, ◌≡◌, ◌<◌, ◌≤◌, ◌+◌, ℕ, Bool, true, false, cond, ◌&&◌, not, map, reverse, List, [], ◌∷◌, ◌++◌, Contains, length, take, drop, remove, count_by, slice_index_or, arith, sym, ap, ◌∙◌, refl, ◌⊎◌, inl, inr}
+use Rattle.std.proofs.Common.{zero, suc, ◌≡◌, ◌<◌, ◌≤◌, ◌+◌, ℕ, Bool, true, false, cond, ◌&&◌, not, map, List, [], ◌∷◌, ◌++◌, Contains, length, take, drop, remove, count_by, slice_index_or, arith, sym, ap, ◌∙◌, refl, ◌⊎◌, inl, inr}
 use Rattle.std.specs.List.{list_all, list_any}
 use Rattle.std.proofs.lemmas.Bool.{false≢true, and_from, or_cases, or_parts, and_parts}
 use Rattle.std.proofs.lemmas.List.{set-get_or, set_split}
-use Rattle.std.proofs.lemmas.List.Sorted.{IsPermutation-reverse, sum_by-IsPermutation}
 use Rattle.std.proofs.lemmas.List.Sums.{sum_by-append, sum_by-cons, sum_by_push}
 use Rattle.flow_laws.proofs.Elements.{contains_first, contains_later, first_or_later, none_within}
 
@@ -83,9 +82,6 @@ module _ {A : Type 0} (p : A → Bool) where
 
   pub count_joined : (xs ys : List A) → count_by p (xs ++ ys) ≡ count_by p xs + count_by p ys
   count_joined = sum_by-append one
-
-  pub count_turned : (xs : List A) → count_by p (reverse xs) ≡ count_by p xs
-  count_turned xs = sum_by-IsPermutation one xs (reverse xs) (IsPermutation-reverse xs)
 
 -- Those that pass and those that do not are all.
 module _ {A : Type 0} (p q : A → Bool) where

@@ -1,6 +1,6 @@
 -- The plan of a run, from one call to the next.
-use Rattle.std.proofs.Common.{◌≡◌, ◌≤◌, ◌+◌, ℕ, Bool, true, false, List, [], ◌∷◌, ◌++◌, Result, Ok, Err, IfOk, OnOk, IsSome, arith, sym, ap, ◌∙◌, subst, refl}
-use Rattle.std.proofs.lemmas.Bool.{false≢true}
+use Rattle.std.proofs.Common.{◌≡◌, ◌≤◌, ◌+◌, ℕ, Bool, true, false, List, [], ◌∷◌, ◌++◌, Some, None, Result, Ok, Err, IfOk, OnOk, IsSome, arith, sym, ap, ◌∙◌, subst, refl}
+use Rattle.std.proofs.lemmas.Bool.{false≢true, false_from_ne_true}
 use Rattle.wdl_base.specs.declared.entry.Entry.{Entry}
 use Rattle.wdl_base.specs.declared.error.NoMemory.{NoMemory}
 use Rattle.wdl_base.specs.declared.request.Request.{Request}
@@ -17,8 +17,8 @@ use Rattle.ready_core.specs.declared.course.Begun.{Begun}
 use Rattle.ready_core.specs.declared.course.Course.{Course}
 use Rattle.ready_core.specs.declared.course.Course.TheVariants.{Planned, Past}
 use Rattle.ready_core.specs.declared.turn.Turn.{Turn}
-use Rattle.ready_core.specs.Cores.{Origin, cost_at, flow_at}
-use Rattle.ready_core.specs.Courses.{IsAwaited, IsFurther, IsOnCourse, IsPaid, IsPaidUp, is_stale, kept, origin_in, origin_of, planned_by}
+use Rattle.ready_core.specs.Cores.{IsPaidBy, Origin, flow_at, origin_in}
+use Rattle.ready_core.specs.Courses.{IsAwaited, IsFurther, IsOnCourse, IsPaid, IsPaidUp, is_stale, kept, origin_of, plan_of, planned_by}
 use Rattle.ready_core.specs.Turns.{IsFirst, IsNext, IsPastLimits}
 use Rattle.ready_core.proofs.Planned.{origin_same}
 use Rattle.ready_core.proofs.Runs.{grow, plan_flow}
@@ -168,25 +168,59 @@ passes s many j e old new t main on past_now past =
       paid = record { once = λ fresh start up. many_paid s start new t.many (j ++ e ∷ []) past.many; all = many_paid s old new t.many (j ++ e ∷ []) past.many };
     }
 
--- ---- what all of it costs
+-- ---- what is paid for
 
-pub paid_cost : (s : Course) (many : Bool) (j : List Entry) (old new : ℕ) → IsPaidUp old new s many j → many ≡ too_many (flow_at (origin_of s) j) → is_stale s ≡ false → too_many (flow_at (origin_of s) j) ≡ false
-    → new ≤ old + cost_at (origin_of s) j
-paid_cost (Planned p stale) many j old new h is fresh few = let u = h (is ∙ few) fresh in omega (arith, u.1, u.0.within)
-paid_cost (Past o) many j old new h is fresh few = absurd (false≢true (sym (is ∙ few) ∙ h))
+plan_is : (p : Plan) (stale : Bool) → stale ≡ false → plan_of (Planned p stale) ≡ Some p
+plan_is p stale fresh = ap (λ (b : Bool). plan_of (Planned p b)) fresh
 
--- the same, over a journal that is that one
-pub paid_at : (s : Course) (many : Bool) (j k : List Entry) (old new : ℕ) → IsPaidUp old new s many j → many ≡ too_many (flow_at (origin_of s) j) → is_stale s ≡ false → k ≡ j → too_many (flow_at (origin_of s) k) ≡ false
-    → new ≤ old + cost_at (origin_of s) k
-paid_at s many j k old new up is fresh e few =
-    subst (λ (l : List Entry). new ≤ old + cost_at (origin_of s) l) (sym e) (paid_cost s many j old new up is fresh (ap (λ (l : List Entry). too_many (flow_at (origin_of s) l)) (sym e) ∙ few))
+same_some : {x y : Plan} → Some x ≡ Some y → x ≡ y
+same_some e = cc
+
+no_payer : {x : Plan} → None ≡ Some x → ⊥
+no_payer e = cc
+
+-- what the plan of a course that is not stale paid for
+pub paid_by : (s : Course) (many : Bool) (j : List Entry) (start now : ℕ) → IsPaidUp start now s many j → is_stale s ≡ false → many ≡ false → IsPaidBy start now (origin_of s) j (plan_of s)
+paid_by (Planned p stale) many j start now up fresh few =
+    let u = up few fresh in
+    record { within = omega (arith, u.1, u.0.within); payer = p; is_plan = plan_is p stale fresh; of = refl; told = u.0; paid = u.1 }
+paid_by (Past o) many j start now up fresh few = absurd (false≢true (sym few ∙ up))
+
+-- A course whose plan pays is not stale.
+payer_fresh : (s : Course) (j : List Entry) (start now : ℕ) → IsPaidBy start now (origin_of s) j (plan_of s) → is_stale s ≡ false
+payer_fresh (Planned p true) j start now by = absurd (no_payer by.is_plan)
+payer_fresh (Planned p false) j start now by = refl
+payer_fresh (Past o) j start now by = refl
+
+paid_up : (s : Course) (many : Bool) (j : List Entry) (start now : ℕ) → IsPaidBy start now (origin_of s) j (plan_of s) → IsPaidUp start now s many j
+paid_up (Planned p stale) many j start now by =
+    λ few fresh. subst (λ (q : Plan). (told : IsTold q (table j)) × (now ≤ start + told.paid)) (sym (same_some (sym (plan_is p stale fresh) ∙ by.is_plan))) (by.told, by.paid)
+paid_up (Past o) many j start now by = absurd (no_payer by.is_plan)
+
+-- An answer leaves all paid for that was so before.
+paid_on : (a b : Course) (many more : Bool) (j longer : List Entry) (start old new : ℕ) → IsPaid old new a many j b more longer → is_stale b ≡ false → more ≡ false
+    → IsPaidBy start old (origin_of a) j (plan_of a) → IsPaidBy start new (origin_of b) longer (plan_of b)
+paid_on a b many more j longer start old new paid fresh few by =
+    paid_by b more longer start new (paid.once (payer_fresh a j start old by) start (paid_up a many j start old by)) fresh few
 
 kept_fresh : (s : Course) → is_stale (kept s) ≡ false
 kept_fresh (Planned plan stale) = refl
 kept_fresh (Past o) = refl
 
-pub paid_then : (s : Course) (o : Origin) (many : Bool) (j k : List Entry) (x : Course) (old new : ℕ) → IsPaidUp old new (kept s) many j → origin_of (kept s) ≡ o → many ≡ too_many (flow_at o j) → k ≡ j → x ≡ kept s
-    → too_many (flow_at (origin_of x) k) ≡ false → new ≤ old + cost_at (origin_of x) k
-paid_then s o many j k x old new up same is e y few =
-    subst (λ (c : Course). new ≤ old + cost_at (origin_of c) k) (sym y)
-    (paid_at (kept s) many j k old new up (is ∙ ap (λ (a : Origin). too_many (flow_at a j)) (sym same)) (kept_fresh s) e (ap (λ (c : Course). too_many (flow_at (origin_of c) k)) (sym y) ∙ few))
+-- the same, where the kept course is x, of the flow over k
+pub paid_then : (a s x : Course) (many more : Bool) (j longer k : List Entry) (start old new : ℕ) → IsPaid old new a many j (kept s) more longer → more ≡ too_many (flow_at (origin_of a) longer)
+    → (too_many (flow_at (origin_of a) j) ≡ true → too_many (flow_at (origin_of a) longer) ≡ true) → origin_of (kept s) ≡ origin_of a → k ≡ longer → x ≡ kept s
+    → (too_many (flow_at (origin_of a) j) ≡ false → IsPaidBy start old (origin_of a) j (plan_of a)) → too_many (flow_at (origin_of x) k) ≡ false → IsPaidBy start new (origin_of x) k (plan_of x)
+paid_then a s x many more j longer k start old new paid is stays same e y was few =
+    let few_then : too_many (flow_at (origin_of a) longer) ≡ false =
+    ap (λ (o : Origin). too_many (flow_at o longer)) (sym same) ∙ ap (λ (c : Course). too_many (flow_at (origin_of c) longer)) (sym y) ∙ ap (λ (l : List Entry). too_many (flow_at (origin_of x) l)) (sym e) ∙ few in
+    let few_before : too_many (flow_at (origin_of a) j) ≡ false = false_from_ne_true (too_many (flow_at (origin_of a) j)) (λ h. false≢true (sym few_then ∙ stays h)) in
+    subst (λ (l : List Entry). IsPaidBy start new (origin_of x) l (plan_of x)) (sym e)
+    (subst (λ (c : Course). IsPaidBy start new (origin_of c) longer (plan_of c)) (sym y)
+    (paid_on a (kept s) many more j longer start old new paid (kept_fresh s) (is ∙ few_then) (was few_before)))
+
+pub paid_first : (s : Course) (many : Bool) (start now : ℕ) (k : List Entry) → IsPaidUp start now s many [] → many ≡ too_many (flow_at (origin_of s) []) → is_stale s ≡ false → k ≡ []
+    → too_many (flow_at (origin_of s) k) ≡ false → IsPaidBy start now (origin_of s) k (plan_of s)
+paid_first s many start now k up is fresh e few =
+    subst (λ (l : List Entry). IsPaidBy start now (origin_of s) l (plan_of s)) (sym e)
+    (paid_by s many [] start now up fresh (is ∙ ap (λ (l : List Entry). too_many (flow_at (origin_of s) l)) (sym e) ∙ few))

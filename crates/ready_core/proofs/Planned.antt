@@ -1,5 +1,5 @@
 -- A plan that was told of a journal, and the flow over that journal.
-use Rattle.std.proofs.Common.{◌≡◌, ◌≤◌, ◌<◌, ◌+◌, ℕ, Bool, true, false, cond, not, ◌&&◌, List, [], ◌∷◌, ◌++◌, map, reverse, drop, count_by, is_some, length, length-append, Result, Ok, Err, IfOk, arith, sym, ap, ◌∙◌, subst, refl}
+use Rattle.std.proofs.Common.{◌≡◌, ◌≤◌, ◌<◌, ◌+◌, ℕ, Bool, true, false, cond, not, ◌&&◌, List, [], ◌∷◌, ◌++◌, map, drop, count_by, is_some, length, length-append, Result, Ok, Err, IfOk, arith, sym, ap, ◌∙◌, subst, refl}
 use Rattle.std.proofs.lemmas.Bool.{and_from}
 use Rattle.std.proofs.lemmas.List.{map-append}
 use Rattle.std.proofs.Math.Seq.{drop-append_seam}
@@ -19,12 +19,12 @@ use Rattle.scatter_plan.specs.Calls.{Arrives, IsOfSame, is_fed_for, is_waiting}
 use Rattle.scatter_plan.specs.declared.plan.Plan.{Plan}
 use Rattle.scatter_plan.specs.Plans.{IsTold, checked_in, count_jobs, flow_of, flow_with, inputs_in, ready_in, site_in, unanswered}
 use Rattle.ready_core.specs.declared.turn.Turn.{Turn}
-use Rattle.ready_core.specs.Cores.{Origin, fed_at, flow_at, is_taking, jobs_of, paired}
-use Rattle.ready_core.specs.Courses.{IsAwaited, origin_in}
+use Rattle.ready_core.specs.Cores.{Origin, fed_at, flow_at, is_taking, jobs_of, origin_in, paired}
+use Rattle.ready_core.specs.Courses.{IsAwaited}
 use Rattle.ready_core.specs.Rows.{TakenJob}
 use Rattle.ready_core.specs.Turns.{AreShared, IsFirst, IsNext, IsShownBy, IsSight, is_closed, is_open, job_in, open_count}
 use Rattle.ready_core.proofs.Counted.{taking_itself}
-use Rattle.ready_core.proofs.Counting.{any_counts, count_cons, count_joined, count_mapped, count_turned, counts}
+use Rattle.ready_core.proofs.Counting.{any_counts, count_cons, count_joined, count_mapped, counts}
 use Rattle.ready_core.proofs.Paired.{job, request_paired}
 use Rattle.ready_core.proofs.Runs.{plan_flow}
 use Rattle.ready_core.proofs.Turning.{open_parts, seen_sight, unless_none}
@@ -92,8 +92,7 @@ no_fault c f t s h = let p = open_parts f h in s.shows ∙ ap (λ b. not (too_ma
 
 shown_count : (p : Plan) (from : ℕ) (t : Turn) → IsShownBy p from t → is_some t.fault ≡ false → (is : TakenJob → Bool) → count_by is t.ready.items ≡ count_by (λ (x : Prepared). is (job_in x)) (drop from (ready_in p))
 shown_count p from t shown none is =
-    ap (count_by is) (shown.ready ∙ unless_none t.fault (reverse (map job_in (drop from (ready_in p)))) none)
-    ∙ count_turned is (map job_in (drop from (ready_in p)))
+    ap (count_by is) (shown.ready ∙ unless_none t.fault (map job_in (drop from (ready_in p))) none)
     ∙ count_mapped job_in is (drop from (ready_in p))
 
 first_ready : (p : Plan) (t : Turn) → IsTold p [] → IsShownBy p 0 t → is_some t.fault ≡ false → AreShared (flow_at (origin_in p) []) [] [] t.ready.items

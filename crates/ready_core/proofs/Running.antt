@@ -1,5 +1,5 @@
 -- The fields of a core, from one call to the next.
-use Rattle.std.proofs.Common.{zero, suc, false, ◌⊎◌, cond, not, ◌&&◌, ◌||◌, None, IfSome, IfNone, ◌≡◌, ℕ, Bool, ◌+◌, ◌<◌, ◌≤◌, true, List, [], ◌∷◌, ◌++◌, Contains, Option, Some, IsSome, is_some, length, length-append, remove, slice_index_or, vec_capacity, vec_len, arith, sym, ap, ◌∙◌, subst, refl}
+use Rattle.std.proofs.Common.{zero, suc, false, ◌⊎◌, cond, not, ◌&&◌, ◌||◌, None, IfSome, IfNone, ◌≡◌, ℕ, Bool, ◌+◌, ◌<◌, ◌≤◌, true, List, [], ◌∷◌, ◌++◌, Contains, Option, Some, IsSome, is_some, length, length-append, remove, slice_index_or, vec_capacity, vec_len, deque_len, arith, sym, ap, ◌∙◌, subst, refl}
 use Rattle.std.proofs.lemmas.Bool.{false≢true}
 use Rattle.std.proofs.lemmas.List.Elements.{All-contains}
 use Rattle.wdl_base.specs.declared.entry.Entry.{Entry}
@@ -9,6 +9,7 @@ use Rattle.wdl_base.specs.declared.step.Step.{Step}
 use Rattle.wdl_base.specs.declared.step.Step.TheVariants as step
 use Rattle.wdl_base.specs.Same.{same_request}
 use Rattle.wdl_typed.specs.Flow.{Flowing, too_many}
+use Rattle.scatter_plan.specs.declared.plan.Plan.{Plan}
 use Rattle.flow_laws.proofs.SameRequests.{request_itself, request_same}
 use Rattle.ready_core.specs.declared.course.Course.{Course}
 use Rattle.ready_core.specs.declared.course.Course.TheVariants.{Planned, Past}
@@ -16,7 +17,7 @@ use Rattle.ready_core.specs.declared.log.Log.{Log}
 use Rattle.ready_core.specs.declared.turn.Turn.{Turn}
 use Rattle.ready_core.specs.Cores as core
 use Rattle.ready_core.specs.Cores.{CoreState, Origin, all_taken, flow_at, has_fault, idle_at, is_taken, met_after, requests}
-use Rattle.ready_core.specs.Courses.{IsAwaited, IsOnCourse, kept, origin_of}
+use Rattle.ready_core.specs.Courses.{IsAwaited, IsOnCourse, kept, origin_of, plan_of}
 use Rattle.ready_core.specs.Inside.{HasRoomFor, IsRun, Stands, state}
 use Rattle.ready_core.specs.Logs.{HasRoom, IsEmpty, IsPlaceOf, IsWider, Settles, Takes}
 use Rattle.ready_core.specs.Rows.{TakenJob}
@@ -61,16 +62,31 @@ room_first n m k log h e = record { taken = omega (arith, h.taken, e); out = ome
 
 -- ---- states
 
-abbrev stated : Origin → List Entry → List TakenJob → List TakenJob → List Step → CoreState
-stated o j taken out steps = record { origin = o; journal = j; taken = taken; out = out; steps = steps }
+abbrev stated : Option Plan → Origin → List Entry → List TakenJob → List TakenJob → List Step → CoreState
+stated plan o j taken out steps = record { origin = o; journal = j; taken = taken; out = out; steps = steps; plan = plan }
 
-same_state : {o p : Origin} {j k : List Entry} {t u out more : List TakenJob} {s r : List Step} → o ≡ p → j ≡ k → t ≡ u → out ≡ more → s ≡ r → stated o j t out s ≡ stated p k u more r
-same_state {o} {p} {j} {k} {t} {u} {out} {more} {s} {r} z a b c d =
-    ap (λ x. stated x j t out s) z ∙ ap (λ x. stated p x t out s) a ∙ ap (λ x. stated p k x out s) b ∙ ap (λ x. stated p k u x s) c ∙ ap (stated p k u more) d
+same_state : (plan : Option Plan) {o p : Origin} {j k : List Entry} {t u out more : List TakenJob} {s r : List Step} → o ≡ p → j ≡ k → t ≡ u → out ≡ more → s ≡ r
+    → stated plan o j t out s ≡ stated plan p k u more r
+same_state plan {o} {p} {j} {k} {t} {u} {out} {more} {s} {r} z a b c d =
+    ap (λ x. stated plan x j t out s) z ∙ ap (λ x. stated plan p x t out s) a ∙ ap (λ x. stated plan p k x out s) b ∙ ap (λ x. stated plan p k u x s) c ∙ ap (stated plan p k u more) d
 
 -- The fields have another course, a wider log and a roomier turn.
-pub state_kept : (s then_ : Course) (log wide : Log) → origin_of then_ ≡ origin_of s → IsWider log wide → state then_ wide ≡ state s log
-state_kept s then_ log wide same w = same_state same w.journal w.taken w.out w.steps
+pub state_kept : (s then_ : Course) (log wide : Log) → origin_of then_ ≡ origin_of s → IsWider log wide → state then_ wide ≡ record (state s log) { plan = plan_of then_ }
+state_kept s then_ log wide same w = same_state (plan_of then_) same w.journal w.taken w.out w.steps
+
+-- A settle says nothing of the plan before it.
+pub settles_bare : (s t : CoreState) (e : Entry) (plan : Option Plan) → core.Settles (record s { plan = plan }) e t → core.Settles s e t
+settles_bare s t e plan h =
+    record {
+      was_out = h.was_out;
+      held = h.held;
+      fresh = h.fresh;
+      fed = h.fed;
+      out = h.out;
+      left = h.left;
+      origin = h.origin;
+      after = h.after;
+    }
 
 module _ (s then_ : Course) (log wide : Log) (t roomy : Turn) (same : origin_of then_ ≡ origin_of s) (w : IsWider log wide) (r : IsRoomier t roomy) where
   module _ (run : IsRun s log t) (on : IsOnCourse then_ t.many log.journal.items) where
@@ -108,7 +124,7 @@ module _ (s then_ : Course) (log wide : Log) (t roomy : Turn) (same : origin_of 
           stands = moved.1;
           turn = moved.2;
           met = moved.3;
-          room = subst (λ n. HasRoom n n wide) (sym r.length) (room_wider (vec_len t.ready) log wide run.room w);
+          room = subst (λ n. HasRoom n n wide) (sym r.length) (room_wider (deque_len t.ready) log wide run.room w);
           course = moved.4;
         }
 
@@ -119,7 +135,7 @@ turn_of : (o : Origin) (j : List Entry) (out : List TakenJob) (t : Turn) → IsS
 turn_of o j out t s h = record { even = s.even; closed = s.closed; shared = h; fault = s.fault; many = s.many; outcome = s.outcome }
 
 pub run_started : (s : Course) (none log : Log) (t : Turn) → IsSome (origin_of s).checked.main → IsOnCourse s t.many [] → IsFirst (origin_of s) t → IsEmpty none → IsWider none log
-    → HasRoom (vec_len t.ready) (vec_len t.ready) log → IsRun s log t
+    → HasRoom (deque_len t.ready) (deque_len t.ready) log → IsRun s log t
 run_started s none log t main on first empty wider room =
     let o = origin_of s in
     let journal : log.journal.items ≡ [] = wider.journal ∙ empty.journal in
@@ -138,9 +154,9 @@ run_started s none log t main on first empty wider room =
       course = subst (IsOnCourse s t.many) (sym journal) on;
     }
 
-pub state_started : (s : Course) (none log : Log) (o : Origin) → origin_of s ≡ o → IsEmpty none → IsWider none log → state s log ≡ core.started o
+pub state_started : (s : Course) (none log : Log) (o : Origin) → origin_of s ≡ o → IsEmpty none → IsWider none log → state s log ≡ core.started o (plan_of s)
 state_started s none log o is empty wider =
-    same_state is (wider.journal ∙ empty.journal) (wider.taken ∙ empty.taken) (wider.out ∙ empty.out) (wider.steps ∙ empty.steps)
+    same_state (plan_of s) is (wider.journal ∙ empty.journal) (wider.taken ∙ empty.taken) (wider.out ∙ empty.out) (wider.steps ∙ empty.steps)
 
 -- ---- taking a job
 
@@ -159,15 +175,15 @@ run_idle s log t r none =
     (λ h. all_were_taken f log.journal.items log.out.items log.taken.items (r.turn.even (open_parts f h).1)
     (subst (AreShared f log.journal.items log.out.items) none (r.turn.shared h)) r.stands.balances)
 
-module _ (s : Course) (log next : Log) (t after : Turn) (j : TakenJob) (r : IsRun s log t) (takes : Takes log j next) (ready : t.ready.items ≡ after.ready.items ++ j ∷ []) where
+module _ (s : Course) (log next : Log) (t after : Turn) (j : TakenJob) (r : IsRun s log t) (takes : Takes log j next) (ready : t.ready.items ≡ j ∷ after.ready.items) where
   abbrev o : Origin
   o = origin_of s
 
   abbrev before : Flowing
   before = flow_at o log.journal.items
 
-  some_ready : (xs : List TakenJob) → xs ++ j ∷ [] ≡ [] → ⊥
-  some_ready xs e = omega (arith, ap length e, length-append xs (j ∷ []))
+  some_ready : (xs : List TakenJob) → j ∷ xs ≡ [] → ⊥
+  some_ready xs e = cc
 
   not_closed : is_closed before ≡ false
   not_closed = by_test (is_closed before) refl
@@ -176,7 +192,7 @@ module _ (s : Course) (log next : Log) (t after : Turn) (j : TakenJob) (r : IsRu
       by_test true e = absurd (some_ready after.ready.items (sym ready ∙ r.turn.closed e))
       by_test false e = refl
 
-  shared : AreShared before log.journal.items log.out.items (after.ready.items ++ j ∷ [])
+  shared : AreShared before log.journal.items log.out.items (j ∷ after.ready.items)
   shared = subst (AreShared before log.journal.items log.out.items) ready (r.turn.shared not_closed)
 
   may : core.MayTake before log.taken.items j
@@ -192,7 +208,7 @@ module _ (s : Course) (log next : Log) (t after : Turn) (j : TakenJob) (r : IsRu
       (subst (Stands o log.journal.items (log.taken.items ++ j ∷ [])) (sym takes.out)
       (taken_stands o log.journal.items log.taken.items log.out.items j r.stands (open_parts before not_closed).1 may)))
 
-  pub run_taken : after.fault ≡ t.fault → after.many ≡ t.many → after.outcome ≡ t.outcome → vec_len after.ready + 1 ≡ vec_len t.ready → IsRun s next after
+  pub run_taken : after.fault ≡ t.fault → after.many ≡ t.many → after.outcome ≡ t.outcome → deque_len after.ready + 1 ≡ deque_len t.ready → IsRun s next after
   run_taken fault many outcome len =
       record {
         main = r.main;
@@ -209,7 +225,7 @@ module _ (s : Course) (log next : Log) (t after : Turn) (j : TakenJob) (r : IsRu
               outcome = outcome ∙ r.turn.outcome;
             }));
         met = ap is_some fault ∙ r.met ∙ ap (met_after (flow_at o) []) (sym kept_journal);
-        room = room_taken (vec_len t.ready) (vec_len after.ready) log next j r.room len takes;
+        room = room_taken (deque_len t.ready) (deque_len after.ready) log next j r.room len takes;
         course = subst (λ b. IsOnCourse s b next.journal.items) (sym many) (subst (IsOnCourse s t.many) (sym kept_journal) r.course);
       }
 
@@ -227,7 +243,7 @@ module _ (s : Course) (log next : Log) (t after : Turn) (j : TakenJob) (r : IsRu
         may = may;
         few = stands_next.few;
         origin = refl;
-        after = same_state refl kept_journal takes.taken takes.out takes.steps;
+        after = same_state (plan_of s) refl kept_journal takes.taken takes.out takes.steps;
       }
 
 -- ---- what is out
@@ -394,7 +410,7 @@ module _ (s : Course) (log next : Log) (t fresh after : Turn) (at : ℕ) (e : En
           stands = moved_then.1;
           turn = moved_then.2;
           met = moved_then.3;
-          room = room_settled (vec_len t.ready + vec_len fresh.ready) (vec_len after.ready) at e log next room.jobs followed.length settles;
+          room = room_settled (deque_len t.ready + deque_len fresh.ready) (deque_len after.ready) at e log next room.jobs followed.length settles;
           course =
               subst (IsOnCourse (kept s) after.many) (sym settles.journal)
               (subst (λ b. IsOnCourse (kept s) b (log.journal.items ++ e ∷ [])) (sym followed.many) on);
@@ -412,6 +428,6 @@ module _ (s : Course) (log next : Log) (t fresh after : Turn) (at : ℕ) (e : En
         left = without log.out.items next.out.items at e.request is_out settles.out;
         origin = kept_origin s;
         after =
-            same_state (kept_origin s) settles.journal taken_next refl
+            same_state (plan_of (kept s)) (kept_origin s) settles.journal taken_next refl
             (settles.steps ∙ ap (λ (q : Request). log.steps.items ++ step.Settled q.place ∷ []) same_job);
       }

@@ -58,14 +58,14 @@ split_open f journal p is = by_list (jobs_of f)
 
 -- ---- taking a job
 
-module _ (f : Flowing) (journal : List Entry) (out taken ready : List TakenJob) (j : TakenJob) (shared : AreShared f journal out (ready ++ j ∷ [])) where
+module _ (f : Flowing) (journal : List Entry) (out taken ready : List TakenJob) (j : TakenJob) (shared : AreShared f journal out (j ∷ ready)) where
   ready_count : (is : TakenJob → Bool) → is j ≡ true → count_by is ready + 1 + count_by is out ≡ open_count f journal is
-  ready_count is e = omega (arith, shared_at f journal out (ready ++ j ∷ []) is shared, count_push is ready j, ap (λ b. cond {A = ℕ} b 1 0) e)
+  ready_count is e = omega (arith, shared_at f journal out (j ∷ ready) is shared, count_cons is j ready, ap (λ b. cond {A = ℕ} b 1 0) e)
 
   a_job : Contains (jobs_of f) j
   a_job =
       jobs_within (j ∷ []) (jobs_of f)
-      (λ is. omega (arith, shared_at f journal out (ready ++ j ∷ []) is shared, count_joined is ready (j ∷ []), count_both is (is_open journal) (jobs_of f))) j (0, omega arith, refl)
+      (λ is. omega (arith, shared_at f journal out (j ∷ ready) is shared, count_joined is (j ∷ []) ready, count_both is (is_open journal) (jobs_of f))) j (0, omega arith, refl)
 
   none_shut : (b : Bool) → cond {A = ℕ} (not b && b) 1 0 ≡ 0
   none_shut true = refl
@@ -98,7 +98,7 @@ module _ (f : Flowing) (journal : List Entry) (out taken ready : List TakenJob) 
 
   pub shared_taken : AreShared f journal (out ++ j ∷ []) ready
   unfolding AreShared
-  shared_taken is = omega (arith, shared is, count_push is ready j, count_push is out j)
+  shared_taken is = omega (arith, shared is, count_cons is j ready, count_push is out j)
 
 -- Where no job may be taken, all were taken.
 module _ (f : Flowing) (journal : List Entry) (out taken : List TakenJob) (even : length f.codes ≡ length f.jobs) (shared : AreShared f journal out []) (balances : Balances out journal taken) where

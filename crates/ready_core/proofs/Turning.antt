@@ -1,5 +1,5 @@
 -- What a flow comes to as answers come.
-use Rattle.std.proofs.Common.{◌≡◌, ℕ, Bool, true, false, cond, not, nat_lt, ◌&&◌, ◌||◌, ◌⊎◌, inl, inr, List, [], ◌∷◌, ◌++◌, reverse, map, drop, Contains, Option, Some, None, count_by, is_some, length, append_assoc, arith, sym, ap, ◌∙◌, subst, refl}
+use Rattle.std.proofs.Common.{◌≡◌, ℕ, Bool, true, false, cond, not, nat_lt, ◌&&◌, ◌||◌, ◌⊎◌, inl, inr, List, [], ◌∷◌, ◌++◌, map, drop, Contains, Option, Some, None, count_by, is_some, length, append_assoc, arith, sym, ap, ◌∙◌, subst, refl}
 use Rattle.std.proofs.lemmas.Bool.{false≢true, false_from_ne_true, ltb-false, ltb-true, or_cases, or_left, or_parts}
 use Rattle.std.proofs.Math.Bool.{or_assoc}
 use Rattle.wdl_base.specs.declared.entry.Entry.{Entry}
@@ -112,7 +112,7 @@ seen_sight p g from t few even faults outputs shown =
     let some : is_some t.fault ≡ has_fault g = ap is_some shown.fault ∙ first.1 in
     record {
       even = λ k. even;
-      closed = λ k. shown.ready ∙ unless_some t.fault (reverse (map job_in (drop from (ready_in p)))) (some ∙ closed_fault (has_fault g) (too_many g) few k);
+      closed = λ k. shown.ready ∙ unless_some t.fault (map job_in (drop from (ready_in p))) (some ∙ closed_fault (has_fault g) (too_many g) few k);
       fault = subst (IsFaultOf g) (sym shown.fault) first.0;
       shows = some ∙ sym (ap (λ b. not b && has_fault g) few);
       many = shown.many ∙ sym few;

@@ -1,5 +1,5 @@
 -- What contracts see of a core, and its two transitions.
-use Rattle.std.specs.Prelude.{◌≡◌, ℕ, ◌+◌, ◌<◌, ◌≤◌, Bool, true, false, not, ◌&&◌, ◌||◌, ◌==◌, List, [], ◌∷◌, ◌++◌, Contains, count_by, length, map, remove, slice_index_or}
+use Rattle.std.specs.Prelude.{◌≡◌, ℕ, ◌+◌, ◌<◌, ◌≤◌, Bool, true, false, not, ◌&&◌, ◌||◌, ◌==◌, List, [], ◌∷◌, ◌++◌, Contains, Option, Some, count_by, length, map, remove, slice_index_or}
 use Rattle.std.specs.List.{list_all, list_any}
 use Rattle.wdl_base.specs.declared.entry.Entry.{Entry}
 use Rattle.wdl_base.specs.declared.place.Segment.{Segment}
@@ -12,7 +12,8 @@ use Rattle.wdl_value.specs.Tables.{has_row, table}
 use Rattle.wdl_typed.specs.declared.checked.Checked.{Checked}
 use Rattle.wdl_typed.specs.Flow.{Flowing, is_empty, too_many}
 use Rattle.wdl_typed.specs.Requests.{Successes}
-use Rattle.scatter_plan.specs.Plans.{cost_with}
+use Rattle.scatter_plan.specs.declared.plan.Plan.{Plan}
+use Rattle.scatter_plan.specs.Plans.{IsTold, checked_in, cost_with, inputs_in, site_in}
 use Rattle.ready_core.specs.Flows.{flow_after, is_fed}
 use Rattle.ready_core.specs.Rows.{TakenJob}
 
@@ -21,6 +22,9 @@ pub record Origin : Type 0 where
   pub checked : Checked
   pub inputs : List Bind
   pub site : List ℕ
+
+abbrev pub origin_in : Plan → Origin
+origin_in p = record { checked = checked_in p; inputs = inputs_in p; site = site_in p }
 
 -- the flow of the main workflow over a journal
 abbrev pub flow_at : Origin → List Entry → Flowing
@@ -95,19 +99,22 @@ requests = map (λ (j : TakenJob). j.request)
 
 -- ---- the core
 
+-- `plan` is the plan that was told of the answers of the journal and of no others. There is none past the limits, nor from a settle
+-- that wanted memory up to the next one, which makes the plan anew.
 pub record CoreState : Type 0 where
   pub origin : Origin
   pub journal : List Entry
   pub taken : List TakenJob
   pub out : List TakenJob
   pub steps : List Step
+  pub plan : Option Plan
 
 -- what is out was taken, and no entry has its place and attempt
 unfoldable pub AreHeld : CoreState → Type 0
 AreHeld s = (r : Request) → Contains (requests s.out) r → Contains (requests s.taken) r × (has_row (table s.journal) r.place r.attempt ≡ false)
 
-abbrev pub started : Origin → CoreState
-started o = record { origin = o; journal = []; taken = []; out = []; steps = [] }
+abbrev pub started : Origin → Option Plan → CoreState
+started o plan = record { origin = o; journal = []; taken = []; out = []; steps = []; plan = plan }
 
 -- the flow over the journal
 abbrev pub flow_of : CoreState → Flowing
@@ -145,8 +152,24 @@ pub record Settles (s : CoreState) (e : Entry) (t : CoreState) : Type 0 where
   pub out : length t.out + 1 ≡ length s.out
   pub left : AreWithout s.out e.request t.out
   pub origin : t.origin ≡ s.origin
-  pub after : t ≡ record s { journal = s.journal ++ e ∷ []; out = t.out; steps = s.steps ++ Settled e.request.place ∷ [] }
+  pub after : t ≡ record s { journal = s.journal ++ e ∷ []; out = t.out; steps = s.steps ++ Settled e.request.place ∷ []; plan = t.plan }
 
 -- A fault that was met stays met.
 abbrev pub FaultsStay : Type 0
 FaultsStay = (s t : CoreState) (e : Entry) → Settles s e t → has_met_fault s ≡ true → has_met_fault t ≡ true
+
+-- ---- what was evaluated
+
+-- No more was evaluated, since the counter stood at `start`, than the flow over the journal costs. The plan paid for all of it, so
+-- that the next answer pays for no more than it lets be evaluated.
+pub record IsPaidBy (start now : ℕ) (o : Origin) (journal : List Entry) (plan : Option Plan) : Type 0 where
+  pub within : now ≤ start + cost_at o journal
+  pub payer : Plan
+  pub is_plan : plan ≡ Some payer
+  pub of : origin_in payer ≡ o
+  pub told : IsTold payer (table journal)
+  pub paid : now ≤ start + told.paid
+
+-- Each expression was evaluated once at most since the counter stood at `start`, where the flow is within its limits.
+abbrev pub IsPaidFor : ℕ → ℕ → CoreState → Type 0
+IsPaidFor start now s = too_many (flow_of s) ≡ false → IsPaidBy start now s.origin s.journal s.plan

@@ -1,17 +1,14 @@
 -- The plan of a run, beside its journal.
-use Rattle.std.specs.Prelude.{◌≡◌, ℕ, ◌+◌, ◌≤◌, Bool, true, false, List, Contains}
+use Rattle.std.specs.Prelude.{◌≡◌, ℕ, ◌+◌, ◌≤◌, Bool, true, false, List, Contains, Option, Some, None, if◌then◌else◌}
 use Rattle.wdl_base.specs.declared.entry.Entry.{Entry}
 use Rattle.wdl_base.specs.declared.request.Request.{Request}
 use Rattle.wdl_value.specs.Tables.{Row, has_row, table}
 use Rattle.wdl_typed.specs.Flow.{Flowing}
 use Rattle.scatter_plan.specs.declared.plan.Plan.{Plan}
-use Rattle.scatter_plan.specs.Plans.{IsMade, IsTold, checked_in, inputs_in, site_in}
+use Rattle.scatter_plan.specs.Plans.{IsMade, IsTold}
 use Rattle.ready_core.specs.declared.course.Course.{Course}
 use Rattle.ready_core.specs.declared.course.Course.TheVariants.{Planned, Past}
-use Rattle.ready_core.specs.Cores.{Origin}
-
-abbrev pub origin_in : Plan → Origin
-origin_in p = record { checked = checked_in p; inputs = inputs_in p; site = site_in p }
+use Rattle.ready_core.specs.Cores.{Origin, origin_in}
 
 -- what a run is of
 abbrev pub origin_of : Course → Origin
@@ -22,6 +19,11 @@ origin_of (Past o) = record { checked = o.checked; inputs = o.inputs; site = o.s
 abbrev pub is_stale : Course → Bool
 is_stale (Planned plan stale) = stale
 is_stale (Past o) = false
+
+-- the plan, where it was told of the run's journal and of no other answer
+abbrev pub plan_of : Course → Option Plan
+plan_of (Planned plan stale) = if stale then None else Some plan
+plan_of (Past o) = None
 
 -- the same, with a plan that was told of the run's journal
 abbrev pub kept : Course → Course

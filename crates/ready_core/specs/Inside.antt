@@ -1,5 +1,6 @@
 -- The fields of a core.
 use Rattle.std.specs.Prelude.{◌≡◌, ◌+◌, ◌≤◌, true, Bool, List, [], Contains, IsSome, count_by, is_some, length, ◌<◌, vec_capacity, vec_len}
+use Rattle.std.specs.VecDeque.{deque_capacity, deque_len}
 use Rattle.wdl_base.specs.declared.entry.Entry.{Entry}
 use Rattle.wdl_base.specs.declared.request.Request.{Request}
 use Rattle.wdl_typed.specs.Flow.{Flowing}
@@ -8,13 +9,13 @@ use Rattle.ready_core.specs.declared.log.Log.{Log}
 use Rattle.ready_core.specs.declared.ready.Core.TheInside.{Inside}
 use Rattle.ready_core.specs.declared.turn.Turn.{Turn}
 use Rattle.ready_core.specs.Cores.{CoreState, Origin, fed_at, flow_at, is_taking, met_after}
-use Rattle.ready_core.specs.Courses.{IsOnCourse, origin_of}
+use Rattle.ready_core.specs.Courses.{IsOnCourse, origin_of, plan_of}
 use Rattle.ready_core.specs.Logs.{HasRoom}
 use Rattle.ready_core.specs.Rows.{TakenJob}
 use Rattle.ready_core.specs.Turns.{IsTurn}
 
 abbrev pub state : Course → Log → CoreState
-state s l = record { origin = origin_of s; journal = l.journal.items; taken = l.taken.items; out = l.out.items; steps = l.steps.items }
+state s l = record { origin = origin_of s; journal = l.journal.items; taken = l.taken.items; out = l.out.items; steps = l.steps.items; plan = plan_of s }
 
 abbrev pub state_of : Inside → CoreState
 state_of c = state c.course c.log
@@ -48,7 +49,7 @@ pub record IsRun (s : Course) (l : Log) (t : Turn) : Type 0 where
   pub stands : Stands (origin_of s) l.journal.items l.taken.items l.out.items
   pub turn : IsTurn (origin_of s).checked (flow_at (origin_of s) l.journal.items) l.journal.items l.out.items t
   pub met : is_some t.fault ≡ met_after (flow_at (origin_of s)) [] l.journal.items
-  pub room : HasRoom (vec_len t.ready) (vec_len t.ready) l
+  pub room : HasRoom (deque_len t.ready) (deque_len t.ready) l
   pub course : IsOnCourse s t.many l.journal.items
 
 abbrev pub IsCore : Inside → Type 0
@@ -56,6 +57,6 @@ IsCore c = IsRun c.course c.log c.turn
 
 -- room for the jobs of a next turn, and for an answer
 pub record HasRoomFor (t : Turn) (l : Log) (next : Turn) : Type 0 where
-  pub ready : vec_len t.ready + vec_len next.ready ≤ vec_capacity t.ready
-  pub jobs : HasRoom (vec_len t.ready + vec_len next.ready) (vec_len t.ready + vec_len next.ready + 1) l
+  pub ready : deque_len t.ready + deque_len next.ready ≤ deque_capacity t.ready
+  pub jobs : HasRoom (deque_len t.ready + deque_len next.ready) (deque_len t.ready + deque_len next.ready + 1) l
   pub entry : vec_len l.journal < vec_capacity l.journal

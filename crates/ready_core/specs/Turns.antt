@@ -1,5 +1,6 @@
 -- What a flow comes to for a core.
-use Rattle.std.specs.Prelude.{◌≡◌, ◌⊎◌, ℕ, ◌+◌, ◌≤◌, Bool, true, false, not, ◌&&◌, ◌||◌, List, [], ◌∷◌, ◌++◌, Contains, Option, Some, None, cond, count_by, drop, if◌then◌else◌, is_some, length, map, reverse, slice_get, vec_len}
+use Rattle.std.specs.Prelude.{◌≡◌, ◌⊎◌, ℕ, ◌+◌, ◌≤◌, Bool, true, false, not, ◌&&◌, ◌||◌, List, [], ◌∷◌, ◌++◌, Contains, Option, Some, None, cond, count_by, drop, if◌then◌else◌, is_some, length, map, slice_get}
+use Rattle.std.specs.VecDeque.{deque_len}
 use Rattle.wdl_base.specs.declared.entry.Entry.{Entry}
 use Rattle.wdl_base.specs.declared.fault.Fault.{Fault}
 use Rattle.wdl_value.specs.Tables.{has_row, table}
@@ -95,7 +96,7 @@ unless_fault None jobs = jobs
 
 -- the jobs that wait from a number on, a fault, and the outputs
 pub record IsShownBy (p : Plan) (from : ℕ) (t : Turn) : Type 0 where
-  pub ready : t.ready.items ≡ unless_fault t.fault (reverse (map job_in (drop from (ready_in p))))
+  pub ready : t.ready.items ≡ unless_fault t.fault (map job_in (drop from (ready_in p)))
   pub fault : t.fault ≡ first_fault (faults_in p)
   pub many : t.many ≡ false
   pub outcome : t.outcome ≡ outputs_in p
@@ -109,7 +110,7 @@ gathered t ready = if is_some t.fault || t.many then [] else ready ++ t.ready.it
 -- the same, with no less room
 pub record IsRoomier (a b : Turn) : Type 0 where
   pub ready : b.ready.items ≡ a.ready.items
-  pub length : vec_len b.ready ≡ vec_len a.ready
+  pub length : deque_len b.ready ≡ deque_len a.ready
   pub fault : b.fault ≡ a.fault
   pub many : b.many ≡ a.many
   pub outcome : b.outcome ≡ a.outcome
@@ -117,7 +118,7 @@ pub record IsRoomier (a b : Turn) : Type 0 where
 -- the next turn in place of this one
 pub record IsFollowed (a next b : Turn) : Type 0 where
   pub ready : b.ready.items ≡ gathered next a.ready.items
-  pub length : vec_len b.ready ≤ vec_len a.ready + vec_len next.ready
+  pub length : deque_len b.ready ≤ deque_len a.ready + deque_len next.ready
   pub fault : b.fault ≡ earlier a.fault next.fault
   pub many : b.many ≡ next.many
   pub outcome : b.outcome ≡ next.outcome

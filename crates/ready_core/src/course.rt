@@ -5,7 +5,7 @@ ghost use Rattle.wdl_typed.specs.Flow.{too_many};
 ghost use Rattle.wdl_typed.specs.Journal.{inputs_fit};
 ghost use Rattle.scatter_plan.specs.Calls.{IsOfSame};
 ghost use Rattle.scatter_plan.specs.Plans.{IsMade, IsTold};
-ghost use Rattle.ready_core.specs.Cores.{fed_at, flow_at};
+ghost use Rattle.ready_core.specs.Cores.{fed_at, flow_at, origin_in};
 ghost use Rattle.ready_core.specs.Courses as spec;
 ghost use Rattle.ready_core.specs.Turns as turns;
 
@@ -80,7 +80,7 @@ pub fn begin<S: Ledger>(
 fn planned(alloc: Global, plan: Plan) -> Result<Begun, NoMemory>
     requires told { IsTold plan [] }
     ensures course { IfOk result (λ b. b.course ≡ spec.planned_by plan) }
-    ensures first { IfOk result (λ b. turns.IsFirst (spec.origin_in plan) b.turn) }
+    ensures first { IfOk result (λ b. turns.IsFirst (origin_in plan) b.turn) }
 {
     let turn = shown_by(alloc, &plan, 0)?;
     let course = Course::Planned { plan, stale: false };
@@ -97,8 +97,8 @@ fn catch_up<S: Ledger>(
 ) -> Result<(), NoMemory>
     requires made { IsMade plan.old }
     requires told { stale ≡ false → IsTold plan.old (table journal.now) }
-    requires fed { fed_at (spec.origin_in plan.old) journal.now ≡ true }
-    requires few { too_many (flow_at (spec.origin_in plan.old) journal.now) ≡ false }
+    requires fed { fed_at (origin_in plan.old) journal.now ≡ true }
+    requires few { too_many (flow_at (origin_in plan.old) journal.now) ≡ false }
     ensures origin { IsOfSame plan.old plan.new }
     ensures made { IsMade plan.new }
     ensures caught { OnOk result (spec.IsFurther stale (table journal.now) (table journal.now) plan.old steps.old steps.new plan.new) }
@@ -119,10 +119,10 @@ fn tell<S: Ledger>(
 ) -> Result<Turn, NoMemory>
     requires made { IsMade plan.old }
     requires told { IsTold plan.old (table journal.now) }
-    requires awaited { spec.IsAwaited (flow_at (spec.origin_in plan.old) journal.now) journal.now entry.now.request }
+    requires awaited { spec.IsAwaited (flow_at (origin_in plan.old) journal.now) journal.now entry.now.request }
     ensures origin { IsOfSame plan.old plan.new }
     ensures made { IsMade plan.new }
-    ensures next { IfOk result (turns.IsNext (spec.origin_in plan.old) journal.now entry.now) }
+    ensures next { IfOk result (turns.IsNext (origin_in plan.old) journal.now entry.now) }
     ensures told { (was : IsTold plan.old (table journal.now)) → IfOk result (λ t. t.many ≡ false → (told : IsTold plan.new (table (journal.now ++ entry.now ∷ []))) × (steps.new + was.paid ≤ steps.old + told.paid)) }
 {
     let waiting = plan.ready().len();
@@ -146,12 +146,12 @@ fn tell_anew<S: Ledger>(
 ) -> Result<Turn, NoMemory>
     requires made { IsMade plan.old }
     requires told { stale ≡ false → IsTold plan.old (table journal.now) }
-    requires fed { fed_at (spec.origin_in plan.old) journal.now ≡ true }
-    requires few { too_many (flow_at (spec.origin_in plan.old) journal.now) ≡ false }
-    requires awaited { spec.IsAwaited (flow_at (spec.origin_in plan.old) journal.now) journal.now entry.now.request }
+    requires fed { fed_at (origin_in plan.old) journal.now ≡ true }
+    requires few { too_many (flow_at (origin_in plan.old) journal.now) ≡ false }
+    requires awaited { spec.IsAwaited (flow_at (origin_in plan.old) journal.now) journal.now entry.now.request }
     ensures origin { IsOfSame plan.old plan.new }
     ensures made { IsMade plan.new }
-    ensures next { IfOk result (turns.IsNext (spec.origin_in plan.old) journal.now entry.now) }
+    ensures next { IfOk result (turns.IsNext (origin_in plan.old) journal.now entry.now) }
     ensures told { IfOk result (λ t. t.many ≡ false → spec.IsFurther stale (table journal.now) (table (journal.now ++ entry.now ∷ [])) plan.old steps.old steps.new plan.new) }
 {
     catch_up(alloc, plan, stale, journal, steps)?;

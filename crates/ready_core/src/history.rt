@@ -1,7 +1,7 @@
 use crate::job::Answered;
 use wdl_value::{Entry, Items, Step};
 
-/// Why an answer was not settled. It is handed back, and the core is as it was.
+/// Why an answer was not settled. It is handed back, and the core answers as it did.
 #[derive(Debug, Drop)]
 pub enum SettleFault {
     /// Its request is not that of a job that is out.

@@ -1,10 +1,12 @@
 ghost use Rattle.std.specs.Prelude.{◌≡◌, ◌<◌, ◌≤◌, ◌+◌, [], OnOk, length, vec_capacity, vec_len};
+ghost use Rattle.std.specs.VecDeque.{deque_len};
 ghost use Rattle.ready_core.specs.Logs as logs;
 
 use crate::history::History;
 use crate::job::{Answered, Job};
 use crate::pending::Pending;
 use std::alloc::Global;
+use std::collections::VecDeque;
 use wdl_value::{Entry, Items, NoMemory, Request, Step, same_request};
 
 /// What a run has done: its entries, the jobs that were taken, those of them that are out, and the steps.
@@ -43,9 +45,13 @@ impl Log {
     }
 
     /// Makes room to take each of these jobs, and to settle one answer more.
-    pub fn make_room(&mut self, ready: &[Pending], fresh: &[Pending]) -> Result<(), NoMemory>
+    pub fn make_room(
+        &mut self,
+        ready: &VecDeque<Pending>,
+        fresh: &VecDeque<Pending>,
+    ) -> Result<(), NoMemory>
         ensures same { logs.IsWider self.old self.new }
-        ensures room { OnOk result (logs.HasRoom (length ready.now + length fresh.now) (length ready.now + length fresh.now + 1) self.new) }
+        ensures room { OnOk result (logs.HasRoom (deque_len ready.now + deque_len fresh.now) (deque_len ready.now + deque_len fresh.now + 1) self.new) }
         ensures entry { OnOk result (vec_len self.new.journal < vec_capacity self.new.journal) }
     {
         let jobs = ready.len() + fresh.len();

@@ -7,7 +7,7 @@ ghost use Rattle.ready_core.specs.Cores as spec;
 ghost use Rattle.ready_core.specs.Cores.{Settles, Takes};
 ghost use Rattle.ready_core.specs.Courses.{IsOnCourse, IsPaid, kept, origin_of};
 ghost use Rattle.ready_core.specs.Flows.{outcome_of};
-ghost use Rattle.ready_core.specs.HandsBack.{HandsBack};
+ghost use Rattle.ready_core.specs.HandsBack.{HandsBack, IsUnsettled};
 ghost use Rattle.ready_core.specs.Inside.{HasRoomFor, IsRun};
 ghost use Rattle.ready_core.specs.Logs as logs;
 ghost use Rattle.ready_core.specs.Turns as turns;
@@ -18,6 +18,7 @@ use crate::job::{Answered, Job};
 use crate::log::{Log, place_of};
 use crate::turn::Turn;
 use std::alloc::Global;
+use std::collections::VecDeque;
 use std::marker::Model;
 use std::sync::ledger::Ledger;
 use wdl_typed::Checked;
@@ -40,8 +41,9 @@ impl Model for Core {
     ghost use Rattle.std.specs.Coded.{codes};
     ghost use Rattle.wdl_typed.specs.contracts.checked.Checked as checked;
     ghost use Rattle.wdl_value.specs.contracts.env.Bind as bind;
+    ghost use Rattle.scatter_plan.specs.contracts.plan.Plan as plan;
 
-    ghost coded = { Prim.hlevel (codes, checked.the_row.coded, bind.the_row.coded) };
+    ghost coded = { Prim.hlevel (codes, checked.the_row.coded, bind.the_row.coded, plan.the_row.coded) };
 
     ghost use Rattle.ready_core.specs.Inside.{IsCore, state_of};
 
@@ -72,7 +74,7 @@ fn next_turn<S: Ledger>(
 {
     let next = course.tell(alloc, turn.many, log.journal.as_slice(), entry, steps)?;
     turn.make_room(&next)?;
-    log.make_room(turn.ready.as_slice(), next.ready.as_slice())?;
+    log.make_room(&turn.ready, &next.ready)?;
     Ok(next)
 }
 
@@ -87,28 +89,32 @@ impl Core {
     ) -> Result<Core, NoMemory>
         requires main { IsSome checked.main }
         requires fit { (k : ℕ) (main : FlowDef) → checked.main ≡ Some k → slice_get checked.flows k ≡ Some main → inputs_fit checked.structs main.inputs inputs ≡ true }
-        ensures started { IfOk result (λ c. c ≡ spec.started (record { checked = checked; inputs = inputs; site = site })) }
-        ensures paid { IfOk result (λ c. flow.too_many (spec.flow_of c) ≡ false → steps.new ≤ steps.old + spec.cost_of c) }
+        ensures started { IfOk result (λ c. c ≡ spec.started (record { checked = checked; inputs = inputs; site = site }) c.plan) }
+        ensures paid { IfOk result (spec.IsPaidFor steps.old steps.new) }
     {
         let Begun { course, turn } = begin(alloc, checked, inputs, site, steps)?;
         let mut log = Log::new(alloc);
-        log.make_room(turn.ready.as_slice(), &[])?;
+        log.make_room(&turn.ready, &VecDeque::new(alloc))?;
         Ok(Core { course, log, turn })
     }
 
-    /// Takes a job of the flow over the journal that was not taken: its place and attempt are new. `None` exactly where a fault
-    /// stands, the flow is past its limits, or each of its jobs was taken. It takes no memory.
+    /// Takes a job of the flow over the journal that was not taken: its place and attempt are new.
+    /// It is the one that may be taken for longest, and of those that one answer made ready the
+    /// first in the order of the plan. `None` exactly where a fault stands, the flow is past its
+    /// limits, or each of its jobs was taken. It takes no memory.
     #[tactic(auto, using(crate::proofs::Running::run_idle))]
     pub fn take(&mut self) -> Option<Job>
         ensures taken { MatchOption result ((spec.idle_at self.old ≡ true) × (self.new ≡ self.old)) (λ j. Takes self.old j self.new) }
     {
-        let Some(pending) = self.turn.ready.pop() else {
+        let Some(pending) = self.turn.ready.pop_front() else {
             return None;
         };
         Some(self.log.take(pending))
     }
 
-    /// Settles the answer of a job that is out, whatever its status: the journal gains its entry.
+    /// Settles the answer of a job that is out, whatever its status: the journal gains its entry,
+    /// and what the answer lets be evaluated is evaluated. After `NoMemory` the next call evaluates
+    /// anew all that the journal lets be evaluated.
     pub fn settle<S: Ledger>(
         &mut self,
         alloc: Global,
@@ -116,9 +122,9 @@ impl Core {
         steps: &mut Steps<S>,
     ) -> Result<(), SettleFault>
         ensures ok { OnOk result (Settles self.old a self.new) }
-        ensures err { OnErr result (self.new ≡ self.old) }
+        ensures err { IfErr result (λ f. IsUnsettled f self.old self.new) }
         ensures fault { IfErr result (λ f. HandsBack f self.old.out a) }
-        ensures paid { OnOk result (flow.too_many (spec.flow_of self.new) ≡ false → steps.new ≤ steps.old + spec.cost_of self.new) }
+        ensures paid { OnOk result ((start : ℕ) → spec.IsPaidFor start steps.old self.old → spec.IsPaidFor start steps.new self.new) }
     {
         let Some(at) = place_of(self.log.out.as_slice(), &a.entry().request) else {
             return Err(SettleFault::Stranger(a));

@@ -1,6 +1,6 @@
 //! What a plan shows.
 
-ghost use Rattle.std.specs.Prelude.{◌≡◌, ◌≤◌, false, IfOk, length, map, reverse};
+ghost use Rattle.std.specs.Prelude.{◌≡◌, ◌≤◌, false, IfOk, length, map};
 ghost use Rattle.scatter_plan.specs.Plans.{outputs_in, ready_in};
 ghost use Rattle.ready_core.specs.Turns as turns;
 
@@ -8,6 +8,7 @@ use crate::pending::Pending;
 use crate::turn::Turn;
 use scatter_plan::Plan;
 use std::alloc::Global;
+use std::collections::VecDeque;
 use wdl_flow::Terms;
 use wdl_task::Prepared;
 use wdl_value::{Bind, Env, Fault, Items, NoMemory};
@@ -31,15 +32,14 @@ fn pending_of(alloc: Global, prepared: &Prepared) -> Result<Pending, NoMemory>
     Pending::new(alloc, request, terms)
 }
 
-/// The jobs of the attempts that wait, the first one last.
-fn pending_among(alloc: Global, waiting: &[Prepared]) -> Result<Vec<Pending>, NoMemory>
-    ensures jobs { IfOk result (λ r. r.items ≡ reverse (map turns.job_in waiting.now)) }
+/// The jobs of the attempts that wait, in their order.
+fn pending_among(alloc: Global, waiting: &[Prepared]) -> Result<VecDeque<Pending>, NoMemory>
+    ensures jobs { IfOk result (λ r. r.items ≡ map turns.job_in waiting.now) }
 {
-    let mut ready = Vec::new(alloc);
+    let mut ready = VecDeque::new(alloc);
     for prepared in waiting {
-        ready.push(pending_of(alloc, prepared)?)?;
+        ready.push_back(pending_of(alloc, prepared)?)?;
     }
-    ready.reverse();
     Ok(ready)
 }
 
@@ -48,11 +48,11 @@ fn pending_unless(
     alloc: Global,
     fault: &Option<Fault>,
     waiting: &[Prepared],
-) -> Result<Vec<Pending>, NoMemory>
-    ensures jobs { IfOk result (λ r. r.items ≡ turns.unless_fault fault.now (reverse (map turns.job_in waiting.now))) }
+) -> Result<VecDeque<Pending>, NoMemory>
+    ensures jobs { IfOk result (λ r. r.items ≡ turns.unless_fault fault.now (map turns.job_in waiting.now)) }
 {
     match fault {
-        Some(_) => Ok(Vec::new(alloc)),
+        Some(_) => Ok(VecDeque::new(alloc)),
         None => pending_among(alloc, waiting),
     }
 }

@@ -1,15 +1,17 @@
-ghost use Rattle.std.specs.Prelude.{◌≡◌, ◌+◌, ◌≤◌, [], OnOk, vec_capacity, vec_len};
+ghost use Rattle.std.specs.Prelude.{◌≡◌, ◌+◌, ◌≤◌, [], OnOk};
+ghost use Rattle.std.specs.VecDeque.{deque_capacity, deque_len};
 ghost use Rattle.ready_core.specs.Turns as turns;
 
 use crate::pending::Pending;
 use std::alloc::Global;
+use std::collections::VecDeque;
 use wdl_value::{Env, Fault, NoMemory};
 
-/// What the flow over a journal comes to: the jobs that may be taken, the next one last, a fault, whether it is past its limits,
+/// What the flow over a journal comes to: the jobs that may be taken, in the order in which they are taken, a fault, whether it is past its limits,
 /// and the outputs where it is clean. There are no such jobs where it has a fault or is past its limits.
 #[derive(Drop)]
 pub struct Turn {
-    pub ready: Vec<Pending>,
+    pub ready: VecDeque<Pending>,
     pub fault: Option<Fault>,
     pub many: bool,
     pub outcome: Option<Env>,
@@ -21,7 +23,7 @@ impl Turn {
         ensures past { turns.IsPastLimits result }
     {
         Turn {
-            ready: Vec::new(alloc),
+            ready: VecDeque::new(alloc),
             fault: None,
             many: true,
             outcome: None,
@@ -31,16 +33,16 @@ impl Turn {
     /// Makes room for the jobs of the next turn.
     pub fn make_room(&mut self, next: &Turn) -> Result<(), NoMemory>
         ensures same { turns.IsRoomier self.old self.new }
-        ensures room { OnOk result (vec_len self.new.ready + vec_len next.now.ready ≤ vec_capacity self.new.ready) }
+        ensures room { OnOk result (deque_len self.new.ready + deque_len next.now.ready ≤ deque_capacity self.new.ready) }
     {
-        self.ready.reserve(next.ready.len())?;
+        self.ready.try_reserve(next.ready.len())?;
         Ok(())
     }
 
     /// Puts the next turn in place of this one: its jobs behind those of this one, and none where it has a fault or is past
     /// the limits. A fault that was met stays.
     pub fn follow(&mut self, next: Turn)
-        requires room { vec_len self.old.ready + vec_len next.ready ≤ vec_capacity self.old.ready }
+        requires room { deque_len self.old.ready + deque_len next.ready ≤ deque_capacity self.old.ready }
         ensures followed { turns.IsFollowed self.old next self.new }
     {
         let Turn {
@@ -61,10 +63,10 @@ impl Turn {
         self.outcome = outcome;
     }
 
-    fn append(&mut self, ready: &mut Vec<Pending>)
-        requires room { vec_len self.old.ready + vec_len ready.old ≤ vec_capacity self.old.ready }
+    fn append(&mut self, ready: &mut VecDeque<Pending>)
+        requires room { deque_len self.old.ready + deque_len ready.old ≤ deque_capacity self.old.ready }
         ensures appended { turns.IsAppended self.old ready.old.items self.new }
-        ensures length { vec_len self.new.ready ≡ vec_len self.old.ready + vec_len ready.old }
+        ensures length { deque_len self.new.ready ≡ deque_len self.old.ready + deque_len ready.old }
     {
         let Ok(()) = self.ready.append(ready) else {
             unreachable!();

@@ -1,7 +1,7 @@
 use Rattle.std.proofs.Common.{◌+◌, ◌-◌, ◌≡◌, Err, ap, arith, length}
 use Rattle.wdl_value.specs.Tables.{table}
 use Rattle.scatter_plan.specs.Plans.{ready_in}
-use Rattle.ready_core.specs.Courses.{origin_in}
+use Rattle.ready_core.specs.Cores.{origin_in}
 use Rattle.ready_core.proofs.Planned.{awaited_waits, from_within, many_for, nexts_shown, some_wait, tolds_next}
 use Rattle.ready_core.proofs.Turning.{past_next}
 use Rattle.ready_core.proofs.course.tell.Goals as goal

@@ -13,7 +13,7 @@ invariant_of-self-2 c =
 pub returns : goal.returns
 returns c =
     let o = c.self.inside.course in
-    let after : Turn = record { ready = c.pop.new.self; fault = c.self.inside.turn.fault; many = c.self.inside.turn.many; outcome = c.self.inside.turn.outcome } in
+    let after : Turn = record { ready = c.pop_front.new.self; fault = c.self.inside.turn.fault; many = c.self.inside.turn.many; outcome = c.self.inside.turn.outcome } in
     record {
       taken =
           subst (λ (s : CoreState). Takes s c.take.result (state o c.take.new.self)) c.self.view_is

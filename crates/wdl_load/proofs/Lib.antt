@@ -1,0 +1,5 @@
+pub mod Plain
+pub mod Values
+pub mod Names
+pub mod Lines
+pub mod Rows
