@@ -26,7 +26,11 @@ use Rattle.wdl_port.specs.Causes.{Rose}
 use Rattle.wdl_port.specs.Rows.{are_kept, is_kept, kept_row, placed, put_row, request_order, row_order, with_entry}
 use Rattle.flow_laws.proofs.Elements.{contains_first, contains_later, first_or_later, none_within, only_one}
 use Rattle.flow_laws.proofs.SameRequests.{place_itself, request_same}
+use Rattle.scatter_plan.specs.declared.plan.Plan.{Plan}
 use Rattle.ready_core.specs.Cores.{AreHeld, CoreState, Origin, Settles, Takes, is_taken, requests, started}
+use Rattle.ready_core.specs.declared.history.SettleFault.{SettleFault}
+use Rattle.ready_core.specs.declared.history.SettleFault.TheVariants as settling
+use Rattle.ready_core.specs.HandsBack.{HandsBack, IsUnsettled}
 use Rattle.ready_core.specs.Rows.{TakenJob, is_usable, kept_as}
 use Rattle.work_desk.specs.declared.stop.Stop.{Stop}
 use Rattle.work_desk.specs.declared.stop.Stop.TheVariants.{Failed, NoMemory, Launch, Keep, TooMany}
@@ -88,6 +92,23 @@ settles_well c d e s t h m = record {
   among : (x : Entry) → Contains c.journal x ⊎ Contains (e ∷ []) x → Contains c.journal x ⊎ (x ≡ e)
   among x (inl old) = inl old
   among x (inr new) = inr (sym (only_one new))
+
+-- a settle that wanted memory
+pub unsettled : (f : SettleFault) (a : Entry) (c d : CoreState) → f ≡ settling.NoMemory a → IsUnsettled f c d → d ≡ record c { plan = d.plan }
+unsettled f a c d is h = subst (λ (x : SettleFault). IsUnsettled x c d) is h
+
+pub held_back : (f : SettleFault) (a : Entry) (out : List TakenJob) (e : Entry) → f ≡ settling.NoMemory a → HandsBack f out e → Contains (requests out) e.request
+held_back f a out e is h = (subst (λ (x : SettleFault). HandsBack x out e) is h).1
+
+-- the stop behind it
+pub unsettled_well : (c d : CoreState) (e : Entry) (s : Option Stop) → Contains (requests c.out) e.request → d ≡ record c { plan = d.plan } → Settling e c s d (halted s NoMemory)
+unsettled_well c d e s held same = record {
+  held = held;
+  origin = ap (λ (x : CoreState). x.origin) same;
+  taken = ap (λ (x : CoreState). x.taken) same;
+  journal = λ x at. inl (subst (λ (y : CoreState). Contains y.journal x) same at);
+  stop = halted_keeps s;
+}
 
 pub taken_itself : (c d : CoreState) (j : TakenJob) → Takes c j d → Contains d.taken j
 taken_itself c d j t = subst (λ (x : CoreState). Contains x.taken j) (sym t.after) (Contains-append_right c.taken (j ∷ []) j (contains_first j []))
@@ -388,9 +409,9 @@ module _ (gives : Request → Answer → Type 0) (rows : List Entry) (k : Keeper
 -- ---- from the beginning to the end
 
 -- before anything was taken or put
-pub went_started : (gives : Request → Answer → Type 0) (o : Origin) (s : Option Stop) (k : KeeperView) → ¬ (s ≡ Some Keep) → Went gives (started o) s k k
+pub went_started : (gives : Request → Answer → Type 0) (o : Origin) (plan : Option Plan) (s : Option Stop) (k : KeeperView) → ¬ (s ≡ Some Keep) → Went gives (started o plan) s k k
 unfolding AreFrom AreKept AreLeft
-went_started gives o s k other =
+went_started gives o plan s k other =
     record {
       path = refl;
       faults = omega arith;
@@ -403,7 +424,7 @@ went_started gives o s k other =
     rows_or None = []
     rows_or (Some xs) = xs
 
-    rows_same : (before after : List Entry) → Some before ≡ Some after → RowsWent gives (started o) ((s ≡ None) ⊎ ¬ (Rose k.faults k.faults)) before after
+    rows_same : (before after : List Entry) → Some before ≡ Some after → RowsWent gives (started o plan) ((s ≡ None) ⊎ ¬ (Rose k.faults k.faults)) before after
     rows_same before after e =
         let same : before ≡ after = ap rows_or e in
         record {
@@ -415,14 +436,14 @@ went_started gives o s k other =
 pub none_other : {A : Type 0} {x : A} → None ≡ Some x → ⊥
 none_other e = true≢false (ap is_none e)
 
-pub hold_started : (gives : Request → Answer → Type 0) (rows : List Entry) (k : KeeperView) (o : Origin) (s : Option Stop) → IsReady rows k → ArePlaced rows → Judges (started o) None s
-    → Holding gives rows k (started o) s k
+pub hold_started : (gives : Request → Answer → Type 0) (rows : List Entry) (k : KeeperView) (o : Origin) (plan : Option Plan) (s : Option Stop) → IsReady rows k → ArePlaced rows → Judges (started o plan) None s
+    → Holding gives rows k (started o plan) s k
 unfolding ArePlaced
-hold_started gives rows k o s ready placed m = record {
+hold_started gives rows k o plan s ready placed m = record {
   ready = ready;
   placed = placed;
   settled = λ x at. absurd (none_within x at);
-  went = went_started gives o s k (λ is. none_other ((judged_keeps (started o) None s m).keep is));
+  went = went_started gives o plan s k (λ is. none_other ((judged_keeps (started o plan) None s m).keep is));
 }
 
 pub went_tells : (g : Request → Answer → Type 0) (f : Request → Type 0) (h : Request → Answer → Type 0) (l : Request → Type 0) (c : CoreState) (s : Option Stop) (k m : KeeperView)
@@ -439,4 +460,15 @@ went_tells g f h l c s k m t w =
         left = r.left;
         journal = r.journal;
       };
+    }
+
+-- the rows of a keeper say nothing of the plan
+pub went_bare : (g : Request → Answer → Type 0) (c : CoreState) (s : Option Stop) (k l : KeeperView) (plan : Option Plan) → Went g c s k l → Went g (record c { plan = plan }) s k l
+went_bare g c s k l plan w =
+    record {
+      path = w.path;
+      faults = w.faults;
+      keep = w.keep;
+      told = w.told;
+      rows = λ before after p q. let r = w.rows before after p q in record { from = r.from; left = r.left; journal = r.journal };
     }

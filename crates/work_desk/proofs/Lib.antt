@@ -2,4 +2,5 @@ pub mod Flows
 pub mod Greed
 pub mod Kept
 pub mod Looks
+pub mod Paying
 pub mod Runs

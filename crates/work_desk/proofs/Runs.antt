@@ -12,6 +12,7 @@ use Rattle.wdl_base.specs.declared.request.Request.{Request}
 use Rattle.wdl_base.specs.declared.step.Counts.{Counts}
 use Rattle.wdl_base.specs.declared.step.Step.TheVariants.{Settled, Took}
 use Rattle.wdl_typed.specs.Flow.{too_many}
+use Rattle.scatter_plan.specs.declared.plan.Plan.{Plan}
 use Rattle.ready_core.specs.Cores.{CoreState, Origin, Settles, Takes, all_taken, fed_at, flow_of, has_fault, idle_at, started}
 use Rattle.ready_core.specs.Rows.{TakenJob}
 use Rattle.work_desk.specs.declared.stop.Stop.{Stop}
@@ -102,21 +103,21 @@ module _ (n : ℕ) (gives : Request → Answer → Type 0) (refuses : Request �
       (taken_to c d h j h.put 1 run t free (omega (arith, run.counted, count-yes rows c.taken j old)) (omega (arith, run.out, length-append c.out (j ∷ []))))
 
   -- the core after a settle
-  abbrev then : CoreState → Entry → List TakenJob → CoreState
-  then c e out = record c { journal = c.journal ++ e ∷ []; out = out; steps = c.steps ++ Settled e.request.place ∷ [] }
+  abbrev then : CoreState → Entry → CoreState → CoreState
+  then c e d = record c { journal = c.journal ++ e ∷ []; out = d.out; steps = c.steps ++ Settled e.request.place ∷ []; plan = d.plan }
 
   -- the flow's causes stay
-  caused_more : (c : CoreState) (e : Entry) (out : List TakenJob) (s : Stop) → Caused refuses c (Some s) → Caused refuses (then c e out) (Some s)
-  caused_more c e out Failed h = fault_stays c.origin c.journal (e ∷ []) h
-  caused_more c e out TooMany h = too_many_stays c.origin c.journal (e ∷ []) h
-  caused_more c e out (Launch p) (j, taken, at, refused, job) = (j, taken, at, refused, job_stays c.origin c.journal (e ∷ []) j.request job)
-  caused_more c e out NoMemory h = tt
-  caused_more c e out Keep h = tt
+  caused_more : (c : CoreState) (e : Entry) (d : CoreState) (s : Stop) → Caused refuses c (Some s) → Caused refuses (then c e d) (Some s)
+  caused_more c e d Failed h = fault_stays c.origin c.journal (e ∷ []) h
+  caused_more c e d TooMany h = too_many_stays c.origin c.journal (e ∷ []) h
+  caused_more c e d (Launch p) (j, taken, at, refused, job) = (j, taken, at, refused, job_stays c.origin c.journal (e ∷ []) j.request job)
+  caused_more c e d NoMemory h = tt
+  caused_more c e d Keep h = tt
 
   settled_to : (c d : CoreState) (h : Held) (e : Entry) (stop next : Option Stop) → IsRun n gives refuses rows 1 c h stop → Settles c e d → IsGiven gives rows c.taken e
       → (e.source ≡ Launched → is_strict stop ≡ true → Busy c.origin n c.journal c.taken)
-      → is_strict next ≡ is_strict stop → Caused refuses (then c e d.out) next → IfNone next (h.put + 0 ≡ h.collected + length d.out)
-      → IsRun n gives refuses rows 0 (then c e d.out) h next
+      → is_strict next ≡ is_strict stop → Caused refuses (then c e d) next → IfNone next (h.put + 0 ≡ h.collected + length d.out)
+      → IsRun n gives refuses rows 0 (then c e d) h next
   settled_to c d h e stop next run t given eager same caused out = record {
     fed = subst (λ (x : CoreState). fed_at x.origin x.journal ≡ true) t.after t.fed;
     greedy = subst (λ (b : Bool). greedy c.origin n b (c.journal ++ e ∷ []) c.taken (c.steps ++ Settled e.request.place ∷ [])) (sym same) (settled c.origin n (is_strict stop) c.journal c.taken c.steps e run.greedy t.was_out eager);
@@ -131,7 +132,7 @@ module _ (n : ℕ) (gives : Request → Answer → Type 0) (refuses : Request �
 
   judged_to : (c d : CoreState) (h : Held) (e : Entry) (stop next : Option Stop) → IsRun n gives refuses rows 1 c h stop → Settles c e d → IsGiven gives rows c.taken e
       → (e.source ≡ Launched → is_strict stop ≡ true → Busy c.origin n c.journal c.taken)
-      → Judges (then c e d.out) stop next → IsRun n gives refuses rows 0 (then c e d.out) h next
+      → Judges (then c e d) stop next → IsRun n gives refuses rows 0 (then c e d) h next
   judged_to c d h e None None run t given eager m = settled_to c d h e None None run t given eager refl m (omega (arith, run.out, t.out))
   judged_to c d h e None (Some Failed) run t given eager m = settled_to c d h e None (Some Failed) run t given eager refl m tt
   judged_to c d h e None (Some TooMany) run t given eager m = settled_to c d h e None (Some TooMany) run t given eager refl m tt
@@ -139,8 +140,8 @@ module _ (n : ℕ) (gives : Request → Answer → Type 0) (refuses : Request �
   judged_to c d h e None (Some Keep) run t given eager m = absurd m
   judged_to c d h e None (Some (Launch p)) run t given eager m = absurd m
   judged_to c d h e (Some s) next run t given eager m =
-      subst (λ (x : Option Stop). IsRun n gives refuses rows 0 (then c e d.out) h x) (sym m)
-      (settled_to c d h e (Some s) (Some s) run t given eager refl (caused_more c e d.out s run.caused) tt)
+      subst (λ (x : Option Stop). IsRun n gives refuses rows 0 (then c e d) h x) (sym m)
+      (settled_to c d h e (Some s) (Some s) run t given eager refl (caused_more c e d s run.caused) tt)
 
   -- an answer that is settled
   pub run_settled : (c d : CoreState) (h : Held) (e : Entry) (stop next : Option Stop) → IsRun n gives refuses rows 1 c h stop → Settles c e d → IsGiven gives rows c.taken e
@@ -222,6 +223,45 @@ module _ (n : ℕ) (gives : Request → Answer → Type 0) (refuses : Request �
       idle_of none (inl full) = absurd (omega (arith, run.within, none, full, some))
       idle_of none (inr is) = is
 
+-- ---- with another plan
+
+caused_bare : (f : Request → Type 0) (c : CoreState) (plan : Option Plan) (s : Option Stop) → Caused f c s → Caused f (record c { plan = plan }) s
+caused_bare f c plan None h = h
+caused_bare f c plan (Some Failed) h = h
+caused_bare f c plan (Some TooMany) h = h
+caused_bare f c plan (Some NoMemory) h = tt
+caused_bare f c plan (Some Keep) h = tt
+caused_bare f c plan (Some (Launch p)) h = h
+
+pub run_bare : (n : ℕ) (g : Request → Answer → Type 0) (f : Request → Type 0) (rows : List Entry) (hand : ℕ) (c : CoreState) (h : Held) (stop : Option Stop) (plan : Option Plan) → IsRun n g f rows hand c h stop
+    → IsRun n g f rows hand (record c { plan = plan }) h stop
+run_bare n g f rows hand c h stop plan run = record {
+  fed = run.fed;
+  greedy = run.greedy;
+  given = run.given;
+  counted = run.counted;
+  within = run.within;
+  few = run.few;
+  most = run.most;
+  out = run.out;
+  caused = caused_bare f c plan stop run.caused;
+}
+
+done_bare : (c : CoreState) (plan : Option Plan) → IsDone c → IsDone (record c { plan = plan })
+done_bare c plan h = record { out = h.out; few = h.few; clean = h.clean }
+
+-- what a run leaves says nothing of the plan
+pub ran_bare : (n : ℕ) (g : Request → Answer → Type 0) (f : Request → Type 0) (rows : List Entry) (c : CoreState) (stop : Option Stop) (four : Counts) (plan : Option Plan) → HasRun n g f rows c stop four
+    → HasRun n g f rows (record c { plan = plan }) stop four
+ran_bare n g f rows c stop four plan run = record {
+  fed = run.fed;
+  greedy = run.greedy;
+  given = run.given;
+  counts = run.counts;
+  caused = caused_bare f c plan stop run.caused;
+  clean = λ none. done_bare c plan (run.clean none);
+}
+
 given_tells : (g : Request → Answer → Type 0) (f : Request → Type 0) (k : Request → Answer → Type 0) (l : Request → Type 0) (rows : List Entry) (taken : List TakenJob)
     → Tells g f k l → (r : Request) (a : Answer) (s : Source) → GivenBy g rows taken r a s → GivenBy k rows taken r a s
 given_tells g f k l rows taken t r a Launched h = t.gives r a h
@@ -249,9 +289,9 @@ run_ended n g f k l rows c h stop four run t even done = record {
 }
 
 -- a run begins, with a look at the flow over the empty journal
-pub run_started : (n : ℕ) (g : Request → Answer → Type 0) (f : Request → Type 0) (rows : List Entry) (o : Origin) (stop : Option Stop) → Judges (started o) None stop
-    → IsRun n g f rows 0 (started o) (held 0 0) stop
-run_started n g f rows o stop m = record {
+pub run_started : (n : ℕ) (g : Request → Answer → Type 0) (f : Request → Type 0) (rows : List Entry) (o : Origin) (plan : Option Plan) (stop : Option Stop) → Judges (started o plan) None stop
+    → IsRun n g f rows 0 (started o plan) (held 0 0) stop
+run_started n g f rows o plan stop m = record {
   fed = refl;
   greedy = (refl, refl);
   given = All-nil (IsGiven g rows []);
@@ -266,7 +306,7 @@ run_started n g f rows o stop m = record {
   even None = refl
   even (Some s) = tt
 
-  caused : (s : Option Stop) → Judges (started o) None s → Caused f (started o) s
+  caused : (s : Option Stop) → Judges (started o plan) None s → Caused f (started o plan) s
   caused None m = m
   caused (Some Failed) m = m
   caused (Some TooMany) m = m

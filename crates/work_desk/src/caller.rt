@@ -6,6 +6,7 @@ ghost use Rattle.ready_core.specs.Launches.{Refusal};
 ghost use Rattle.work_desk.specs.Greedy.{Busy};
 ghost use Rattle.work_desk.specs.Held.{held};
 ghost use Rattle.work_desk.specs.Keeping.{Holds, HoldsAny, keeper_view};
+ghost use Rattle.work_desk.specs.Paying.{StaysPaid};
 ghost use Rattle.work_desk.specs.Ran.{IsDone};
 ghost use Rattle.work_desk.specs.Run.{IsGiven, IsRun, Tells};
 ghost use Rattle.work_desk.specs.Settling.{Settling};
@@ -13,9 +14,9 @@ ghost use Rattle.work_desk.specs.Stops.{NotKeep, is_strict};
 ghost use Rattle.work_desk.specs.Views.{Good};
 
 use crate::desk::Desk;
-use crate::observer::Observer;
 use crate::pact::{Pact, Shares};
 use crate::placed::see_place;
+use crate::progress::Progress;
 use crate::rows::Rows;
 use crate::state::Finished;
 use crate::stop::{Stop, halt, judge};
@@ -25,7 +26,7 @@ use std::alloc::Global;
 use std::sync::Wait;
 use std::sync::ledger::Ledger;
 use wdl_port::{KeepFault, Keeper, LaunchFault, Launcher};
-use wdl_value::copy_place;
+use wdl_value::{Steps, copy_place};
 
 /// What the caller of a run has: the core and the shares of the desk's ledgers, which are its own alone, and the first stop.
 #[derive(Drop)]
@@ -37,13 +38,14 @@ pub(crate) struct Caller<P: Pact> {
 
 impl<P: Pact> Caller<P> {
     // Settles an answer, and looks at the flow.
-    fn settle<O: Observer<S>, S: Ledger, R: Wait>(
+    fn settle<O: Progress, S: Ledger, R: Wait>(
         &mut self,
         rt: &R,
         alloc: Global,
         rows: &Rows,
         answered: Answered,
-        observer: &mut O,
+        progress: &mut O,
+        steps: &mut Steps<S>,
     )
         requires run { IsRun P.workers P.gives P.refuses rows.now 1 self.old.core self.old.shares self.old.stop }
         requires given { IsGiven P.gives rows.now self.old.core.taken answered }
@@ -51,8 +53,9 @@ impl<P: Pact> Caller<P> {
         ensures run { IsRun P.workers P.gives P.refuses rows.now 0 self.new.core self.new.shares self.new.stop }
         ensures shares { self.new.shares ≡ self.old.shares }
         ensures settling { Settling answered self.old.core self.old.stop self.new.core self.new.stop }
+        ensures paid { StaysPaid self.old.core self.old.stop steps.old self.new.core self.new.stop steps.new }
     {
-        match self.core.settle(alloc, answered, observer.steps()) {
+        match self.core.settle(alloc, answered, steps) {
             Ok(()) => judge(&mut self.stop, &self.core),
             Err(SettleFault::NoMemory(_)) => halt(&mut self.stop, Stop::NoMemory),
             Err(SettleFault::Stranger(_)) => wait_for_good(rt),
@@ -60,13 +63,14 @@ impl<P: Pact> Caller<P> {
     }
 
     // Takes a job, if one is to be taken, and puts it on the desk, or settles it by its row. False where there was none.
-    fn take_one<O: Observer<S>, S: Ledger, R: Wait>(
+    fn take_one<O: Progress, S: Ledger, R: Wait>(
         &mut self,
         rt: &R,
         alloc: Global,
         desk: &Desk<P>,
         rows: &Rows,
-        observer: &mut O,
+        progress: &mut O,
+        steps: &mut Steps<S>,
     ) -> bool
         requires run { IsRun P.workers P.gives P.refuses rows.now 0 self.old.core self.old.shares self.old.stop }
         requires goes_on { self.old.stop ≡ None }
@@ -74,13 +78,14 @@ impl<P: Pact> Caller<P> {
         ensures run { IsRun P.workers P.gives P.refuses rows.now 0 self.new.core self.new.shares self.new.stop }
         ensures origin { self.new.core.origin ≡ self.old.core.origin }
         ensures holds { HoldsAny P.gives rows.now self.old.core self.old.stop self.new.core self.new.stop }
+        ensures paid { StaysPaid self.old.core self.old.stop steps.old self.new.core self.new.stop steps.new }
         ensures idle { OnFalse result ((idle_at self.new.core ≡ true) × (self.new.core ≡ self.old.core)) }
     {
         let Some(job) = self.core.take() else {
             return false;
         };
         let Some(found) = rows.find(&job) else {
-            observer.began(&job);
+            progress.began(&job);
             desk.put(rt, job, &mut self.shares);
             return true;
         };
@@ -91,20 +96,21 @@ impl<P: Pact> Caller<P> {
         let Ok(answered) = job.kept(row) else {
             unreachable!();
         };
-        observer.kept(answered.entry());
-        self.settle(rt, alloc, rows, answered, observer);
+        progress.kept(answered.entry());
+        self.settle(rt, alloc, rows, answered, progress, steps);
         true
     }
 
     // Takes jobs until as many are out as there are workers, or nothing more is to be taken, or the run stops.
-    fn fill<O: Observer<S>, S: Ledger, R: Wait>(
+    fn fill<O: Progress, S: Ledger, R: Wait>(
         &mut self,
         rt: &R,
         alloc: Global,
         desk: &Desk<P>,
         rows: &Rows,
         workers: u32,
-        observer: &mut O,
+        progress: &mut O,
+        steps: &mut Steps<S>,
     )
         requires run { IsRun P.workers P.gives P.refuses rows.now 0 self.old.core self.old.shares self.old.stop }
         requires workers { workers ≡ P.workers }
@@ -112,6 +118,7 @@ impl<P: Pact> Caller<P> {
         ensures origin { self.new.core.origin ≡ self.old.core.origin }
         ensures holds { HoldsAny P.gives rows.now self.old.core self.old.stop self.new.core self.new.stop }
         ensures busy { self.new.stop ≡ None → Busy self.new.core.origin P.workers self.new.core.journal self.new.core.taken }
+        ensures paid { StaysPaid self.old.core self.old.stop steps.old self.new.core self.new.stop steps.new }
         ensures held { AreHeld self.new.core }
     {
         for _ in rt.forever() {
@@ -122,7 +129,7 @@ impl<P: Pact> Caller<P> {
             if out >= workers {
                 return;
             }
-            if !self.take_one(rt, alloc, desk, rows, observer) {
+            if !self.take_one(rt, alloc, desk, rows, progress, steps) {
                 return;
             }
         }
@@ -130,14 +137,15 @@ impl<P: Pact> Caller<P> {
     }
 
     // Puts an answer that was launched into the keeper, and settles it.
-    fn keep<K: Keeper, O: Observer<S>, S: Ledger, R: Wait>(
+    fn keep<K: Keeper, O: Progress, S: Ledger, R: Wait>(
         &mut self,
         rt: &R,
         alloc: Global,
         rows: &Rows,
         keeper: &mut K,
         answered: Answered,
-        observer: &mut O,
+        progress: &mut O,
+        steps: &mut Steps<S>,
     )
         requires run { IsRun P.workers P.gives P.refuses rows.now 1 self.old.core self.old.shares self.old.stop }
         requires launched { answered.source ≡ Launched }
@@ -150,13 +158,14 @@ impl<P: Pact> Caller<P> {
         ensures origin { self.new.core.origin ≡ self.old.core.origin }
         ensures path { K.path keeper.new ≡ K.path keeper.old }
         ensures holds { Holds P.gives rows.now self.old.core self.old.stop (keeper_view (K.kept keeper.old) (K.path keeper.old) (K.faults keeper.old)) self.new.core self.new.stop (keeper_view (K.kept keeper.new) (K.path keeper.new) (K.faults keeper.new)) }
+        ensures paid { StaysPaid self.old.core self.old.stop steps.old self.new.core self.new.stop steps.new }
     {
         see_place(&answered.entry().request.place);
         match keeper.put(alloc, answered.entry()) {
-            Ok(()) => self.settle(rt, alloc, rows, answered, observer),
+            Ok(()) => self.settle(rt, alloc, rows, answered, progress, steps),
             Err(KeepFault::Failed) => {
                 halt(&mut self.stop, Stop::Keep);
-                self.settle(rt, alloc, rows, answered, observer);
+                self.settle(rt, alloc, rows, answered, progress, steps);
             }
             Err(KeepFault::NoMemory) => halt(&mut self.stop, Stop::NoMemory),
         }
@@ -203,14 +212,15 @@ impl<P: Pact> Caller<P> {
     }
 
     // Keeps and settles an answer that was collected, or stops at a job that was not launched.
-    fn absorb<K: Keeper, O: Observer<S>, S: Ledger, R: Wait>(
+    fn absorb<K: Keeper, O: Progress, S: Ledger, R: Wait>(
         &mut self,
         rt: &R,
         alloc: Global,
         rows: &Rows,
         keeper: &mut K,
         finished: Finished,
-        observer: &mut O,
+        progress: &mut O,
+        steps: &mut Steps<S>,
     )
         requires run { IsRun P.workers P.gives P.refuses rows.now 1 self.old.core self.old.shares self.old.stop }
         requires good { Good P.gives P.refuses finished }
@@ -222,14 +232,15 @@ impl<P: Pact> Caller<P> {
         ensures origin { self.new.core.origin ≡ self.old.core.origin }
         ensures path { K.path keeper.new ≡ K.path keeper.old }
         ensures holds { Holds P.gives rows.now self.old.core self.old.stop (keeper_view (K.kept keeper.old) (K.path keeper.old) (K.faults keeper.old)) self.new.core self.new.stop (keeper_view (K.kept keeper.new) (K.path keeper.new) (K.faults keeper.new)) }
+        ensures paid { StaysPaid self.old.core self.old.stop steps.old self.new.core self.new.stop steps.new }
     {
         match finished {
             Finished::Done(answered) => {
-                observer.ended(answered.entry());
-                self.keep(rt, alloc, rows, keeper, answered, observer);
+                progress.ended(answered.entry());
+                self.keep(rt, alloc, rows, keeper, answered, progress, steps);
             }
             Finished::Undone(unlaunched) => {
-                observer.unlaunched(unlaunched.job.request());
+                progress.unlaunched(unlaunched.job.request());
                 self.give_up(rt, alloc, rows, unlaunched);
             }
         }
@@ -237,7 +248,7 @@ impl<P: Pact> Caller<P> {
 
     /// The caller's part of a run, up to the point where nothing is out and nothing more is to be taken, or, after a stop, all that
     /// was out has come back. With `alone` it launches the jobs itself.
-    pub(crate) fn drive<L: Launcher, K: Keeper, O: Observer<S>, S: Ledger, R: Wait>(
+    pub(crate) fn drive<L: Launcher, K: Keeper, O: Progress, S: Ledger, R: Wait>(
         &mut self,
         rt: &R,
         alloc: Global,
@@ -247,7 +258,8 @@ impl<P: Pact> Caller<P> {
         workers: u32,
         alone: bool,
         keeper: &mut K,
-        observer: &mut O,
+        progress: &mut O,
+        steps: &mut Steps<S>,
     )
         requires run { IsRun P.workers P.gives P.refuses rows.now 0 self.old.core self.old.shares self.old.stop }
         requires workers { (workers ≡ P.workers) × (0 < workers) }
@@ -258,9 +270,10 @@ impl<P: Pact> Caller<P> {
         ensures even { self.new.shares.put ≡ self.new.shares.collected }
         ensures done { self.new.stop ≡ None → IsDone self.new.core }
         ensures holds { Holds P.gives rows.now self.old.core self.old.stop (keeper_view (K.kept keeper.old) (K.path keeper.old) (K.faults keeper.old)) self.new.core self.new.stop (keeper_view (K.kept keeper.new) (K.path keeper.new) (K.faults keeper.new)) }
+        ensures paid { StaysPaid self.old.core self.old.stop steps.old self.new.core self.new.stop steps.new }
     {
         for _ in rt.forever() {
-            self.fill(rt, alloc, desk, rows, workers, observer);
+            self.fill(rt, alloc, desk, rows, workers, progress, steps);
             if desk.out(rt, &mut self.shares) == 0 {
                 return;
             }
@@ -270,7 +283,7 @@ impl<P: Pact> Caller<P> {
                 }
             }
             let finished = desk.take_answer(rt, &mut self.shares);
-            self.absorb(rt, alloc, rows, keeper, finished, observer);
+            self.absorb(rt, alloc, rows, keeper, finished, progress, steps);
         }
         unreachable!()
     }

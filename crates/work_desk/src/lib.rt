@@ -4,7 +4,7 @@
 
 mod caller;
 mod desk;
-mod observer;
+mod lent;
 mod pact;
 mod placed;
 mod progress;

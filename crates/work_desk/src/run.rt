@@ -4,6 +4,7 @@ ghost use Rattle.wdl_port.specs.Rows.{rises, are_kept};
 ghost use Rattle.ready_core.specs.Cores.{started};
 ghost use Rattle.work_desk.specs.Held.{held};
 ghost use Rattle.work_desk.specs.Keeping.{ArePlaced, IsReady, Went, keeper_view};
+ghost use Rattle.work_desk.specs.Paying.{EndsPaid};
 ghost use Rattle.work_desk.specs.Ran.{HasRun};
 ghost use Rattle.work_desk.specs.Run.{Tells};
 ghost use Rattle.work_desk.specs.Views.{AllEqual};
@@ -11,7 +12,7 @@ ghost use Rattle.work_desk.specs.declared.stop.Stop.TheVariants as stop;
 
 use crate::caller::Caller;
 use crate::desk::{Desk, Opened};
-use crate::observer::{Lent, Observer};
+use crate::lent::{Conducts, Lending, Lent};
 use crate::pact::{Pact, Shares};
 use crate::progress::Progress;
 use crate::rows::Rows;
@@ -55,7 +56,7 @@ fn unstarted(core: Core) -> Ran
 }
 
 /// The caller's part of a run, from its beginning to its end.
-fn conduct<P: Pact, L: Launcher, K: Keeper, O: Observer<S> + Drop, S: Ledger, R: Wait>(
+pub(crate) fn conduct<P: Pact, L: Launcher, K: Keeper, O: Progress + Drop, S: Ledger, R: Wait>(
     rt: &R,
     alloc: Global,
     desk: &Desk<P>,
@@ -66,9 +67,10 @@ fn conduct<P: Pact, L: Launcher, K: Keeper, O: Observer<S> + Drop, S: Ledger, R:
     keeper: &mut K,
     core: Core,
     shares: Shares<P>,
-    observer: O,
+    progress: O,
+    steps: &mut Steps<S>,
 ) -> Ran
-    requires core { core ≡ started core.origin }
+    requires core { core ≡ started core.origin core.plan }
     requires shares { shares ≡ held 0 0 }
     requires workers { (workers ≡ P.workers) × (0 < workers) }
     requires there { Tells (L.gives launcher.now) (L.refuses launcher.now) P.gives P.refuses }
@@ -77,9 +79,10 @@ fn conduct<P: Pact, L: Launcher, K: Keeper, O: Observer<S> + Drop, S: Ledger, R:
     requires placed { ArePlaced rows.now }
     ensures run { HasRun workers (L.gives launcher.now) (L.refuses launcher.now) rows.now result.core result.stop result.counts }
     ensures origin { result.core.origin ≡ core.origin }
+    ensures paid { EndsPaid core steps.old result.core result.stop steps.new }
     ensures keeper { Went (L.gives launcher.now) result.core result.stop (keeper_view (K.kept keeper.old) (K.path keeper.old) (K.faults keeper.old)) (keeper_view (K.kept keeper.new) (K.path keeper.new) (K.faults keeper.new)) }
 {
-    let mut observer = observer;
+    let mut progress = progress;
     let mut caller = Caller {
         core,
         shares,
@@ -95,7 +98,8 @@ fn conduct<P: Pact, L: Launcher, K: Keeper, O: Observer<S> + Drop, S: Ledger, R:
         workers,
         alone,
         keeper,
-        &mut observer,
+        &mut progress,
+        steps,
     );
     desk.close(rt);
     let counts = desk.counts(rt, &mut caller.shares);
@@ -111,43 +115,46 @@ fn in_threads<
     'k,
     P: Pact + Send + Sync,
     L: Launcher + Sync,
-    K: Keeper,
-    O: Observer<S> + Drop,
-    S: Ledger,
+    C: Conducts,
+    O: Progress + Drop,
     R: Threads + Wait + Sync,
 >(
     rt: &R,
     alloc: Global,
     desk: &Desk<P>,
     launcher: &L,
-    keeper: &'k mut K,
+    lent: &'k mut C,
     rows: &Rows,
     workers: u32,
     core: Core,
     shares: Shares<P>,
-    observer: O,
+    progress: O,
 ) -> Ran
-    requires core { core ≡ started core.origin }
+    requires core { core ≡ started core.origin core.plan }
     requires shares { shares ≡ held 0 0 }
     requires workers { (workers ≡ P.workers) × (0 < workers) }
     requires there { Tells (L.gives launcher.now) (L.refuses launcher.now) P.gives P.refuses }
     requires back { Tells P.gives P.refuses (L.gives launcher.now) (L.refuses launcher.now) }
-    requires ready { IsReady rows.now (keeper_view (K.kept keeper.old) (K.path keeper.old) (K.faults keeper.old)) }
+    requires ready { IsReady rows.now (keeper_view (C.kept lent.old) (C.path lent.old) (C.faults lent.old)) }
     requires placed { ArePlaced rows.now }
     ensures run { HasRun workers (L.gives launcher.now) (L.refuses launcher.now) rows.now result.core result.stop result.counts }
     ensures origin { result.core.origin ≡ core.origin }
-    ensures keeper { Went (L.gives launcher.now) result.core result.stop (keeper_view (K.kept keeper.old) (K.path keeper.old) (K.faults keeper.old)) (keeper_view (K.kept keeper.new) (K.path keeper.new) (K.faults keeper.new)) }
+    ensures paid { EndsPaid core (C.count lent.old) result.core result.stop (C.count lent.new) }
+    ensures same { (C.keeper_name lent.new ≡ C.keeper_name lent.old) × (C.steps_name lent.new ≡ C.steps_name lent.old) }
+    ensures keeper { Went (L.gives launcher.now) result.core result.stop (keeper_view (C.kept lent.old) (C.path lent.old) (C.faults lent.old)) (keeper_view (C.kept lent.new) (C.path lent.new) (C.faults lent.new)) }
 {
-    let (ran, _keeper) = thread::scope(
+    let (ran, _lent) = thread::scope(
         thread::scope_env(),
         rt,
-        move |scope| -> (Ran, &mut K)
-            requires { (core ≡ started core.origin) × (shares ≡ held 0 0) × (workers ≡ P.workers) × (0 < workers)
+        move |scope| -> (Ran, &mut C)
+            requires { (core ≡ started core.origin core.plan) × (shares ≡ held 0 0) × (workers ≡ P.workers) × (0 < workers)
                 × Tells (L.gives launcher.now) (L.refuses launcher.now) P.gives P.refuses
                 × Tells P.gives P.refuses (L.gives launcher.now) (L.refuses launcher.now)
-                × IsReady rows.now (keeper_view (K.kept keeper.now) (K.path keeper.now) (K.faults keeper.now)) × ArePlaced rows.now }
+                × IsReady rows.now (keeper_view (C.kept lent.now) (C.path lent.now) (C.faults lent.now)) × ArePlaced rows.now }
             ensures { HasRun workers (L.gives launcher.entry.now) (L.refuses launcher.entry.now) rows.entry.now result.0.core result.0.stop result.0.counts × (result.0.core.origin ≡ core.origin)
-                × Went (L.gives launcher.entry.now) result.0.core result.0.stop (keeper_view (K.kept keeper.entry.now) (K.path keeper.entry.now) (K.faults keeper.entry.now)) (keeper_view (K.kept result.1.now) (K.path result.1.now) (K.faults result.1.now)) × (result.1.ghost_name ≡ keeper.entry.ghost_name) }
+                × EndsPaid core (C.count lent.entry.now) result.0.core result.0.stop (C.count result.1.now)
+                × (C.keeper_name result.1.now ≡ C.keeper_name lent.entry.now) × (C.steps_name result.1.now ≡ C.steps_name lent.entry.now)
+                × Went (L.gives launcher.entry.now) result.0.core result.0.stop (keeper_view (C.kept lent.entry.now) (C.path lent.entry.now) (C.faults lent.entry.now)) (keeper_view (C.kept result.1.now) (C.path result.1.now) (C.faults result.1.now)) × (result.1.ghost_name ≡ lent.entry.ghost_name) }
         {
             let mut alone = true;
             for _ in 0..workers {
@@ -158,20 +165,10 @@ fn in_threads<
                     alone = false;
                 }
             }
-            let ran = conduct::<P, L, K, O, S, R>(
-                rt,
-                alloc,
-                desk,
-                launcher,
-                rows,
-                workers,
-                alone,
-                &mut *keeper,
-                core,
-                shares,
-                observer,
+            let ran = lent.conduct(
+                rt, alloc, desk, launcher, rows, workers, alone, core, shares, progress,
             );
-            (ran, keeper)
+            (ran, lent)
         },
     );
     ran
@@ -199,7 +196,7 @@ fn run_with<
     progress: &mut T,
     steps: &mut Steps<S>,
 ) -> Ran
-    requires core { core ≡ started core.origin }
+    requires core { core ≡ started core.origin core.plan }
     requires workers { (workers ≡ P.workers) × (0 < workers) × (workers ≤ 64) }
     requires put { (put.name ≡ P.put_name) × (put.parts ≡ P.put_parts) × (0 < put.parts) }
     requires collected { (collected.name ≡ P.collected_name) × (collected.parts ≡ P.collected_parts) × (0 < collected.parts) }
@@ -209,17 +206,30 @@ fn run_with<
     requires placed { ArePlaced rows.now }
     ensures run { HasRun workers (L.gives launcher.now) (L.refuses launcher.now) rows.now result.core result.stop result.counts }
     ensures origin { result.core.origin ≡ core.origin }
+    ensures paid { EndsPaid core steps.old result.core result.stop steps.new }
     ensures keeper { Went (L.gives launcher.now) result.core result.stop (keeper_view (K.kept keeper.old) (K.path keeper.old) (K.faults keeper.old)) (keeper_view (K.kept keeper.new) (K.path keeper.new) (K.faults keeper.new)) }
 {
     let Ok(Opened { desk, shares }) = Desk::<P>::new(alloc, workers, put, collected) else {
         return unstarted(core);
     };
-    let observer = Lent {
+    let progress = Lent {
         progress: &mut *progress,
+    };
+    let mut lending = Lending {
+        keeper: &mut *keeper,
         steps: &mut *steps,
     };
-    in_threads::<P, L, K, Lent<T, S>, S, R>(
-        rt, alloc, &desk, launcher, keeper, rows, workers, core, shares, observer,
+    in_threads::<P, L, Lending<K, S>, Lent<T>, R>(
+        rt,
+        alloc,
+        &desk,
+        launcher,
+        &mut lending,
+        rows,
+        workers,
+        core,
+        shares,
+        progress,
     )
 }
 
@@ -246,13 +256,14 @@ pub fn run_kept<
     progress: &mut T,
     steps: &mut Steps<S>,
 ) -> Ran
-    requires core { core ≡ started core.origin }
+    requires core { core ≡ started core.origin core.plan }
     requires workers { (0 < workers) × (workers ≤ 64) }
     requires ready { IsReady rows (keeper_view (K.kept keeper.old) (K.path keeper.old) (K.faults keeper.old)) }
     requires rise { rises rows ≡ true }
     requires kept { are_kept rows ≡ true }
     ensures run { HasRun workers (L.gives launcher.now) (L.refuses launcher.now) rows result.core result.stop result.counts }
     ensures origin { result.core.origin ≡ core.origin }
+    ensures paid { EndsPaid core steps.old result.core result.stop steps.new }
     ensures keeper { Went (L.gives launcher.now) result.core result.stop (keeper_view (K.kept keeper.old) (K.path keeper.old) (K.faults keeper.old)) (keeper_view (K.kept keeper.new) (K.path keeper.new) (K.faults keeper.new)) }
 {
     let Ok(rows) = Rows::new(alloc, rows) else {
@@ -285,13 +296,14 @@ pub fn run_all<'a, L: Launcher + Sync, K: Keeper, T: Progress, S: Ledger, R: Thr
     progress: &mut T,
     steps: &mut Steps<S>,
 ) -> Ran
-    requires core { core ≡ started core.origin }
+    requires core { core ≡ started core.origin core.plan }
     requires workers { (0 < workers) × (workers ≤ 64) }
     requires ready { MatchOption keeper ⊤ (λ k. IsReady rows (keeper_view (K.kept k.now) (K.path k.now) (K.faults k.now))) }
     requires rise { rises rows ≡ true }
     requires kept { are_kept rows ≡ true }
     ensures run { HasRun workers (L.gives launcher.now) (L.refuses launcher.now) rows result.core result.stop result.counts }
     ensures origin { result.core.origin ≡ core.origin }
+    ensures paid { EndsPaid core steps.old result.core result.stop steps.new }
     ensures unkept { keeper.entry ≡ None → result.stop ≢ Some stop.Keep }
     ensures keeper { MatchOption keeper.entry ⊤ (λ k. elim keeper.exit as (λ _. Type 0) [ inl n ↦ ⊤ | inr x ↦ elim x as (λ _. Type 0) [ inl f ↦ Went (L.gives launcher.now) result.core result.stop (keeper_view (K.kept k.now) (K.path k.now) (K.faults k.now)) (keeper_view (K.kept f.0.now) (K.path f.0.now) (K.faults f.0.now)) | inr n ↦ ⊤ ] ]) }
 {

@@ -12,4 +12,7 @@ returns-in_default-clause-keeper g c =
     let stop = c.unstarted.result.stop in
     let keeper = keeper_view (k.kept c.args.keeper.now) (k.path c.args.keeper.now) (k.faults c.args.keeper.now) in
     subst (λ (x : CoreState). Went gives x stop keeper keeper) (sym (c.unstarted.ensures.core ∙ c.requires.core))
-    (went_started gives c.args.core.origin stop keeper (λ is. none_other ((halted_keeps None).keep (sym c.unstarted.ensures.stop ∙ is))))
+    (went_started gives c.args.core.origin c.args.core.plan stop keeper (λ is. none_other ((halted_keeps None).keep (sym c.unstarted.ensures.stop ∙ is))))
+
+pub returns-in_default-clause-paid : goal.returns-in_default-clause-paid
+returns-in_default-clause-paid g c = record { paid = λ none. absurd (none_other (sym none ∙ c.unstarted.ensures.stop)) }

@@ -3,11 +3,14 @@ use Rattle.std.specs.Prelude.{Option}
 use Rattle.std.proofs.lemmas.Bool.Decides.{nat_tests}
 use Rattle.work_desk.specs.declared.stop.Stop.{Stop}
 use Rattle.work_desk.specs.Run.{IsRun}
+use Rattle.work_desk.proofs.Paying.{paid_still, paid_through}
 use Rattle.work_desk.proofs.Runs.{run_clean}
 use Rattle.work_desk.proofs.caller.Caller.drive.Goals as goal
 
 pub loop-init : goal.loop-init
-loop-init g c = (c.requires.run, refl, refl, λ begin h. h)
+loop-init g c =
+    let self = c.args.self.now in
+    (c.requires.run, refl, refl, λ begin h. h, paid_still self.core self.stop self.stop c.args.steps.now (λ none. none))
 
 pub loop-preserved : goal.loop-preserved
 loop-preserved g c =
@@ -16,10 +19,14 @@ loop-preserved g c =
       c.absorb.ensures.origin ∙ (c.fill.ensures.origin ∙ inv.1),
       c.absorb.ensures.path ∙ inv.2,
       λ begin h. c.absorb.ensures.holds begin (c.fill.ensures.holds _ begin (inv.3 begin h)),
+      paid_through _ _ _ _ _ _ _ _ _ inv.4 (paid_through _ _ _ _ _ _ _ _ _ c.fill.ensures.paid c.absorb.ensures.paid),
     )
 
 pub returns-then-out-eq0-clause-holds : goal.returns-then-out-eq0-clause-holds
 returns-then-out-eq0-clause-holds g c = λ begin h. c.fill.ensures.holds _ begin (c.loop.invariant.3 begin h)
+
+pub returns-then-out-eq0-clause-paid : goal.returns-then-out-eq0-clause-paid
+returns-then-out-eq0-clause-paid g c = paid_through _ _ _ _ _ _ _ _ _ c.loop.invariant.4 c.fill.ensures.paid
 
 pub returns-then-out-eq0-clause-done : goal.returns-then-out-eq0-clause-done
 returns-then-out-eq0-clause-done g c =

@@ -1,5 +1,6 @@
 use Rattle.std.proofs.Common.{◌≡◌}
 use Rattle.work_desk.specs.Keeping.{Holds, keeper_view}
+use Rattle.work_desk.specs.Paying.{StaysPaid}
 use Rattle.work_desk.specs.Run.{IsRun}
 use Rattle.work_desk.proofs.caller.Caller.drive.Given as goal
 
@@ -10,3 +11,4 @@ invariant-loop g l =
     × (k.path l.keeper ≡ k.path l.initial.keeper)
     × Holds g.P.Pact.gives l.rows l.initial.self.core l.initial.self.stop (keeper_view (k.kept l.initial.keeper) (k.path l.initial.keeper) (k.faults l.initial.keeper))
     l.self.core l.self.stop (keeper_view (k.kept l.keeper) (k.path l.keeper) (k.faults l.keeper))
+    × StaysPaid l.initial.self.core l.initial.self.stop l.initial.steps l.self.core l.self.stop l.steps

@@ -9,6 +9,7 @@ use Rattle.work_desk.specs.Keeping.{Holding, keeper_view}
 use Rattle.work_desk.specs.Settling.{Settling}
 use Rattle.work_desk.specs.Stops.{halted}
 use Rattle.work_desk.proofs.Kept.{halted_keeps, held_parts, hold_answered, hold_failed, hold_left}
+use Rattle.work_desk.proofs.Paying.{paid_halted, paid_through}
 use Rattle.work_desk.proofs.Runs.{run_halted}
 use Rattle.work_desk.proofs.caller.Caller.keep.Goals as goal
 
@@ -57,3 +58,15 @@ returns-in-Err-NoMemory-clause-holds g c =
     λ begin h. subst (λ (s : Option Stop). Holding g.P.Pact.gives c.args.rows.now begin self.core s keeper) (sym c.halt-in-Err-NoMemory.ensures.halted)
     (hold_left g.P.Pact.gives c.args.rows.now begin self.core self.stop (halted self.stop NoMemory) _ keeper h c.put.ensures.path c.put.ensures.cause.later c.in-Err-NoMemory.ensures.left
     (λ e. inl (stays.keep e)) stays.stays)
+
+pub returns-in-Err-Failed-clause-paid : goal.returns-in-Err-Failed-clause-paid
+returns-in-Err-Failed-clause-paid g c =
+    let self = c.args.self.now in
+    let last = c.settle-in-Err-Failed.new.self in
+    paid_through self.core self.core last.core self.stop c.halt.new.stop last.stop c.args.steps.now c.args.steps.now c.settle-in-Err-Failed.new.steps
+    (rw c.halt.ensures.halted (paid_halted self.core self.core self.stop Keep c.args.steps.now c.args.steps.now)) c.settle-in-Err-Failed.ensures.paid
+
+pub returns-in-Err-NoMemory-clause-paid : goal.returns-in-Err-NoMemory-clause-paid
+returns-in-Err-NoMemory-clause-paid g c =
+    let self = c.args.self.now in
+    rw c.halt-in-Err-NoMemory.ensures.halted (paid_halted self.core self.core self.stop NoMemory c.args.steps.now c.args.steps.now)

@@ -1,7 +1,13 @@
-use Rattle.std.proofs.Common.{refl}
+use Rattle.std.proofs.Common.{Option, refl, sym, subst}
+use Rattle.ready_core.specs.Cores.{CoreState}
+use Rattle.work_desk.specs.Run.{IsRun}
+use Rattle.work_desk.specs.Stops.{halted}
+use Rattle.work_desk.specs.Settling.{Settling}
+use Rattle.work_desk.specs.declared.stop.Stop.{Stop}
 use Rattle.work_desk.specs.declared.stop.Stop.TheVariants.{NoMemory}
-use Rattle.work_desk.proofs.Kept.{settles_well}
-use Rattle.work_desk.proofs.Runs.{run_halted, run_settled}
+use Rattle.work_desk.proofs.Kept.{held_back, settles_well, unsettled, unsettled_well}
+use Rattle.work_desk.proofs.Paying.{paid_halted, paid_settled}
+use Rattle.work_desk.proofs.Runs.{run_bare, run_halted, run_settled}
 use Rattle.work_desk.proofs.caller.Caller.settle.Goals as goal
 
 pub returns-in-Ok-clause-run : goal.returns-in-Ok-clause-run
@@ -13,8 +19,32 @@ returns-in-Ok-clause-run g c =
 pub returns-in-Ok-clause-settling : goal.returns-in-Ok-clause-settling
 returns-in-Ok-clause-settling g c = settles_well c.args.self.now.core c.settle.new.self c.args.answered c.args.self.now.stop c.judge.new.stop c.in-Ok.ensures.ok c.judge.ensures.judged
 
+pub returns-in-Ok-clause-paid : goal.returns-in-Ok-clause-paid
+returns-in-Ok-clause-paid g c =
+    let self = c.args.self.now in
+    let well = settles_well self.core c.settle.new.self c.args.answered self.stop c.judge.new.stop c.in-Ok.ensures.ok c.judge.ensures.judged in
+    paid_settled self.core c.settle.new.self self.stop c.judge.new.stop c.args.steps.now c.settle.new.steps c.in-Ok.ensures.paid well.stop
+
 pub returns-in-Err-NoMemory-clause-run : goal.returns-in-Err-NoMemory-clause-run
 returns-in-Err-NoMemory-clause-run g c =
     let p = g.P.Pact in
     let self = c.args.self.now in
-    rw (c.halt.ensures.halted, c.in-Err-NoMemory.ensures.err) (run_halted p.workers p.gives p.refuses c.args.rows.now 1 0 self.core self.shares NoMemory self.stop c.requires.run refl tt)
+    let core = c.settle.new.self in
+    rw c.halt.ensures.halted
+    (subst (λ (x : CoreState). IsRun p.workers p.gives p.refuses c.args.rows.now 0 x self.shares (halted self.stop NoMemory)) (sym (unsettled c.in-Err-NoMemory.field-0 _ self.core core c.in-Err-NoMemory.field-0-is c.in-Err-NoMemory.ensures.err))
+    (run_bare p.workers p.gives p.refuses c.args.rows.now 0 self.core self.shares (halted self.stop NoMemory) core.plan
+    (run_halted p.workers p.gives p.refuses c.args.rows.now 1 0 self.core self.shares NoMemory self.stop c.requires.run refl tt)))
+
+pub returns-in-Err-NoMemory-clause-settling : goal.returns-in-Err-NoMemory-clause-settling
+returns-in-Err-NoMemory-clause-settling g c =
+    let self = c.args.self.now in
+    let core = c.settle.new.self in
+    let fault = c.in-Err-NoMemory in
+    subst (λ (s : Option Stop). Settling c.args.answered self.core self.stop c.settle.new.self s) (sym c.halt.ensures.halted)
+    (unsettled_well self.core core c.args.answered self.stop (held_back fault.field-0 _ self.core.out c.args.answered fault.field-0-is fault.ensures.fault)
+    (unsettled fault.field-0 _ self.core core fault.field-0-is fault.ensures.err))
+
+pub returns-in-Err-NoMemory-clause-paid : goal.returns-in-Err-NoMemory-clause-paid
+returns-in-Err-NoMemory-clause-paid g c =
+    let self = c.args.self.now in
+    rw c.halt.ensures.halted (paid_halted self.core c.settle.new.self self.stop NoMemory c.args.steps.now c.settle.new.steps)

@@ -7,6 +7,7 @@ use Rattle.work_desk.specs.Keeping.{Holding}
 use Rattle.work_desk.specs.Run.{IsGiven, IsRun}
 use Rattle.work_desk.specs.Stops.{halted}
 use Rattle.work_desk.proofs.Kept.{halted_keeps, hold_kept, hold_stopped, hold_taken, kept_row_of, taken_itself}
+use Rattle.work_desk.proofs.Paying.{paid_halted, paid_still, paid_taken, paid_through}
 use Rattle.work_desk.proofs.Runs.{run_halted, run_held, run_put}
 use Rattle.work_desk.proofs.caller.Caller.take_one.Goals as goal
 
@@ -69,3 +70,23 @@ returns-clause-holds g c =
     let given = subst (Contains rows) (sym c.in-Ok.ensures) c.in-Some-find.ensures.found.0 in
     λ k begin h. hold_kept gives rows begin self.core c.take.new.self c.settle.new.self.core self.stop c.settle.new.self.stop k c.in-Some.job c.in-Ok-kept.answered h c.in-Some.ensures.taken
     (ap (λ (e : Entry). e.request) kept.0) (kept_row_of rows c.in-Ok.row c.in-Some.job c.in-Ok-kept.answered given c.find.ensures.kept kept.1 kept.0) c.settle.ensures.settling
+
+pub returns-in_default-clause-paid : goal.returns-in_default-clause-paid
+returns-in_default-clause-paid g c =
+    let self = c.args.self.now in
+    rw c.in_default.ensures.taken.1 (paid_still self.core self.stop self.stop c.args.steps.now (λ none. none))
+
+pub returns-in_default-find-clause-paid : goal.returns-in_default-find-clause-paid
+returns-in_default-find-clause-paid g c = paid_taken c.args.self.now.core c.take.new.self c.in-Some.job c.args.self.now.stop c.args.steps.now c.in-Some.ensures.taken
+
+pub returns-in_default-copy-clause-paid : goal.returns-in_default-copy-clause-paid
+returns-in_default-copy-clause-paid g c =
+    let self = c.args.self.now in
+    rw c.halt.ensures.halted (paid_halted self.core c.take.new.self self.stop NoMemory c.args.steps.now c.args.steps.now)
+
+pub returns-clause-paid : goal.returns-clause-paid
+returns-clause-paid g c =
+    let self = c.args.self.now in
+    let last = c.settle.new.self in
+    paid_through self.core c.take.new.self last.core self.stop self.stop last.stop c.args.steps.now c.args.steps.now c.settle.new.steps
+    (paid_taken self.core c.take.new.self c.in-Some.job self.stop c.args.steps.now c.in-Some.ensures.taken) c.settle.ensures.paid
