@@ -11,13 +11,13 @@ use Rattle.wdl_parse_expr.specs.declared.fault.Stop.TheVariants as stop
 use Rattle.wdl_parse_expr.specs.declared.fault.ParseFault.{ParseFault}
 use Rattle.wdl_parse_expr.specs.declared.tall.Tall.{Tall}
 use Rattle.wdl_parse_expr.specs.declared.tall.Rule.TheVariants as rule
-use Rattle.wdl_parse_expr.specs.Outcome.{tall, Fails}
+use Rattle.wdl_parse_expr.specs.Outcome.{tall, then_, Fails}
 use Rattle.wdl_parse_expr.specs.Grammar.{Tree, max_depth, IsExpr}
 use Rattle.wdl_parse_expr.specs.TypeGrammar.{IsType, max_type_depth}
 use Rattle.wdl_parse_expr.specs.Context.{an_expr, root, type_root, Points, ExprCause, TypeCause}
 use Rattle.wdl_parse_expr.specs.Reading.{expr}
 use Rattle.wdl_parse_expr.specs.TypeReading.{type_at}
-use Rattle.wdl_parse_expr.specs.Contract.{expr_continues, Fronts, IsLongest, AtStart, AtFront, StartsNone, MayGoOn, IfBad, RefusesExpr, RefusesType, FaultOf}
+use Rattle.wdl_parse_expr.specs.Contract.{expr_continues, Fronts, IsLongest, AtStart, AtFront, StartsNone, MayGoOn, IfBad, RefusesExpr, RefusesType, FaultOf, read_expr}
 use Rattle.wdl_parse_expr.proofs.Steps.{same}
 use Rattle.wdl_parse_expr.proofs.Says.{AnyFault, Takes, said, blamed}
 use Rattle.wdl_parse_expr.proofs.Sound.{tall_words, expr_sound, expr_takes}
@@ -32,6 +32,11 @@ Whole t = Tree max_depth rule.Expr t.depth t.tree
 
 pub is_front : (ts : Words) (t : Tall Expr) (tail : Words) → expr max_depth rule.Expr ts ≡ Ok (t, tail) → Fronts IsExpr words ts t.tree tail
 is_front ts t tail h = let s = said AnyFault (Takes Whole tall_words ts) _ (t, tail) (expr_takes max_depth rule.Expr ts) h in record { text = s.0; sound = (t.depth, s.1) }
+
+-- what is read is what the reader without depths gives
+pub is_read : (ts : Words) (t : Tall Expr) (tail : Words) → expr max_depth rule.Expr ts ≡ Ok (t, tail) → read_expr ts ≡ Ok (t.tree, tail)
+unfolding read_expr then_
+is_read ts t tail h = ap (λ o. then_ o (λ x rest. Ok (x.tree, rest))) h
 
 -- what stands at the front is read, or more
 front : (ts : Words) (y : Expr) (rest : Words) (f : Fronts IsExpr words ts y rest) → Reaches 6 (expr max_depth rule.Expr ts) (tall y f.sound.0) rest

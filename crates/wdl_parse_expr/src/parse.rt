@@ -1,8 +1,8 @@
-ghost use Rattle.std.specs.Prelude.{◌≡◌, ◌≤◌, length, drop, IfOk};
+ghost use Rattle.std.specs.Prelude.{◌≡◌, ◌≤◌, length, drop, Ok, IfOk};
 ghost use Rattle.wdl_ast.specs.Words.{words, type_words};
 ghost use Rattle.wdl_parse_expr.specs.Grammar.{IsExpr};
 ghost use Rattle.wdl_parse_expr.specs.TypeGrammar.{IsType};
-ghost use Rattle.wdl_parse_expr.specs.Contract.{Fronts, IsLongest, IsPlaced, IfBad, RefusesExpr, RefusesType, FaultOf};
+ghost use Rattle.wdl_parse_expr.specs.Contract.{Fronts, IsLongest, IsPlaced, IfBad, RefusesExpr, RefusesType, FaultOf, read_expr};
 
 use crate::cursor::Cursor;
 use crate::fault::{ParseFault, Refusal, Stop};
@@ -87,6 +87,8 @@ pub fn parse_expr(alloc: Global, tokens: &[Token], at: usize) -> Result<ParsedEx
     ensures found { IfOk result (λ r. Fronts IsExpr words (drop at tokens.now) r.expr (drop r.next tokens.now)) }
     // No other one does that is as long.
     ensures longest { IfOk result (λ r. IsLongest IsExpr words (drop at tokens.now) r.expr (drop r.next tokens.now)) }
+    // It is what reading to the end of it gives: no shorter one is answered where a code holds behind that.
+    ensures read { IfOk result (λ r. read_expr (drop at tokens.now) ≡ Ok (r.expr, drop r.next tokens.now)) }
     // 110, at one of the tokens, where none starts there; any other code is true of a token, and each that starts there may go on.
     ensures refused { IfBad (RefusesExpr tokens.now (drop at tokens.now)) result }
 {

@@ -4,9 +4,9 @@ use Rattle.wdl_parse_expr.specs.declared.tall.Rule.TheVariants as rule
 use Rattle.wdl_parse_expr.specs.Outcome.{Fails}
 use Rattle.wdl_parse_expr.specs.Grammar.{max_depth, IsExpr}
 use Rattle.wdl_parse_expr.specs.Reading.{expr}
-use Rattle.wdl_parse_expr.specs.Contract.{Fronts, IsLongest}
-use Rattle.wdl_parse_expr.proofs.Laws.{is_front, is_longest, refused}
-use Rattle.wdl_parse_expr.proofs.Places.{left_fits, front_at, longest_at}
+use Rattle.wdl_parse_expr.specs.Contract.{Fronts, IsLongest, read_expr}
+use Rattle.wdl_parse_expr.proofs.Laws.{is_front, is_longest, is_read, refused}
+use Rattle.wdl_parse_expr.proofs.Places.{left_fits, front_at, longest_at, place}
 use Rattle.wdl_parse_expr.proofs.parse.parse_expr.Goals as goal
 
 pub overflow_sub-result : goal.overflow_sub-result
@@ -30,6 +30,16 @@ returns-in-Ok-clause-longest c =
     subst (λ e. IsLongest IsExpr words (drop c.args.at ts) e (drop (length ts - c.len-left.result) ts)) (sym c.into_tree.ensures)
     (subst (λ n. IsLongest IsExpr words (drop c.args.at ts) c.in-Ok.tall.tree (drop (length ts - n) ts)) (sym c.len-left.ensures)
     (longest_at IsExpr words ts c.args.at c.in-Ok.tall.tree c.expr.new.tokens (is_front (drop c.args.at ts) c.in-Ok.tall c.expr.new.tokens read) c.requires (is_longest (drop c.args.at ts) c.in-Ok.tall c.expr.new.tokens read)))
+
+pub returns-in-Ok-clause-read : goal.returns-in-Ok-clause-read
+returns-in-Ok-clause-read c =
+    let ts = c.args.tokens.now in
+    let read : expr max_depth rule.Expr (drop c.args.at ts) ≡ Ok (c.in-Ok.tall, c.expr.new.tokens) = ap (expr max_depth rule.Expr) (sym c.cursor_at-cursor.ensures) ∙ c.in-Ok.ensures in
+    let front : Fronts IsExpr words (drop c.args.at ts) c.in-Ok.tall.tree c.expr.new.tokens = is_front (drop c.args.at ts) c.in-Ok.tall c.expr.new.tokens read in
+    let whole : read_expr (drop c.args.at ts) ≡ Ok (c.in-Ok.tall.tree, c.expr.new.tokens) = is_read (drop c.args.at ts) c.in-Ok.tall c.expr.new.tokens read in
+    subst (λ e. read_expr (drop c.args.at ts) ≡ Ok (e, drop (length ts - c.len-left.result) ts)) (sym c.into_tree.ensures)
+    (subst (λ n. read_expr (drop c.args.at ts) ≡ Ok (c.in-Ok.tall.tree, drop (length ts - n) ts)) (sym c.len-left.ensures)
+    (subst (λ z. read_expr (drop c.args.at ts) ≡ Ok (c.in-Ok.tall.tree, z)) (sym (place IsExpr words ts c.args.at c.in-Ok.tall.tree c.expr.new.tokens front c.requires)) whole))
 
 pub returns-in-Err-clause-refused : goal.returns-in-Err-clause-refused
 returns-in-Err-clause-refused c = refused c.args.tokens.now (drop c.args.at c.args.tokens.now) c.in-Err.stop c.fault_of.result c.fault_of.ensures (subst (λ z. Fails (expr max_depth rule.Expr z) c.in-Err.stop) c.cursor_at-cursor.ensures c.in-Err.ensures)
