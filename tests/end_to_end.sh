@@ -71,7 +71,7 @@ checks() {
 }
 
 echo "words"
-usage='usage: wdl run [--inputs FILE] [--workers N] [--root DIR] [--journal FILE] FILE | check FILE | inputs FILE | cwl [--inputs FILE] FILE\n'
+usage='usage: wdl run [--inputs FILE] [--workers N] [--root DIR] [--journal FILE] FILE | check FILE | inputs FILE | cwl [--inputs FILE] FILE | load N\n'
 document bare.wdl 'workflow w { }'
 expect "no words" 2 '' "$usage"
 expect "another command" 2 '' "$usage" walk bare.wdl
@@ -98,7 +98,11 @@ expect "a file behind --" 0 'ok\n' '' check -- bare.wdl
 expect "64 workers" 0 '{}\n' '' run --workers 64 bare.wdl
 expect "a journal" 0 '{}\n' '' run --journal journal bare.wdl
 expect "a journal that is a directory" 10 '' 'journal fault\n' run --journal . bare.wdl
-expect "load" 12 '' 'not built yet\n' load 3
+expect "load 1" 0 'calls 1 jobs 1 last 2\n' '' load 1
+expect "load 5" 0 'calls 5 jobs 5 last 7\n' '' load 5
+expect "load 10000" 0 'calls 10000 jobs 10000 last 983\n' '' load 10000
+expect "load 0" 2 '' "$usage" load 0
+expect "load 10001" 2 '' "$usage" load 10001
 expect "bundle" 12 '' 'not built yet\n' bundle bare.wdl
 
 echo "files"

@@ -24,7 +24,7 @@ use Rattle.workflow_cli.specs.Asking.{IsCheckOf, IsCommand, IsCwlOf, IsForInputs
 use Rattle.workflow_cli.specs.Causes.{CauseOf, IsFinished, Names}
 use Rattle.workflow_cli.specs.Complete.{CheckIsComplete, CwlIsComplete, DocumentIsComplete, FormIsComplete, InputsIsComplete, IsOr, IsSomeDocument, IsSomeExclusion, MainIsComplete, MustGive, MustHave, MustLack, NotBuiltIsComplete, PrintIsComplete, RunIsComplete, UsageIsComplete}
 use Rattle.workflow_cli.specs.Documents.{HasChecked, HasNoMain, IsRefused, Tells}
-use Rattle.workflow_cli.specs.Printing.{IsFormed, IsPrinted}
+use Rattle.workflow_cli.specs.Printing.{IsFormed}
 use Rattle.workflow_cli.specs.Running.{IsBadInputs, IsInputsText, IsStarted, Main, Trace, flow_of}
 use Rattle.workflow_cli.specs.Translating.{GivesAll, IsCwlText, IsInSubset, IsOutside, IsTranslated}
 use Rattle.workflow_cli.specs.Writing.{IsCut, Told}
@@ -56,10 +56,10 @@ no_check words file other inputs h (inr (inr k)) = let e = same_command words (c
 no_run : (words : Words) (file other : List ℕ) (inputs others : Option (List ℕ)) (options : RunOptions) → IsCwlOf words file inputs → IsRunOf words other others options → ⊥
 no_run words file other inputs others options h k = let e = same_command words (command.Cwl file inputs) (command.Run other others options) h k in cc
 
-not_both : (words : Words) (c : Command) → IsCommand words c → IsNotBuilt words → ⊥
+pub not_both : (words : Words) (c : Command) → IsCommand words c → IsNotBuilt words → ⊥
 not_both words c h k = let p = sym h.built ∙ ap command_of (same_wants words h.wants k.wants h.asked k.asked) ∙ k.missing in cc
 
-readable : (words : Words) (c : Command) → IsCommand words c → asked words ≡ None → ⊥
+pub readable : (words : Words) (c : Command) → IsCommand words c → asked words ≡ None → ⊥
 readable words c h e = let p = sym h.asked ∙ e in cc
 
 -- the file that a command names
@@ -68,6 +68,7 @@ file_of (command.Run file inputs options) = file
 file_of (command.Check file) = file
 file_of (command.Cwl file inputs) = file
 file_of (command.Inputs file) = file
+file_of (command.Load number) = []
 file_of (command.Print p) = []
 
 -- the inputs that it names
@@ -76,6 +77,7 @@ inputs_of (command.Run file inputs options) = inputs
 inputs_of (command.Check file) = None
 inputs_of (command.Cwl file inputs) = inputs
 inputs_of (command.Inputs file) = None
+inputs_of (command.Load number) = None
 inputs_of (command.Print p) = None
 
 -- a command of these words, which names this file and these inputs

@@ -10,7 +10,7 @@ use Rattle.wdl_base.specs.declared.step.Step.{Step}
 use Rattle.report_text.specs.declared.status.Status.{Status}
 use Rattle.report_text.specs.declared.status.Status.TheVariants as status
 use Rattle.wdl_typed.specs.Flow.{Flowing, is_empty, too_many}
-use Rattle.ready_core.specs.Cores.{CoreState, Origin, flow_of, has_fault}
+use Rattle.ready_core.specs.Cores.{CoreState, IsPaidFor, Origin, flow_of, has_fault}
 use Rattle.ready_core.specs.Flows.{outcome_of, outputs_if_clean, outputs_in}
 use Rattle.work_desk.specs.Keeping.{KeeperView, Went}
 use Rattle.work_desk.specs.Ran.{HasRun, IsDone}
@@ -43,32 +43,34 @@ module _ (gives : Request → Answer → Type 0) (refuses : Request → Type 0) 
 
   module _ (why : Option Stop) (c : CoreState) (origin : c.origin ≡ origin_of m) (journal : t.journal ≡ c.journal) (steps : t.steps ≡ c.steps) where
     make : Origin → List Entry → List Step → CoreState
-    make o es ss = record { origin = o; journal = es; taken = c.taken; out = c.out; steps = ss }
+    make o es ss = record { origin = o; journal = es; taken = c.taken; out = c.out; steps = ss; plan = c.plan }
 
-    same_core : c ≡ core_of m t c.taken c.out
+    same_core : c ≡ core_of m t c.taken c.out c.plan
     unfolding make
     same_core = ap (λ o. make o c.journal c.steps) origin ∙ ap (λ es. make (origin_of m) es c.steps) (sym journal) ∙ ap (make (origin_of m) t.journal) (sym steps)
 
     -- the work of a core after its run
     pub has_left : (rows : List Entry) (four : Counts) (name : List ℕ) → t.counts ≡ four → name ≡ m.flow.name → Ran rows c why four
-        → AreRowsOf t.keeper m.options.journal rows → Keeps c why → Turns name c why w → HasLeft gives refuses t m w
-    has_left rows four name counts named run of kept turns = record {
+        → AreRowsOf t.keeper m.options.journal rows → Keeps c why → (why ≡ None → IsPaidFor t.before t.now c) → Turns m.options.report name c why w → HasLeft gives refuses t m w
+    has_left rows four name counts named run of kept paid turns = record {
       why = why;
       left = record {
         rows = rows;
         of_keeper = of;
         taken = c.taken;
         out = c.out;
+        plan = c.plan;
         run = subst (λ x. Ran rows x why t.counts) same_core (subst (Ran rows c why) (sym counts) run);
         kept = subst (λ x. Keeps x why) same_core kept;
+        paid = subst (λ x. why ≡ None → IsPaidFor t.before t.now x) same_core paid;
       };
-      turns = subst (λ x. Turns m.flow.name x why w) same_core (subst (λ n. Turns n c why w) named turns);
+      turns = subst (λ x. Turns m.options.report m.flow.name x why w) same_core (subst (λ n. Turns m.options.report n c why w) named turns);
     }
 
   -- ---- a core that was not made, for want of memory
 
   abbrev Nothing : List Entry → List Step → CoreState
-  Nothing es ss = record { origin = origin_of m; journal = es; taken = []; out = []; steps = ss }
+  Nothing es ss = record { origin = origin_of m; journal = es; taken = []; out = []; steps = ss; plan = None }
 
   abbrev starved : Option Stop
   starved = Some end.NoMemory
@@ -77,7 +79,7 @@ module _ (gives : Request → Answer → Type 0) (refuses : Request → Type 0) 
   unstarted rows four = record { fed = refl; greedy = (refl, refl); given = All-nil (IsGiven gives rows []); counts = four; caused = tt; clean = λ e. cc }
 
   pub has_starved : (rows : List Entry) → t.journal ≡ [] → t.steps ≡ [] → AllEqual t.counts 0 → AreRowsOf t.keeper m.options.journal rows
-      → Keeps (core_of m t [] []) starved → w ≡ stops status.NoMemory → HasLeft gives refuses t m w
+      → Keeps (core_of m t [] [] None) starved → w ≡ stops status.NoMemory → HasLeft gives refuses t m w
   has_starved rows journal steps four of kept e = record {
     why = starved;
     left = record {
@@ -85,8 +87,10 @@ module _ (gives : Request → Answer → Type 0) (refuses : Request → Type 0) 
       of_keeper = of;
       taken = [];
       out = [];
+      plan = None;
       run = subst (λ es. Ran rows (Nothing es t.steps) starved t.counts) (sym journal) (subst (λ ss. Ran rows (Nothing [] ss) starved t.counts) (sym steps) (unstarted rows four));
       kept = kept;
+      paid = λ e. cc;
     };
     turns = (status.NoMemory, e, refl);
   }
@@ -109,8 +113,8 @@ module _ (gives : Request → Answer → Type 0) (refuses : Request → Type 0) 
     pub keeps : (k : KeeperView) (rows : List Entry) → IsOpened path t.keeper k rows → (c : CoreState) (why : Option Stop) → Went gives c why k t.keeper_now → Keeps c why
     keeps k rows o c why h = subst (λ j. KeepsRows gives c why j t.keeper t.keeper_now) (sym named) (went_from gives c why path t.keeper k t.keeper_now rows o h)
 
-    pub keeps_none : (k : KeeperView) (rows : List Entry) → IsOpened path t.keeper k rows → t.journal ≡ [] → t.keeper_now ≡ k → Keeps (core_of m t [] []) starved
-    keeps_none k rows o journal same = keeps k rows o (core_of m t [] []) starved (subst (Went gives (core_of m t [] []) starved k) (sym same) (went_none gives (core_of m t [] []) starved journal refl k))
+    pub keeps_none : (k : KeeperView) (rows : List Entry) → IsOpened path t.keeper k rows → t.journal ≡ [] → t.keeper_now ≡ k → Keeps (core_of m t [] [] None) starved
+    keeps_none k rows o journal same = keeps k rows o (core_of m t [] [] None) starved (subst (Went gives (core_of m t [] [] None) starved k) (sym same) (went_none gives (core_of m t [] [] None) starved journal refl k))
 
     -- the keeper failed before the run
     pub unopened : (s : Status) → IsIdle t → OpenStops path t.keeper t.keeper_now s → w ≡ stops s → RunsMain gives refuses t m w

@@ -1,3 +1,4 @@
+pub mod Plain
 mod ToldLemmas
 mod Works
 mod Outcomes
@@ -16,3 +17,4 @@ pub mod Starting
 pub mod Left
 mod Ends
 mod Opened
+mod Loaded

@@ -30,7 +30,7 @@ module _ (tells : Tells) (refused : List ℕ → Type 0) (rose : Type 0) (gives 
 
     run_on : (m : Main) (why : Option Stop) → IsRun tells words gives refuses t m why → On
     run_on m why run =
-        (subst (λ x. KeepsRows gives (core_of m t run.left.taken run.left.out) why x t.keeper t.keeper_now) (journal_is m run.started) run.left.kept).path
+        (subst (λ x. KeepsRows gives (core_of m t run.left.taken run.left.out run.left.plan) why x t.keeper t.keeper_now) (journal_is m run.started) run.left.kept).path
 
     finished_on : (text : List ℕ) → IsFinished tells words gives refuses t text → On
     finished_on text (inl h) = run_on h.main None h.run

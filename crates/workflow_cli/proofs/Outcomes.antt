@@ -14,7 +14,7 @@ use Rattle.workflow_cli.specs.Asking.{Words}
 use Rattle.workflow_cli.specs.Causes.{Cause, CauseOf}
 use Rattle.workflow_cli.specs.Documents.{Tells}
 use Rattle.workflow_cli.specs.Running.{Trace}
-use Rattle.workflow_cli.specs.Writing.{Finishes, IsCut, IsExcluded, IsReported, IsWritten, Lines, Reports, Told}
+use Rattle.workflow_cli.specs.Writing.{Finishes, IsCut, IsExcluded, IsReported, IsWritten, Lines, Reports, TellsLine, Told}
 
 -- a status with a line and nothing else
 abbrev has_line : Status → Bool
@@ -86,22 +86,28 @@ module _ (tells : Tells) (refused : List ℕ → Type 0) (rose : Type 0) (gives 
   excluded r o rule span e =
       let h = line_told r o (status.NotInSubset rule span) refl e in record { paths = h.paths; idle = h.cause.0; outside = h.cause.1; nothing = h.nothing; line = h.line }
 
-  lines_by : (r : Status) → IsTold r → Lines r out out' err err'
-  lines_by status.Ok h = tt
-  lines_by status.Write h = tt
-  lines_by (status.Document code span) h = tt
-  lines_by (status.NotInSubset rule span) h = tt
-  lines_by (status.Failed fault) h = (h.nothing, h.line)
-  lines_by status.Usage h = (h.nothing, h.line)
-  lines_by (status.Inputs code name) h = (h.nothing, h.line)
-  lines_by (status.Read path) h = (h.nothing, h.line)
-  lines_by status.NoMemory h = (h.nothing, h.line)
-  lines_by (status.Launch place) h = (h.nothing, h.line)
-  lines_by status.Keep h = (h.nothing, h.line)
-  lines_by status.TooMany h = (h.nothing, h.line)
-  lines_by status.NotBuilt h = (h.nothing, h.line)
+module _ (out out' err err' : Told) (rose_out rose_err : Type 0) where
+  lines_by : (r : Status) (paths : List (List ℕ)) → out' ≡ out → err' ≡ grown err (line_of r paths) → Lines r out out' err err'
+  lines_by status.Ok paths n l = tt
+  lines_by status.Write paths n l = tt
+  lines_by (status.Document code span) paths n l = tt
+  lines_by (status.NotInSubset rule span) paths n l = tt
+  lines_by (status.Failed fault) paths n l = (n, l)
+  lines_by status.Usage paths n l = (n, l)
+  lines_by (status.Inputs code name) paths n l = (n, l)
+  lines_by (status.Read path) paths n l = (n, l)
+  lines_by status.NoMemory paths n l = (n, l)
+  lines_by (status.Launch place) paths n l = (n, l)
+  lines_by status.Keep paths n l = (n, l)
+  lines_by status.TooMany paths n l = (n, l)
+  lines_by status.NotBuilt paths n l = (n, l)
 
-  pub lines : (r : Status) → Outcome r → Lines r out out' err err'
-  lines r (inl h) = subst (λ x. Lines x out out' err err') (sym h.0) tt
-  lines r (inr (inl h)) = subst (λ x. Lines x out out' err err') (sym h.0) tt
-  lines r (inr (inr h)) = lines_by r h
+  told_by : (s r : Status) (paths : List (List ℕ)) → out' ≡ out → TellsLine s (line_of s paths) err err' rose_err r → Lines r out out' err err'
+  told_by s r paths n (inl x) = subst (λ q. Lines q out out' err err') (sym x.0) (lines_by s paths n x.1)
+  told_by s r paths n (inr x) = subst (λ q. Lines q out out' err err') (sym x.0) tt
+
+  pub lines : (w : Work) (r : Status) → Finishes w out out' err err' rose_out rose_err r → Lines r out out' err err'
+  lines (work.Text text) r (inl f) = subst (λ q. Lines q out out' err err') (sym f.0) tt
+  lines (work.Text text) r (inr f) = subst (λ q. Lines q out out' err err') (sym f.0) tt
+  lines (work.Stop stop) r (n, inl x) = told_by stop.status r stop.paths n x
+  lines (work.Stop stop) r (n, inr x) = told_by status.NoMemory r [] n x

@@ -1,5 +1,5 @@
 -- The documents that are written mean what the flow gives.
-use Rattle.std.proofs.Common.{◌≡◌, ℕ, true, List, Option, Some, Ok, sym, ap, ◌∙◌}
+use Rattle.std.proofs.Common.{◌≡◌, ℕ, true, List, Some, Ok, sym, ap, ◌∙◌}
 use Rattle.std.specs.List.{slice_get}
 use Rattle.wdl_value.specs.declared.env.Bind.{Bind}
 use Rattle.wdl_value.specs.Tables.{Row}

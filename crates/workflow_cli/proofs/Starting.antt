@@ -10,6 +10,7 @@ use Rattle.wdl_json.specs.Inputs.{main_of}
 use Rattle.ready_core.specs.Cores.{CoreState, started}
 use Rattle.report_text.specs.declared.status.Status.{Status}
 use Rattle.work_desk.specs.declared.stop.Stop.{Stop as Why}
+use Rattle.workflow_cli.specs.declared.asking.Report.{Report}
 use Rattle.workflow_cli.specs.declared.ended.Stop.{Stop}
 use Rattle.workflow_cli.specs.declared.ended.Work.{Work}
 use Rattle.workflow_cli.specs.declared.ended.Work.TheVariants as work
@@ -30,7 +31,7 @@ module _ (c : Checked) (given : List Bind) where
       subst (λ (x : FlowDef). inputs_fit c.structs x.inputs given ≡ true) (some_same same) h.1.fit
 
   pub begun_is : (site : List ℕ) (main : FlowDef) (core : CoreState) (name : List ℕ) → main_of c.flows c.main ≡ Some main
-      → core ≡ started (record { checked = c; inputs = given; site = site }) → name ≡ main.name
+      → core ≡ started (record { checked = c; inputs = given; site = site }) core.plan → name ≡ main.name
       → (f : FlowDef) → IsFitting c given f → IsBegun c given site f (record { core = core; name = name })
   begun_is site main core name m e n f fit = record { core = e; name = n ∙ ap (λ (x : FlowDef). x.name) (some_same (sym m ∙ fit.main)) }
 
@@ -41,6 +42,6 @@ stop_is st s e p n = ap (λ x. make x st.paths st.note) e ∙ ap (λ x. make s x
     make : Status → List (List ℕ) → Option (String Global) → Work
     make x ps note = work.Stop (record { status = x; paths = ps; note = note })
 
-pub stop_turns : (name : List ℕ) (core : CoreState) (why : Why) (st : Stop) (s : Status) → st.status ≡ s → st.paths ≡ [] → st.note ≡ None → StopsAs core why s
-    → Turns name core (Some why) (work.Stop st)
-stop_turns name core why st s e p n h = (s, stop_is st s e p n, h)
+pub stop_turns : (r : Report) (name : List ℕ) (core : CoreState) (why : Why) (st : Stop) (s : Status) → st.status ≡ s → st.paths ≡ [] → st.note ≡ None → StopsAs core why s
+    → Turns r name core (Some why) (work.Stop st)
+stop_turns r name core why st s e p n h = (s, stop_is st s e p n, h)

@@ -9,6 +9,7 @@ use Rattle.wdl_words.specs.declared.wants.Wants.TheVariants.{Run, Check, Inputs,
 use Rattle.workflow_cli.specs.declared.asking.Command.{Command}
 use Rattle.workflow_cli.specs.declared.asking.Page.{Page}
 use Rattle.workflow_cli.specs.declared.asking.Page.TheVariants as page
+use Rattle.workflow_cli.specs.declared.asking.Report.TheVariants as report
 use Rattle.workflow_cli.specs.declared.asking.RunOptions.{RunOptions}
 use Rattle.workflow_cli.specs.declared.asking.Command.TheVariants as command
 
@@ -19,15 +20,15 @@ Words = List (String Global)
 unfoldable pub asked : Words → Option Wants
 asked words = wants (map string_bytes words)
 
--- what today's program does of it: all but `load` and `bundle`
+-- what today's program does of it: all but `bundle`
 abbrev pub command_of : Wants → Option Command
-command_of (Run file inputs workers root journal) = Some (command.Run file inputs (record { workers = workers; root = root; journal = journal }))
+command_of (Run file inputs workers root journal) = Some (command.Run file inputs (record { workers = workers; root = root; journal = journal; report = report.Outputs }))
 command_of (Check file) = Some (command.Check file)
 command_of (Cwl file inputs) = Some (command.Cwl file inputs)
 command_of (Inputs file) = Some (command.Inputs file)
 command_of (Help about) = Some (command.Print (page.Help about))
 command_of Version = Some (command.Print page.Version)
-command_of (Load number) = None
+command_of (Load number) = Some (command.Load number)
 command_of (Bundle file) = None
 
 -- the words ask for what is not built yet
@@ -58,6 +59,14 @@ IsCwlOf words file inputs = IsCommand words (command.Cwl file inputs)
 abbrev pub IsFormOf : Words → List ℕ → Type 0
 IsFormOf words file = IsCommand words (command.Inputs file)
 
+-- a workflow of so many calls, which is made and run
+abbrev pub IsLoadOf : Words → ℕ → Type 0
+IsLoadOf words number = IsCommand words (command.Load number)
+
+-- any such
+abbrev pub IsLoad : Words → Type 0
+IsLoad words = (number : ℕ) × IsLoadOf words number
+
 -- help or the version
 abbrev pub IsPrintOf : Words → Page → Type 0
 IsPrintOf words page = IsCommand words (command.Print page)
@@ -79,9 +88,10 @@ pub record IsJournal (words : Words) (path : List ℕ) : Type 0 where
   pub asked : IsRunOf words file inputs options
   pub named : options.journal ≡ Some path
 
--- 1 to 64 workers, and a directory of at most 512 bytes
+-- 1 to 64 workers, and a directory of at most 512 bytes; 1 to 10,000 calls
 abbrev pub IsWithin : Command → Type 0
 IsWithin (command.Run file inputs options) = (1 ≤ options.workers) × (options.workers ≤ 64) × (length options.root ≤ 512)
+IsWithin (command.Load number) = (1 ≤ number) × (number ≤ 10000)
 IsWithin _ = ⊤
 
 -- why nothing is done

@@ -3,9 +3,11 @@ pub mod Documents
 pub mod Running
 pub mod Causes
 pub mod Counting
+pub mod Reporting
 pub mod Stages
 pub mod Translating
 pub mod Printing
 pub mod Meaning
 pub mod Writing
+pub mod Loading
 pub mod Complete

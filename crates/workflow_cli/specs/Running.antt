@@ -1,5 +1,5 @@
 -- The main workflow with its inputs, and what its run comes to.
-use Rattle.std.specs.Prelude.{◌≡◌, ◌≢◌, ◌⊎◌, ℕ, true, false, List, [], ◌++◌, Contains, Option, Some, None, Ok, Err, codes}
+use Rattle.std.specs.Prelude.{◌≡◌, ◌≢◌, ◌≤◌, ◌+◌, ◌⊎◌, ℕ, true, false, List, [], ◌++◌, Contains, Option, Some, None, Ok, Err, codes}
 use Rattle.wdl_base.specs.declared.answer.Answer.{Answer}
 use Rattle.wdl_base.specs.declared.entry.Entry.{Entry}
 use Rattle.wdl_base.specs.declared.fault.Fault.{Fault}
@@ -17,9 +17,10 @@ use Rattle.wdl_typed.specs.Flow.{Flowing, is_clean, too_many}
 use Rattle.wdl_json.specs.Inputs.{inputs_in, main_of}
 use Rattle.wdl_json.specs.Outputs.{outputs_text}
 use Rattle.wdl_json.specs.declared.fault.InputFault.TheVariants.{Bad}
-use Rattle.ready_core.specs.Cores.{CoreState, Origin, flow_at}
+use Rattle.ready_core.specs.Cores.{CoreState, IsPaidFor, Origin, cost_at, flow_at}
 use Rattle.ready_core.specs.Flows.{outputs_in}
 use Rattle.ready_core.specs.Rows.{TakenJob}
+use Rattle.scatter_plan.specs.declared.plan.Plan.{Plan}
 use Rattle.work_desk.specs.Keeping.{KeeperView, Went, keeper_view}
 use Rattle.work_desk.specs.Ran.{HasRun}
 use Rattle.work_desk.specs.Stops.{is_strict}
@@ -110,19 +111,21 @@ KeepsRows gives c why None k l = (l ≡ k) × (why ≢ Some end.Keep)
 KeepsRows gives c why (Some path) k l = Went gives c why (keeper_view k.kept (Some path) k.faults) l
 
 -- the core of a run with this journal and these steps, which took these jobs, and where these are out
-abbrev pub core_of : Main → Trace → List TakenJob → List TakenJob → CoreState
-core_of m t taken out = record { origin = origin_of m; journal = t.journal; taken = taken; out = out; steps = t.steps }
+abbrev pub core_of : Main → Trace → List TakenJob → List TakenJob → Option Plan → CoreState
+core_of m t taken out plan = record { origin = origin_of m; journal = t.journal; taken = taken; out = out; steps = t.steps; plan = plan }
 
 -- What a run of the main workflow leaves, by the workers of its options and over these rows: the journal is fed, each answer is
 -- one that the launcher gives or that of a usable row, the steps leave no worker idle without need, and each taken job without
--- a usable row was put, picked, finished and collected.
+-- a usable row was put, picked, finished and collected. Where it did not stop, each expression was evaluated once at most.
 pub record Leaves (gives : Request → Answer → Type 0) (refuses : Request → Type 0) (t : Trace) (m : Main) (why : Option Stop) : Type 0 where
   pub rows : List Entry
   pub of_keeper : AreRowsOf t.keeper m.options.journal rows
   pub taken : List TakenJob
   pub out : List TakenJob
-  pub run : HasRun m.options.workers gives refuses rows (core_of m t taken out) why t.counts
-  pub kept : KeepsRows gives (core_of m t taken out) why m.options.journal t.keeper t.keeper_now
+  pub plan : Option Plan
+  pub run : HasRun m.options.workers gives refuses rows (core_of m t taken out plan) why t.counts
+  pub kept : KeepsRows gives (core_of m t taken out plan) why m.options.journal t.keeper t.keeper_now
+  pub paid : why ≡ None → IsPaidFor t.before t.now (core_of m t taken out plan)
 
 module _ (tells : Tells) (words : Words) where
   -- the words ask for a run of a document whose checked form has this main workflow, with the text of these inputs
@@ -177,12 +180,14 @@ module _ (tells : Tells) (words : Words) where
       pub why : Option Stop
       pub run : IsRun main why
 
-    -- The flow over the journal is within the limits and clean; the text is that of its outputs, and a newline.
+    -- The flow over the journal is within the limits and clean; the text is that of its outputs, and a newline. Each expression was
+    -- evaluated once at most.
     pub record IsDone (text : List ℕ) : Type 0 where
       pub main : Main
       pub run : IsRun main None
       pub few : too_many (flow_of main t.journal) ≡ false
       pub clean : is_clean (flow_of main t.journal) ≡ true
+      pub paid : t.now ≤ t.before + cost_at (origin_of main) t.journal
       pub outputs : text ≡ outputs_text main.flow.name (outputs_in main.checked (flow_of main t.journal)) ++ codes "\n"
 
     -- a fault of the flow over the journal

@@ -1,5 +1,5 @@
 -- What the stages of a run give.
-use Rattle.std.specs.Prelude.{◌≡◌, ◌≤◌, ◌⊎◌, ℕ, true, List, [], ◌∷◌, ◌++◌, Contains, Option, Some, None, Result, Ok, Err, codes, ⊤}
+use Rattle.std.specs.Prelude.{◌≡◌, ◌≤◌, ◌⊎◌, ℕ, true, List, [], ◌∷◌, Contains, Option, Some, None, Result, Ok, Err, codes, ⊤}
 use Rattle.wdl_base.specs.declared.answer.Answer.{Answer}
 use Rattle.wdl_base.specs.declared.entry.Entry.{Entry}
 use Rattle.wdl_base.specs.declared.request.Request.{Request}
@@ -13,14 +13,13 @@ use Rattle.wdl_typed.specs.declared.flow.FlowDef.{FlowDef}
 use Rattle.wdl_typed.specs.Flow.{too_many}
 use Rattle.wdl_typed.specs.Journal.{inputs_fit}
 use Rattle.wdl_json.specs.Inputs.{inputs_in, main_of}
-use Rattle.wdl_json.specs.Outputs.{outputs_text}
 use Rattle.wdl_json.specs.declared.fault.InputFault.TheVariants.{Bad}
 use Rattle.ready_core.specs.Cores as cores
 use Rattle.ready_core.specs.Cores.{CoreState}
-use Rattle.ready_core.specs.Flows.{outputs_in}
 use Rattle.work_desk.specs.Keeping.{KeeperView}
 use Rattle.work_desk.specs.declared.stop.Stop.{Stop as Why}
 use Rattle.work_desk.specs.declared.stop.Stop.TheVariants as end
+use Rattle.workflow_cli.specs.declared.asking.Report.{Report}
 use Rattle.workflow_cli.specs.declared.asking.RunOptions.{RunOptions}
 use Rattle.workflow_cli.specs.declared.ended.Stop.{Stop}
 use Rattle.workflow_cli.specs.declared.run.Begun.{Begun}
@@ -28,6 +27,7 @@ use Rattle.workflow_cli.specs.declared.prepare.Prepared.{Prepared}
 use Rattle.workflow_cli.specs.declared.ended.Work.{Work}
 use Rattle.workflow_cli.specs.declared.ended.Work.TheVariants as work
 use Rattle.workflow_cli.specs.Documents.{CheckStops, HasChecked, HasMain, HasNoMain, IsRefused, IsUnreadDocument, Tells}
+use Rattle.workflow_cli.specs.Reporting.{report_line}
 use Rattle.workflow_cli.specs.Running.{IsIdle, IsInputsText, IsOn, Leaves, Main, Trace, core_of}
 
 -- ---- the text of the inputs
@@ -140,14 +140,10 @@ StopsAs c (end.Launch place) s = s ≡ status.Launch place
 StopsAs c end.Keep s = s ≡ status.Keep
 StopsAs c end.TooMany s = s ≡ status.TooMany
 
--- the text of the outputs of the workflow of that name, and a newline
-abbrev pub outputs_line : List ℕ → CoreState → List ℕ
-outputs_line name c = outputs_text name (outputs_in c.origin.checked (cores.flow_of c)) ++ codes "\n"
-
--- the work of a run of the workflow of that name, which stopped so or did not stop
-abbrev pub Turns : List ℕ → CoreState → Option Why → Work → Type 0
-Turns name c None w = (w ≡ work.Text (outputs_line name c)) ⊎ (w ≡ stops status.NoMemory)
-Turns name c (Some why) w = (s : Status) × (w ≡ stops s) × StopsAs c why s
+-- the work of a run of the workflow of that name, of which so is reported, and which stopped so or did not stop
+abbrev pub Turns : Report → List ℕ → CoreState → Option Why → Work → Type 0
+Turns r name c None w = (w ≡ work.Text (report_line r name c)) ⊎ (w ≡ stops status.NoMemory)
+Turns r name c (Some why) w = (s : Status) × (w ≡ stops s) × StopsAs c why s
 
 -- ---- the journal
 
@@ -178,7 +174,7 @@ pub record IsFitting (c : Checked) (given : List Bind) (flow : FlowDef) : Type 0
 
 -- the core and the name of a main workflow with its inputs, before anything is taken
 pub record IsBegun (c : Checked) (given : List Bind) (site : List ℕ) (flow : FlowDef) (b : Begun) : Type 0 where
-  pub core : b.core ≡ cores.started (record { checked = c; inputs = given; site = site })
+  pub core : b.core ≡ cores.started (record { checked = c; inputs = given; site = site }) b.core.plan
   pub name : b.name ≡ flow.name
 
 -- the keeper was started on the path of the journal and its count of faults rose, and nothing ran
@@ -193,7 +189,7 @@ pub record IsUnopened (t : Trace) (m : Main) : Type 0 where
 pub record HasLeft (gives : Request → Answer → Type 0) (refuses : Request → Type 0) (t : Trace) (m : Main) (w : Work) : Type 0 where
   pub why : Option Why
   pub left : Leaves gives refuses t m why
-  pub turns : Turns m.flow.name (core_of m t left.taken left.out) why w
+  pub turns : Turns m.options.report m.flow.name (core_of m t left.taken left.out left.plan) why w
 
 -- the work of the main workflow: nothing ran, or a run
 abbrev pub RunsMain : (Request → Answer → Type 0) → (Request → Type 0) → Trace → Main → Work → Type 0

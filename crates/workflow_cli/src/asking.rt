@@ -11,7 +11,16 @@ use std::alloc::Global;
 use wdl_value::Text;
 use wdl_words::{Command as Topic, Wants, WordFault, read_words};
 
-/// How a workflow is run.
+/// What is written of a run that ended well.
+#[derive(Clone, Copy, Debug)]
+pub enum Report {
+    /// Its outputs, as one JSON object.
+    Outputs,
+    /// The line of a load of so many calls.
+    Load(u32),
+}
+
+/// How a workflow is run, and what is written of it.
 #[derive(Debug, Drop)]
 pub struct RunOptions {
     /// How many jobs may run at once, 1 to 64.
@@ -20,6 +29,7 @@ pub struct RunOptions {
     pub root: Text,
     /// The path of the journal.
     pub journal: Option<Text>,
+    pub report: Report,
 }
 
 /// A text that the program has of itself.
@@ -57,6 +67,10 @@ pub enum Command {
         /// The document's path.
         file: Text,
     },
+    /// Makes a workflow of so many calls, 1 to 10,000, and runs it.
+    Load {
+        number: u32,
+    },
     /// Prints a page of the program's own.
     Print {
         page: Page,
@@ -83,6 +97,7 @@ fn command_of(wants: Wants) -> Option<Command>
                 workers,
                 root,
                 journal,
+                report: Report::Outputs,
             },
         }),
         Wants::Check { file } => Some(Command::Check { file }),
@@ -94,7 +109,7 @@ fn command_of(wants: Wants) -> Option<Command>
         Wants::Version => Some(Command::Print {
             page: Page::Version,
         }),
-        Wants::Load { number: _ } => None,
+        Wants::Load { number } => Some(Command::Load { number }),
         Wants::Bundle { file: _ } => None,
     }
 }

@@ -10,6 +10,8 @@ mod finish;
 mod inputs;
 mod journal;
 mod laws;
+mod load;
+mod load_line;
 mod note;
 mod prepare;
 mod printing;

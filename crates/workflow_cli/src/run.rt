@@ -2,7 +2,8 @@
 
 ghost use Rattle.std.specs.Prelude.{◌≡◌, ◌≤◌, ◌⊎◌, ◌++◌, true, ℕ, List, [], codes, None, Some, IfOk};
 ghost use Rattle.report_text.specs.Lines.{HasPath};
-ghost use Rattle.ready_core.specs.Cores.{flow_of, has_fault};
+ghost use Rattle.ready_core.specs.Cores.{IsPaidFor, flow_of, has_fault};
+ghost use Rattle.ready_core.specs.Flows.{outputs_in};
 ghost use Rattle.wdl_json.specs.Outputs.{outputs_text as spec_text};
 ghost use Rattle.wdl_port.specs.Causes.{Rose};
 ghost use Rattle.wdl_port.specs.Rows.{are_kept, rises};
@@ -12,14 +13,16 @@ ghost use Rattle.work_desk.specs.Ran.{IsDone};
 ghost use Rattle.work_desk.specs.Views.{AllEqual};
 ghost use Rattle.work_desk.specs.declared.stop.Stop.TheVariants as end;
 ghost use Rattle.workflow_cli.specs.Counting.{WorkCounts};
+ghost use Rattle.workflow_cli.specs.Reporting.{report_line};
 ghost use Rattle.workflow_cli.specs.Running.{NamesJournal, work_trace};
 ghost use Rattle.workflow_cli.specs.Stages.{IsBegun, IsFailedAs, IsFitting, IsOpened, RunsFile, RunsMain, StopsAs, Turns, main_with};
 ghost use Rattle.workflow_cli.specs.Writing.{HasPaths};
 
-use crate::asking::RunOptions;
+use crate::asking::{Report, RunOptions};
 use crate::checking::stop;
 use crate::ended::{Work, Worked};
 use crate::journal::rows_of;
+use crate::load_line::load_line;
 use crate::prepare::{Prepared, main_flow, start_of};
 use crate::recall::Recall;
 use ready_core::{Core, History};
@@ -44,17 +47,34 @@ fn text_of(alloc: Global, name: &Name, outputs: &[Bind]) -> Result<Text, NoMemor
     Ok(text)
 }
 
+/// What is reported of a run with these outputs.
+fn report_of(
+    alloc: Global,
+    report: Report,
+    name: &Name,
+    core: &Core,
+    outputs: &[Bind],
+) -> Result<Text, NoMemory>
+    requires outputs { outputs.now ≡ outputs_in core.now.origin.checked (flow_of core.now) }
+    ensures value { IfOk result (λ t. t ≡ report_line report name.now core.now) }
+{
+    match report {
+        Report::Outputs => text_of(alloc, name, outputs),
+        Report::Load(number) => load_line(alloc, number, core.journal().len(), outputs),
+    }
+}
+
 /// The work of a run without a stop.
 #[tactic(auto, using(crate::proofs::Left::outcome_is))]
-fn outputs_work(alloc: Global, name: &Name, core: &Core) -> Work
+fn outputs_work(alloc: Global, report: Report, name: &Name, core: &Core) -> Work
     requires done { IsDone core.now }
-    ensures turns { Turns name.now core.now None result }
+    ensures turns { Turns report name.now core.now None result }
     ensures paths { HasPaths result }
 {
     let Some(outputs) = core.outcome() else {
         unreachable!();
     };
-    match text_of(alloc, name, outputs.as_slice()) {
+    match report_of(alloc, report, name, core, outputs.as_slice()) {
         Ok(text) => Work::Text(text),
         Err(_) => Work::Stop(stop(alloc, Status::NoMemory)),
     }
@@ -93,14 +113,14 @@ fn status_of(alloc: Global, core: &Core, why: Stop) -> Status
 
 /// What the end of a run comes to.
 #[tactic(auto, using(crate::proofs::Starting::stop_turns))]
-fn work_of(alloc: Global, name: &Name, core: &Core, why: Option<Stop>) -> Work
+fn work_of(alloc: Global, report: Report, name: &Name, core: &Core, why: Option<Stop>) -> Work
     requires done { why ≡ None → IsDone core.now }
     requires failed { why ≡ Some end.Failed → has_fault (flow_of core.now) ≡ true }
-    ensures turns { Turns name.now core.now why result }
+    ensures turns { Turns report name.now core.now why result }
     ensures paths { HasPaths result }
 {
     match why {
-        None => outputs_work(alloc, name, core),
+        None => outputs_work(alloc, report, name, core),
         Some(why) => Work::Stop(stop(alloc, status_of(alloc, core, why))),
     }
 }
@@ -126,17 +146,17 @@ pub fn idle(alloc: Global, work: Work) -> Worked
 }
 
 /// The work of a run that ended.
-fn worked(alloc: Global, name: &Name, ran: Ran) -> Worked
+fn worked(alloc: Global, report: Report, name: &Name, ran: Ran) -> Worked
     requires done { ran.stop ≡ None → IsDone ran.core }
     requires failed { ran.stop ≡ Some end.Failed → has_fault (flow_of ran.core) ≡ true }
-    ensures turns { Turns name.now ran.core ran.stop result.work }
+    ensures turns { Turns report name.now ran.core ran.stop result.work }
     ensures paths { HasPaths result.work }
     ensures journal { result.journal ≡ ran.core.journal }
     ensures steps { result.steps ≡ ran.core.steps }
     ensures counts { result.counts ≡ ran.counts }
 {
     let Ran { core, stop, counts } = ran;
-    let work = work_of(alloc, name, &core, stop);
+    let work = work_of(alloc, report, name, &core, stop);
     let History { journal, steps } = core.into_history();
     Worked {
         work,
@@ -164,6 +184,7 @@ fn begin<S: Ledger>(
     requires fitting { (f : Flow) × IsFitting prepared.checked prepared.given f }
     ensures value { IfOk result (λ b. (f : Flow) → IsFitting prepared.checked prepared.given f
         → IsBegun prepared.checked prepared.given root.now f b) }
+    ensures paid { IfOk result (λ b. IsPaidFor steps.old steps.new b.core) }
 {
     let Some(flow) = main_flow(&prepared.checked) else {
         unreachable!();
@@ -180,7 +201,7 @@ fn begin<S: Ledger>(
 }
 
 /// Runs the main workflow without a journal.
-fn run_plain<L: Launcher + Sync, N: Sink, R: Threads + Wait + Clock + Sync, S: Ledger>(
+pub fn run_plain<L: Launcher + Sync, N: Sink, R: Threads + Wait + Clock + Sync, S: Ledger>(
     rt: &R,
     alloc: Global,
     prepared: Prepared,
@@ -214,7 +235,7 @@ fn run_plain<L: Launcher + Sync, N: Sink, R: Threads + Wait + Clock + Sync, S: L
         steps,
     );
     progress.end(alloc, &ran.core, &options.root);
-    worked(alloc, &name, ran)
+    worked(alloc, options.report, &name, ran)
 }
 
 /// Runs the main workflow over the rows of its journal, and keeps its answers there.
@@ -258,7 +279,7 @@ fn run_over<L: Launcher + Sync, K: Keeper, N: Sink, R: Threads + Wait + Clock + 
         steps,
     );
     progress.end(alloc, &ran.core, &options.root);
-    worked(alloc, &name, ran)
+    worked(alloc, options.report, &name, ran)
 }
 
 /// Runs the main workflow with its inputs: over the rows of its journal where one is named.

@@ -4,9 +4,10 @@ ghost use Rattle.wdl_base.specs.declared.fault.Fault.{Fault as FaultOf};
 ghost use Rattle.wdl_base.specs.declared.place.Segment.{Segment as SegmentOf};
 ghost use Rattle.wdl_base.specs.declared.span.Span.{Span as SpanOf};
 ghost use Rattle.report_text.specs.declared.status.Status.TheVariants as status;
-ghost use Rattle.workflow_cli.specs.Asking.{IsNotBuilt, asked};
+ghost use Rattle.workflow_cli.specs.Asking.{IsLoad, IsLoadOf, IsNotBuilt, asked};
 ghost use Rattle.workflow_cli.specs.Causes.{IsStartedOn, IsUnread, UsesJournal};
 ghost use Rattle.workflow_cli.specs.Counting.{StatusCounts};
+ghost use Rattle.workflow_cli.specs.Loading.{IsLoadWritten, LoadEnds};
 ghost use Rattle.workflow_cli.specs.Running.{IsBadInputs, IsFailed, IsIdle, IsTooMany, IsUnkept, IsUnlaunched, SomeRun, trace_by};
 ghost use Rattle.workflow_cli.specs.Writing.{IsCut, IsExcluded, IsReported, IsWritten, Lines};
 ghost use Rattle.workflow_cli.specs.Complete.{CheckIsComplete, CwlIsComplete, DocumentIsComplete, FormIsComplete, InputsIsComplete, MainIsComplete, NotBuiltIsComplete, PrintIsComplete, RunIsComplete, UsageIsComplete};
@@ -31,13 +32,15 @@ use wdl_value::Steps;
 /// a job that has a row with the same request and a successful status is not launched, and each answer is kept. `check FILE`
 /// writes `ok` and a newline, where the document has a checked form. `cwl FILE` writes the CWL document of the main workflow and
 /// a newline, and `cwl --inputs INPUTS FILE` the CWL input object of these inputs and a newline, where no rule of the subset is
-/// broken. `inputs FILE` writes the inputs of the main workflow as a JSON object to fill in and a newline; `help` and `version`,
+/// broken. `load N` makes a workflow of N calls, runs it by 4 workers with answers of its own, and writes `calls N jobs J last V`
+/// and a newline, where J is the length of the journal and V the output; it calls neither the shelf nor the launcher nor the
+/// keeper. `inputs FILE` writes the inputs of the main workflow as a JSON object to fill in and a newline; `help` and `version`,
 /// which have other spellings, a text of the program and a newline. With another status its line is written to `err`.
 ///
 /// `notes` gets what a person is told of a run as it goes on, and of why a command does no more. Nothing is promised of it here, and
 /// nothing depends on whether a write to it fails. `style` says how the lines of a run look.
 ///
-/// Not built yet are `load` and `bundle`.
+/// Not built yet is `bundle`.
 pub fn workflow<
     F: Shelf + Recall,
     O: Sink,
@@ -61,41 +64,51 @@ pub fn workflow<
     steps: &mut Steps<S>,
 ) -> Ended
     requires no_file { K.path keeper.old ≡ None }
-    // Nothing ran; or the journal is fed for the main workflow, and the launcher gave each of its answers.
-    ensures run { IsIdle (trace_by K.kept K.path K.faults result steps.old steps.new keeper.old keeper.new)
+    // Of each command but `load`: nothing ran; or the journal is fed for the main workflow, and the launcher gave each of its answers.
+    ensures run { ¬ (IsLoad words.now) → IsIdle (trace_by K.kept K.path K.faults result steps.old steps.new keeper.old keeper.new)
         ⊎ SomeRun (F.tells shelf.old) words.now (L.gives launcher.now) (L.refuses launcher.now) (trace_by K.kept K.path K.faults result steps.old steps.new keeper.old keeper.new) }
-    // What each status says.
-    ensures ok { result.status ≡ status.Ok
+    // What each status says, of each command but `load`.
+    ensures ok { ¬ (IsLoad words.now) → result.status ≡ status.Ok
         → IsWritten (F.tells shelf.old) words.now (L.gives launcher.now) (L.refuses launcher.now) (trace_by K.kept K.path K.faults result steps.old steps.new keeper.old keeper.new)
         (O.told out.old) (O.told out.new) (E.told err.old) (E.told err.new) }
-    ensures failed { (f : FaultOf) → result.status ≡ status.Failed f
+    ensures failed { ¬ (IsLoad words.now) → (f : FaultOf) → result.status ≡ status.Failed f
         → IsFailed (F.tells shelf.old) words.now (L.gives launcher.now) (L.refuses launcher.now) (trace_by K.kept K.path K.faults result steps.old steps.new keeper.old keeper.new) f }
-    ensures usage { result.status ≡ status.Usage
+    ensures usage { ¬ (IsLoad words.now) → result.status ≡ status.Usage
         → IsIdle (trace_by K.kept K.path K.faults result steps.old steps.new keeper.old keeper.new) × (asked words.now ≡ None) }
-    ensures document { (code : ℕ) (span : SpanOf) → result.status ≡ status.Document code span
+    ensures document { ¬ (IsLoad words.now) → (code : ℕ) (span : SpanOf) → result.status ≡ status.Document code span
         → IsReported (F.tells shelf.old) words.now (L.gives launcher.now) (L.refuses launcher.now) (trace_by K.kept K.path K.faults result steps.old steps.new keeper.old keeper.new)
         (O.told out.old) (O.told out.new) (E.told err.old) (E.told err.new) code span }
-    ensures inputs { (code : ℕ) (name : Option (List ℕ)) → result.status ≡ status.Inputs code name
+    ensures inputs { ¬ (IsLoad words.now) → (code : ℕ) (name : Option (List ℕ)) → result.status ≡ status.Inputs code name
         → IsIdle (trace_by K.kept K.path K.faults result steps.old steps.new keeper.old keeper.new) × IsBadInputs (F.tells shelf.old) words.now code name }
-    ensures read { (p : List ℕ) → result.status ≡ status.Read p
+    ensures read { ¬ (IsLoad words.now) → (p : List ℕ) → result.status ≡ status.Read p
         → IsIdle (trace_by K.kept K.path K.faults result steps.old steps.new keeper.old keeper.new)
         × IsUnread (F.tells shelf.old) words.now (F.refuses shelf.old) (Rose (F.faults shelf.old) (F.faults shelf.new)) p }
-    ensures write { result.status ≡ status.Write
+    ensures write { ¬ (IsLoad words.now) → result.status ≡ status.Write
         → IsCut (F.tells shelf.old) (F.refuses shelf.old) (Rose (F.faults shelf.old) (F.faults shelf.new))
         (L.gives launcher.now) (L.refuses launcher.now) words.now (trace_by K.kept K.path K.faults result steps.old steps.new keeper.old keeper.new)
         (O.told out.old) (O.told out.new) (E.told err.old) (E.told err.new)
         (Rose (O.faults out.old) (O.faults out.new)) (Rose (E.faults err.old) (E.faults err.new)) }
-    ensures not_in_subset { (rule : ℕ) (span : SpanOf) → result.status ≡ status.NotInSubset rule span
+    ensures not_in_subset { ¬ (IsLoad words.now) → (rule : ℕ) (span : SpanOf) → result.status ≡ status.NotInSubset rule span
         → IsExcluded (F.tells shelf.old) words.now (L.gives launcher.now) (L.refuses launcher.now) (trace_by K.kept K.path K.faults result steps.old steps.new keeper.old keeper.new)
         (O.told out.old) (O.told out.new) (E.told err.old) (E.told err.new) rule span }
-    ensures launch { (p : List SegmentOf) → result.status ≡ status.Launch p
+    ensures launch { ¬ (IsLoad words.now) → (p : List SegmentOf) → result.status ≡ status.Launch p
         → IsUnlaunched (F.tells shelf.old) words.now (L.gives launcher.now) (L.refuses launcher.now) (trace_by K.kept K.path K.faults result steps.old steps.new keeper.old keeper.new) p }
-    ensures keep { result.status ≡ status.Keep
+    ensures keep { ¬ (IsLoad words.now) → result.status ≡ status.Keep
         → IsUnkept (F.tells shelf.old) words.now (L.gives launcher.now) (L.refuses launcher.now) (trace_by K.kept K.path K.faults result steps.old steps.new keeper.old keeper.new) }
-    ensures too_many { result.status ≡ status.TooMany
+    ensures too_many { ¬ (IsLoad words.now) → result.status ≡ status.TooMany
         → IsTooMany (F.tells shelf.old) words.now (L.gives launcher.now) (L.refuses launcher.now) (trace_by K.kept K.path K.faults result steps.old steps.new keeper.old keeper.new) }
-    ensures not_built { result.status ≡ status.NotBuilt
+    ensures not_built { ¬ (IsLoad words.now) → result.status ≡ status.NotBuilt
         → IsIdle (trace_by K.kept K.path K.faults result steps.old steps.new keeper.old keeper.new) × IsNotBuilt words.now }
+    // `load N` with Ok writes its line and nothing else: the journal is fed for the checked form of its document, each answer is one
+    // of its table, and the flow over it is clean.
+    ensures load_ok { (n : ℕ) → IsLoadOf words.now n → result.status ≡ status.Ok
+        → IsLoadWritten n (trace_by K.kept K.path K.faults result steps.old steps.new keeper.old keeper.new)
+        (O.told out.old) (O.told out.new) (E.told err.old) (E.told err.new) }
+    // With each status it is as a run of that document, over its own shelf and with its own launcher.
+    ensures load { (n : ℕ) → IsLoadOf words.now n
+        → LoadEnds n (trace_by K.kept K.path K.faults result steps.old steps.new keeper.old keeper.new)
+        (O.told out.old) (O.told out.new) (E.told err.old) (E.told err.new)
+        (Rose (O.faults out.old) (O.faults out.new)) (Rose (E.faults err.old) (E.faults err.new)) result.status }
     // With a status other than Read, Write and NoMemory every read succeeded.
     ensures counted { StatusCounts result.status (F.faults shelf.old) (F.faults shelf.new) }
     // With a status other than Ok, Write, Document and NotInSubset, its line and nothing else was written.

@@ -1,8 +1,10 @@
-ghost use Rattle.std.specs.Prelude.{◌≡◌, ◌⊎◌, None};
+ghost use Rattle.std.specs.Prelude.{◌≡◌, ◌⊎◌, ℕ, None};
 ghost use Rattle.wdl_port.specs.Causes.{Rose};
 ghost use Rattle.work_desk.specs.Keeping.{keeper_view};
+ghost use Rattle.workflow_cli.specs.Asking.{IsLoad, IsLoadOf};
 ghost use Rattle.workflow_cli.specs.Causes.{IsWork, UsesJournal};
 ghost use Rattle.workflow_cli.specs.Counting.{WorkCounts};
+ghost use Rattle.workflow_cli.specs.Loading.{LoadsAs};
 ghost use Rattle.workflow_cli.specs.Running.{work_trace};
 ghost use Rattle.workflow_cli.specs.Stages.{Accepts};
 ghost use Rattle.workflow_cli.specs.Writing.{HasPaths};
@@ -11,6 +13,7 @@ use crate::asking::{Command, asked};
 use crate::checking::{checked_of, stop};
 use crate::cwl::cwl;
 use crate::ended::{Work, Worked};
+use crate::load::load;
 use crate::printing::{form, printed};
 use crate::recall::Recall;
 use crate::run::{idle, run};
@@ -59,9 +62,12 @@ pub fn work<
     steps: &mut Steps<S>,
 ) -> Worked
     requires fresh { K.path keeper.old ≡ None }
-    ensures cause { IsWork (F.tells shelf.old) (F.refuses shelf.old) (Rose (F.faults shelf.old) (F.faults shelf.new))
+    ensures cause { ¬ (IsLoad words.now) → IsWork (F.tells shelf.old) (F.refuses shelf.old) (Rose (F.faults shelf.old) (F.faults shelf.new))
         (L.gives launcher.now) (L.refuses launcher.now) words.now
         (work_trace result steps.old steps.new (keeper_view (K.kept keeper.old) (K.path keeper.old) (K.faults keeper.old))
+        (keeper_view (K.kept keeper.new) (K.path keeper.new) (K.faults keeper.new))) result.work }
+    ensures load { (n : ℕ) → IsLoadOf words.now n
+        → LoadsAs n (work_trace result steps.old steps.new (keeper_view (K.kept keeper.old) (K.path keeper.old) (K.faults keeper.old))
         (keeper_view (K.kept keeper.new) (K.path keeper.new) (K.faults keeper.new))) result.work }
     ensures counted { WorkCounts result.work (F.faults shelf.old) (F.faults shelf.new) }
     ensures paths { HasPaths result.work }
@@ -80,6 +86,7 @@ pub fn work<
         Ok(Command::Check { file }) => idle(alloc, accepted(alloc, &file, shelf)),
         Ok(Command::Cwl { file, inputs }) => idle(alloc, cwl(alloc, &file, &inputs, shelf)),
         Ok(Command::Inputs { file }) => idle(alloc, form(alloc, &file, shelf)),
+        Ok(Command::Load { number }) => load(rt, alloc, number, style, steps),
         Ok(Command::Print { page }) => idle(alloc, printed(alloc, page)),
         Err(status) => idle(alloc, Work::Stop(stop(alloc, status))),
     }

@@ -19,6 +19,8 @@ mod lanes;
 #[cfg(test)]
 mod left;
 #[cfg(test)]
+mod loads;
+#[cfg(test)]
 mod notes;
 #[cfg(test)]
 mod progress;

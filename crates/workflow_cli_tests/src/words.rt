@@ -10,7 +10,7 @@ const UNREADABLE: &str =
 run --inputs w.wdl|check|inputs|inputs w.wdl w.wdl|help w.wdl|help version|run --help w.wdl|cwl|cwl --inputs w.wdl|cwl --root /a w.wdl|load 0|load 10001|run --root /a --root /b w.wdl";
 
 /// Words that ask for what is not built.
-const NOT_BUILT: &str = "load 1|load 10000|bundle w.wdl";
+const NOT_BUILT: &str = "bundle w.wdl|bundle lost.wdl";
 
 /// What is wrong with the first of these words, between bars, of which the call shows anything else.
 fn first_wrong<R: Threads + Wait + Clock + Sync + AllocGlobal>(
@@ -34,7 +34,7 @@ fn first_wrong<R: Threads + Wait + Clock + Sync + AllocGlobal>(
 #[test]
 fn words_without_a_reading_have_status_2(rt: HostRuntime) -> Result<(), Fail> {
     let expected = "> 2 0\n> ! usage: wdl run [--inputs FILE] [--workers N] [--root DIR] \
-                    [--journal FILE] FILE | check FILE | inputs FILE | cwl [--inputs FILE] FILE";
+                    [--journal FILE] FILE | check FILE | inputs FILE | cwl [--inputs FILE] FILE | load N";
     assert_eq!(rt; first_wrong(&rt, UNREADABLE, expected)?.as_str(), "");
     Ok(())
 }

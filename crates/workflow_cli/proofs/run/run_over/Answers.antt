@@ -34,4 +34,4 @@ returns-clause-value g c f fit path k named o =
     let r = c.run_all-ran.ensures in
     let left = c.worked.ensures in
     inr (inr (has_left gives refuses t m w ran.stop ran.core (r.origin ∙ ap (λ (x : CoreState). x.origin) b.core) left.journal left.steps c.args.rows ran.counts c.in-Ok.field-0.name left.counts b.name
-    r.run (its_rows gives refuses t m w path named v c.args.rows o) (keeps gives refuses t m w path named v c.args.rows o ran.core ran.stop r.keeper) left.turns))
+    r.run (its_rows gives refuses t m w path named v c.args.rows o) (keeps gives refuses t m w path named v c.args.rows o ran.core ran.stop r.keeper) (λ none. r.paid.paid none c.args.steps.now c.in-Ok.ensures.paid) left.turns))

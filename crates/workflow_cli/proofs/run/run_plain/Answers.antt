@@ -32,4 +32,4 @@ returns-clause-value g c f fit k =
     let left = c.worked.ensures in
     inr (inr (has_left gives refuses t m w ran.stop ran.core (r.origin ∙ ap (λ (x : CoreState). x.origin) b.core) left.journal left.steps [] ran.counts c.in-Ok.field-0.name left.counts b.name
     (subst (λ x. HasRun m.options.workers gives refuses x ran.core ran.stop ran.counts) c.new.ensures r.run) (no_rows gives refuses t m w c.requires.none)
-    (unkept gives refuses t m w c.requires.none ran.core ran.stop refl (r.unkept refl)) left.turns))
+    (unkept gives refuses t m w c.requires.none ran.core ran.stop refl (r.unkept refl)) (λ none. r.paid.paid none c.args.steps.now c.in-Ok.ensures.paid) left.turns))
