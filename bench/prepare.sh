@@ -4,3 +4,11 @@ top=$(CDPATH= cd -- "$(dirname -- "$0")/.." && pwd) || exit 1
 work=$(mktemp -d) || exit 1
 trap 'rm -rf "$work"' EXIT
 program=${1:-$("$top/tools/program.sh")} || exit 1
+
+# clock: prints which time says most on this machine now: `wall-clock`, or `processor` where other work takes more than a quarter of the processors.
+clock() {
+  { head -n 1 /proc/stat && sleep 1 && head -n 1 /proc/stat; } | awk '
+    { idle = $5 + $6; all = 0; for (i = 2; i <= 9; i++) all += $i }
+    NR == 1 { idle_before = idle; all_before = all }
+    END { print (idle - idle_before < 0.75 * (all - all_before)) ? "processor" : "wall-clock" }'
+}

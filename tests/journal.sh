@@ -1,5 +1,5 @@
 #!/bin/sh
-# Tests `wdl run --journal` with the built program: the same command line again launches nothing, a run that was killed resumes, one run at a time has a
+# Tests `wdl run --journal` with the built program: the same command line again launches nothing, a run that was ended resumes, one run at a time has a
 # journal, and a journal that cannot be kept is status 10. Where the shell `sqlite3` is installed, it reads the journals and runs the queries of
 # docs/JOURNAL.md. Its last line is 'N passed, M failed'; it ends non-zero where a check failed.
 #
@@ -162,9 +162,10 @@ begin() {
   pid=$!
 }
 
-# end: waits for the run that began, and for the commands that it left.
+# end: waits for the run that began, and for the commands that it left. `ended` is what it ended with.
 end() {
   wait "$pid" 2>/dev/null
+  ended=$?
   while kill -0 "-$pid" 2>/dev/null; do sleep 0.01; done
 }
 
@@ -230,30 +231,86 @@ for signal in INT TERM; do
     until_launched 20
     kill "-$signal" "$group$pid"
     end
+    case $signal:$ended in
+      INT:130 | TERM:143) pass ;;
+      *) fail "SIG$signal: the run ended with $ended" ;;
+    esac
     resumes "a run that got SIG$signal${group:+ with its commands}"
   done
 done
 
 echo "two runs at once"
-steps slow.wdl 4 'sleep 0.5'
+# The commands of this document wait until the file `go` is there, so that the first run has the journal for as long as the test wants.
+steps held.wdl 4 "until [ -e $work/go ]; do sleep 0.05; done"
+echo '{"w.r":[["0"],["1"],["2"],["3"]]}' >want
 fresh
-"$program" run --workers 2 --journal j --root "$root" slow.wdl >first 2>first_err </dev/null &
+"$program" run --workers 2 --journal j --root "$root" held.wdl >first 2>first_err </dev/null &
 pid=$!
-until_launched 1
-run slow.wdl
-case $status in
-  0) ;;
-  *) gives "a second run" 10 nothing 'journal fault' ;;
-esac
+until_launched 2
+run held.wdl
+gives "a second run" 10 nothing 'journal fault'
+[ "$(count launches)" = 2 ] && pass || fail "a second run: $(count launches) launches"
+if [ "$sqlite3" ]; then
+  sqlite3 j 'SELECT count(*) FROM entry' >out 2>err
+  [ $? != 0 ] && grep -q locked err && pass || fail "sqlite3 while a run goes on: $(cat out err)"
+fi
+: >go
 wait "$pid"
 status=$?
 mv first out && mv first_err err
-echo '{"w.r":[["0"],["1"],["2"],["3"]]}' >want
 gives "the first run" 0 want ''
-run slow.wdl
+run held.wdl
 gives "the run after both" 0 want ''
 launched "the run after both" 0 1 2 3
+if [ "$sqlite3" ]; then
+  # sqlite3 has the file open while it waits for the rest of its script.
+  mkfifo script
+  sqlite3 j <script >rows 2>&1 &
+  pid=$!
+  exec 9>script
+  printf 'BEGIN IMMEDIATE;\n.shell touch opened\n' >&9
+  while [ ! -e opened ] && kill -0 "$pid" 2>/dev/null; do sleep 0.01; done
+  run held.wdl
+  gives "a run while sqlite3 has the journal" 10 nothing 'journal fault'
+  echo 'COMMIT;' >&9
+  exec 9>&-
+  wait "$pid"
+  run held.wdl
+  gives "the run after sqlite3" 0 want ''
+  launched "the run after sqlite3" 0 1 2 3
+fi
+# Of two runs that begin together one has the journal, and the other one ends at once.
+# beside NAME: begins a run whose status comes into the file NAME.status.
+beside() {
+  ("$program" run --workers 2 --journal j --root "$root" held.wdl >"$1" 2>"$1.err" </dev/null; echo $? >"$1.status") &
+}
+for moment in $(seq 1 10); do
+  fresh
+  rm -f go left.status right.status
+  beside left
+  beside right
+  tries=0
+  until [ -s left.status ] || [ -s right.status ] || [ "$tries" = 3000 ]; do
+    sleep 0.01
+    tries=$((tries + 1))
+  done
+  : >go
+  wait
+  case $(cat left.status right.status | tr '\n' ' ') in
+    '10 0 ') has=right other=left ;;
+    '0 10 ') has=left other=right ;;
+    *) fail "two runs that begin together, $moment: statuses $(cat left.status right.status)" && continue ;;
+  esac
+  status=0
+  cp "$has" out && cp "$has.err" err
+  gives "two runs that begin together, $moment: the one" 0 want ''
+  status=10
+  cp "$other" out && cp "$other.err" err
+  gives "two runs that begin together, $moment: the other" 10 nothing 'journal fault'
+  launched "two runs that begin together, $moment" 0 1 2 3
+done
 # The command that a killed run leaves does not keep the lock.
+steps slow.wdl 4 'sleep 0.5'
 fresh
 "$program" run --workers 1 --journal j --root "$root" slow.wdl >out 2>err </dev/null &
 pid=$!
@@ -307,15 +364,36 @@ if $as_other true 2>/dev/null; then
   status=$?
   echo '{"w.r":[["0"],["1"]]}' >want
   gives "a journal in another folder" 0 want ''
+  cp "$work/open/j" "$work/open/read_only"
+  chmod 444 "$work/open/read_only"
+  refused "a journal that is read-only" "$work/open/read_only" $as_other
   program=$kept_program root=$kept_root
 else
   note "a read-only folder: root cannot be another user"
 fi
 
+# Each row takes some 120 kB.
+steps w.wdl 16 "head -c 60000 /dev/zero | tr '\\0' a"
+# goes_on NAME: the run that goes on once there is room. At most the last job, whose row did not fit, and one that ran meanwhile are launched again.
+goes_on() {
+  [ "$status" = 0 ] && [ ! -s err ] && pass || fail "$1: status $status: $(cat err)"
+  [ "$(sort -u launches | wc -l)" = 16 ] && [ "$(count launches)" -le 18 ] && pass || fail "$1: $(count launches) launches after $before"
+}
+# A limit on the size of files stands in for a full disk.
+fresh
+(
+  trap '' XFSZ
+  ulimit -f 1200 && exec "$program" run --workers 1 --journal j --root "$root" w.wdl >out 2>err </dev/null
+)
+status=$?
+gives "a journal that may not grow" 10 nothing 'journal fault'
+before=$(count launches)
+[ "$before" -gt 1 ] && [ "$before" -lt 16 ] && pass || fail "a journal that may not grow: $before launches"
+run --workers 1 w.wdl
+goes_on "once it may grow"
+
 mkdir "$disk"
 if mount -t tmpfs -o size=1m tmpfs "$disk" 2>/dev/null; then
-  # Each row takes some 120 kB.
-  steps w.wdl 16 "head -c 60000 /dev/zero | tr '\\0' a"
   # on_disk: the run with the journal on that disk.
   on_disk() {
     "$program" run --workers 1 --journal "$disk/j" --root "$root" w.wdl >out 2>err </dev/null
@@ -331,11 +409,13 @@ if mount -t tmpfs -o size=1m tmpfs "$disk" 2>/dev/null; then
   gives "a disk that fills up" 10 nothing 'journal fault'
   before=$(count launches)
   [ "$before" -gt 1 ] && pass || fail "a disk that fills up: $before launches"
-  mount -o remount,size=64m "$disk"
+  mount -o remount,size=64m,ro "$disk"
   on_disk
-  [ "$status" = 0 ] && [ ! -s err ] && pass || fail "once there is room: status $status: $(cat err)"
-  # At most the last one, whose row did not fit, and one that ran meanwhile are launched again.
-  [ "$(sort -u launches | wc -l)" = 16 ] && [ "$(count launches)" -le 18 ] && pass || fail "once there is room: $(count launches) launches after $before"
+  gives "a disk that is read-only" 10 nothing 'journal fault'
+  [ "$(count launches)" = "$before" ] && pass || fail "a disk that is read-only: $(count launches) launches after $before"
+  mount -o remount,rw "$disk"
+  on_disk
+  goes_on "once there is room"
   umount "$disk"
 else
   note "a full disk: no disk can be mounted"

@@ -1,6 +1,6 @@
 #!/bin/sh
 # Tests `wdl run --workers` with the built program: jobs run at once, at most as many as there are workers, each job once, and the outputs are the
-# same for every number of workers. Its last line is 'N passed, M failed'.
+# same for every number of workers and every order in which jobs end. Its last line is 'N passed, M failed'.
 #
 #   tests/workers.sh PROGRAM
 program=${1:?the program, with its whole path}
@@ -51,6 +51,30 @@ check "two workers meet" '0 {"crossing.both":true}' "$status $(cat out)"
 rm -f left right
 run 1 crossing.wdl
 check "one worker meets nobody" 1 "$status"
+# Each of 64 jobs ends only once all of them have begun.
+mkdir begun_at_once
+cat >crowd.wdl <<END
+version 1.1
+task meet {
+  input { Int i }
+  command <<<
+    : >"$work/begun_at_once/~{i}"
+    tries=0
+    until set -- "$work/begun_at_once"/* && [ \$# -ge 64 ]; do
+      tries=\$((tries + 1))
+      [ "\$tries" -lt 200 ] || exit 1
+      sleep 0.3
+    done
+  >>>
+  output { Boolean met = true }
+}
+workflow crowd {
+  scatter (i in range(64)) { call meet { input: i = i } }
+  output { Int met = length(meet.met) }
+}
+END
+run 64 crowd.wdl
+check "64 workers meet" '0 {"crowd.met":64}' "$status $(cat out)"
 
 echo "each job once"
 # Each job writes a line as it begins and as it ends, so that the lines tell how many were running.
@@ -85,6 +109,116 @@ for workers in 1 2 4 64; do
 done
 check "the last square" 2313441 "$(sed 's/.*"forty.power":\([0-9]*\).*/\1/' first)"
 
+# Where there is no memory for the stack of a thread, the program runs the jobs itself, one at a time.
+for limit in 12000 26000 34000; do
+  rm -f log
+  (ulimit -v "$limit" && exec "$program" run --workers 4 --root "$work/run" forty.wdl) >out 2>err </dev/null
+  check "$limit kB of memory" "0 $(cat first)" "$? $(cat out)"
+  check "$limit kB of memory: each job once" "41 41" "$(grep begin log | sort -u | wc -l) $(grep -c begin log)"
+  most=$(awk '$1 == "begin" { if (++n > most) most = n } $1 == "end" { n-- } END { print most }' log)
+  [ "$limit" != 12000 ] || check "without a thread: one at a time" 1 "$most"
+done
+
+echo "what a job is handed"
+cat >handed.wdl <<'END'
+version 1.1
+task one {
+  input { Int i }
+  command <<<
+    ls /proc/self/fd | tr '\n' ' '
+    cat
+  >>>
+  output { String open = read_string(stdout()) }
+}
+workflow handed {
+  scatter (i in range(12)) { call one { input: i = i } }
+  output { Array[String] open = one.open }
+}
+END
+if [ -d /proc/self/fd ]; then
+  # Three streams, and what `ls` opens itself: no file of the journal or of another job.
+  "$program" run --workers 4 --journal "$work/handed" --root "$work/run" handed.wdl >out 2>err </dev/null
+  check "its streams alone" "0 $(awk 'BEGIN { printf "{\"handed.open\":["; while (i++ < 12) printf "%s\"0 1 2 3 \"", (i > 1 ? "," : ""); print "]}" }')" "$? $(cat out)"
+fi
+
+echo "the orders in which five jobs end"
+# Each job waits at a gate of its own. Once the notes have the line of a job that ended, the next gate is opened, so that the answers come in this order.
+for i in 0 1 2 3 4; do mkfifo "gate-$i"; done
+exec 3<>gate-0 4<>gate-1 5<>gate-2 6<>gate-3 7<>gate-4
+cat >orders.wdl <<END
+version 1.1
+task step {
+  input { Int i }
+  command <<<
+    read -r opened <"$work/gate-~{i}"
+    echo \$(( ~{i} * ~{i} + 1 ))
+  >>>
+  output { Int r = read_int(stdout()) }
+}
+task sum {
+  input { Array[Int] xs }
+  command <<< echo \$(( ~{sep="+" xs} )) >>>
+  output { Int r = read_int(stdout()) }
+}
+workflow orders {
+  scatter (i in range(5)) { call step { input: i = i } }
+  call sum { input: xs = step.r }
+  output { Array[Int] r = step.r Int all = sum.r }
+}
+END
+# ends_in NUMBER..: runs the document so that its five jobs end in this order.
+ends_in() {
+  want="$*"
+  : >ends
+  echo >"gate-$1"
+  shift
+  { WDL_NOTES=1 timeout 300 "$program" run --workers 5 --root "$work/run" orders.wdl 2>&1 >out </dev/null && echo well; } |
+    while read -r line; do
+      case $line in
+        *scatter-0/?/step:\ status\ 0*)
+          line=${line#*scatter-0/}
+          echo "${line%%/*}" >>ends
+          [ $# = 0 ] || { echo >"gate-$1" && shift; }
+          ;;
+        well) echo well >>ends ;;
+      esac
+    done
+  check "the order $want" "$want well {\"orders.all\":35,\"orders.r\":[1,2,5,10,17]}" "$(tr '\n' ' ' <ends)$(cat out)"
+}
+awk 'function from(k, line,  i) {
+    if (k == 5) { print line; return }
+    for (i = 0; i < 5; i++) if (!used[i]) { used[i] = 1; from(k + 1, line (k ? " " : "") i); used[i] = 0 }
+  }
+  BEGIN { from(0, "") }' >orders
+check "all orders" 120 "$(sort -u orders | wc -l | tr -d ' ')"
+while read -r order <&8; do ends_in $order; done 8<orders
+exec 3<&- 4<&- 5<&- 6<&- 7<&-
+
+echo "attempts"
+# Each job fails twice and then ends well, while others run.
+cat >again.wdl <<END
+version 1.1
+task one {
+  input { Int i }
+  command <<<
+    echo "~{i}" >>"$work/tried"
+    case \$PWD in *-retry-2) echo ~{i} ;; *) sleep 0.0~{i}; exit 5 ;; esac
+  >>>
+  output { Int r = read_int(stdout()) }
+  runtime { maxRetries: 2 }
+}
+workflow again {
+  scatter (i in range(8)) { call one { input: i = i } }
+  output { Array[Int] r = one.r }
+}
+END
+for workers in 1 3 8; do
+  rm -f tried
+  run "$workers" again.wdl
+  check "$workers workers: jobs that are tried again" '0 {"again.r":[0,1,2,3,4,5,6,7]}' "$status $(cat out)"
+  check "$workers workers: each three times" "3 3 3 3 3 3 3 3" "$(sort tried | uniq -c | awk '{ printf "%s%d", (NR > 1 ? " " : ""), $1 }')"
+done
+
 echo "after a failure"
 # The job that fails ends first. With two workers the other one is waited for, and the job behind that one does not begin.
 cat >failing.wdl <<END
@@ -110,6 +244,18 @@ run 2 failing.wdl
 check "a failed job" "1 failed bad: status 3" "$status $(cat err)"
 check "what began" "bad slow" "$(sort begun | tr '\n' ' ' | sed 's/ $//')"
 check "what was waited for" "bad slow" "$(sort ended | tr '\n' ' ' | sed 's/ $//')"
+# A job that is not launched, since something else stands in the place of its directory, stops the run in the same way, and the answer of the other is kept.
+rm -rf begun ended run journal
+mkdir -p run/bad
+echo notes >run/bad/notes
+"$program" run --workers 2 --journal journal --root "$work/run" failing.wdl >out 2>err </dev/null
+check "a job that is not launched" "9 cannot launch bad" "$? $(cat err)"
+check "what was begun and waited for then" "slow slow" "$(cat begun ended | tr '\n' ' ' | sed 's/ $//')"
+rm -r run/bad
+sed 's/status = 3/status = 0/' failing.wdl >mended.wdl
+"$program" run --workers 2 --journal journal --root "$work/run" mended.wdl >out 2>err </dev/null
+check "the run once its cause is mended" '0 {"failing.all":"badslowthird"}' "$? $(cat out)"
+check "what was launched in both" "bad slow third" "$(sort begun | tr '\n' ' ' | sed 's/ $//')"
 
 echo "$passed passed, $failed failed"
 [ "$failed" = 0 ]

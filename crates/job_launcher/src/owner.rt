@@ -1,6 +1,6 @@
-use crate::trouble::Trouble;
+use crate::trouble::{Trouble, if_there};
 use std::fs;
-use std::fs::{DirBuilder, Files};
+use std::fs::{DirBuilder, Files, Metadata};
 use std::os::unix::fs::{DirBuilderExt, MetadataExt};
 
 /// The mode of each folder that is made: nobody but its owner reads or changes what it holds.
@@ -22,13 +22,26 @@ fn make_all_private<R: Files>(rt: &R, path: &str) -> Result<(), Trouble> {
     Ok(())
 }
 
-/// Whether a folder belongs to the user who runs the program. Where the path is a symbolic link, that must be the user's
-/// own too.
-fn is_own<R: Files>(rt: &R, path: &str) -> Result<bool, Trouble> {
+/// What stands at the path of a folder, which is made with those above it where nothing does.
+fn made<R: Files>(rt: &R, path: &str) -> Result<Metadata, Trouble> {
+    if let Some(found) = if_there(fs::symlink_metadata(rt, path))? {
+        return Ok(found);
+    }
+    make_all_private(rt, path)?;
+    Ok(fs::symlink_metadata(rt, path)?)
+}
+
+/// Whether what stands at a path belongs to the user who runs the program. Where it is a symbolic link, what it leads to
+/// must be the user's own too.
+fn is_own<R: Files>(rt: &R, path: &str, found: &Metadata) -> Result<bool, Trouble> {
     let user = libc::geteuid();
-    let here = fs::symlink_metadata(rt, path)?.uid();
-    let behind = fs::metadata(rt, path)?.uid();
-    Ok(here == user && behind == user)
+    if found.uid() != user {
+        return Ok(false);
+    }
+    if !found.is_symlink() {
+        return Ok(true);
+    }
+    Ok(fs::metadata(rt, path)?.uid() == user)
 }
 
 /// Makes the folders that are to hold a directory, where they are missing. The lowest `levels` of them must belong to the
@@ -41,8 +54,8 @@ pub(crate) fn hold<R: Files>(rt: &R, dir: &str, levels: usize) -> Result<(), Tro
         return Ok(());
     };
     hold(rt, above, levels - 1)?;
-    make_all_private(rt, above)?;
-    if is_own(rt, above)? {
+    let found = made(rt, above)?;
+    if is_own(rt, above, &found)? {
         Ok(())
     } else {
         Err(Trouble::Refused)
