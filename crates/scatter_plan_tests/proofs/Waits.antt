@@ -1,7 +1,8 @@
 -- An attempt that stands among those that wait is one that waits.
 use Rattle.std.specs.List.{list_any}
-use Rattle.std.proofs.Common.{◌≡◌, ℕ, zero, suc, Bool, true, List, [], ◌∷◌, Some, slice_get, sym, ap, ◌∙◌, arith}
-use Rattle.std.proofs.lemmas.Bool.{or_left, or_right}
+use Rattle.std.proofs.Common.{◌≡◌, ℕ, zero, suc, Bool, true, List, [], ◌∷◌, Some, Result, Ok, Err, OnOk, slice_get, sym, ap, ◌∙◌, arith}
+use Rattle.std.specs.Result.{is_ok}
+use Rattle.std.proofs.lemmas.Bool.{false≢true, or_left, or_right}
 use Rattle.std.proofs.lemmas.Option.{slice_get_within}
 use Rattle.wdl_base.specs.declared.request.Request.{Request}
 use Rattle.wdl_task.specs.declared.request.Prepared.{Prepared}
@@ -11,6 +12,11 @@ use Rattle.scatter_plan.specs.Calls.{is_waiting}
 
 some_same : {A : Type 0} {x y : A} → Some x ≡ Some y → x ≡ y
 some_same e = cc
+
+-- What holds of an `Ok` holds where there is one.
+pub of_ok : {A E P : Type 0} (r : Result A E) → OnOk r P → is_ok r ≡ true → P
+of_ok (Ok a) p e = p
+of_ok (Err x) p e = absurd (false≢true e)
 
 module _ (r : Request) where
   abbrev is_one : Prepared → Bool

@@ -9,18 +9,21 @@ fn same_fault(a: &Fault, b: &Fault) -> bool {
     same_place(a.place.as_slice(), b.place.as_slice()) && a.name.same(&b.name) && a.why == b.why
 }
 
-fn has_fault(faults: &[Fault], fault: &Fault) -> bool {
+/// How often a fault stands among others.
+fn count_of(fault: &Fault, faults: &[Fault]) -> usize {
+    let mut count = 0_usize;
     for one in faults {
         if same_fault(one, fault) {
-            return true;
+            count = count.saturating_add(1);
         }
     }
-    false
+    count
 }
 
+/// Whether each fault stands as often in both.
 fn same_faults(plan: &[Fault], flow: &[Fault]) -> bool {
     for fault in flow {
-        if !has_fault(plan, fault) {
+        if count_of(fault, plan) != count_of(fault, flow) {
             return false;
         }
     }
@@ -78,16 +81,16 @@ fn same_outputs(plan: Option<&Env>, flow: &Option<Env>) -> bool {
 /// What differs; nothing where all is the same.
 pub fn difference(plan: &Plan, flow: &Flow, journal: &[Entry]) -> &'static str {
     if !same_faults(plan.faults(), flow.faults.as_slice()) {
-        return "faults";
+        return "!faults";
     }
     if !same_jobs(plan, flow.jobs.as_slice(), journal) {
-        return "jobs";
+        return "!jobs";
     }
     if plan.ready().len() != flow.waits.len() {
-        return "waits";
+        return "!waits";
     }
     if !same_outputs(plan.outputs(), &flow.outputs) {
-        return "outputs";
+        return "!outputs";
     }
     ""
 }

@@ -6,4 +6,8 @@ mod comparing;
 #[cfg(test)]
 mod documents;
 #[cfg(test)]
+mod drafts;
+#[cfg(test)]
+mod numbers;
+#[cfg(test)]
 mod running;

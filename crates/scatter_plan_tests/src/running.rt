@@ -1,12 +1,12 @@
 //! Runs of a document by a plan, with the flow from scratch after each answer.
 
-ghost use Rattle.std.specs.Prelude.{◌≡◌, ◌<◌, ℕ, true, Some, IfOk, IsSome, OnOk, length, slice_get};
-ghost use Rattle.wdl_typed.specs.declared.flow.FlowDef.{FlowDef};
-ghost use Rattle.wdl_typed.specs.Journal.{inputs_fit};
+ghost use Rattle.std.specs.Prelude.{◌≡◌, ◌<◌, true, IfOk, IsSome, OnOk, length};
 ghost use Rattle.scatter_plan.specs.Calls.{HasTold};
 ghost use Rattle.scatter_plan.specs.Plans.{IsMade, ready_in};
+ghost use Rattle.scatter_plan_tests.specs.Inputs.{AreInputsOf};
 
 use crate::comparing::difference;
+use crate::numbers::number_of;
 use scatter_plan::Plan;
 use std::alloc::Global;
 use std::marker::Brand;
@@ -14,20 +14,53 @@ use std::sync::ledger::{Blank, Ledger};
 use std::test::Fail;
 use wdl_check_doc::check;
 use wdl_imports::gather;
-use wdl_json::inputs_of;
-use wdl_plain::flow_now;
+use wdl_json::{inputs_of, outputs_text};
+use wdl_plain::{PlainFault, flow_now};
 use wdl_port::{MemoryShelf, PathFile};
 use wdl_typed::Checked;
 use wdl_value::{
     Answer, Body, Entry, Env, Items, NoMemory, Request, Source, Steps, Text, place_text,
 };
 
-/// The tasks and the workflow that each document has besides.
-const BEFORE: &str =
-    "version 1.1 import 'a.wdl' as lib task one { input { Int a = 4 } command <<< echo ~{a} >>> output { Int r = read_int(stdout()) } runtime { maxRetries: 2 } } ";
+/// The tasks that each document has besides.
+const BEFORE: &str = "version 1.1 import 'a.wdl' as lib \
+task one { input { Int a = 4 } command <<< echo ~{a} >>> \
+output { Int r = read_int(stdout()) } runtime { maxRetries: 2 } } \
+task few { input { Int a = 4 Int b = a + 1 } command <<< echo ~{b} >>> \
+output { Int r = read_int(stdout()) Int s = r / (b % 4) } \
+runtime { maxRetries: a % 2 returnCodes: [0, 3] } } \
+task bare { command <<< echo 1 >>> output { Int r = read_int(stdout()) } } ";
 
-const INNER: &str =
-    "version 1.1 task one { input { Int a = 4 } command <<< echo ~{a} >>> output { Int r = read_int(stdout()) } runtime { maxRetries: 2 } } workflow inner { input { Int n = 2 } scatter (i in range(n)) { call one { input: a = i } } output { Int e = n + 1 Array[Int] f = one.r } } ";
+/// The document that each one imports.
+const INNER: &str = "version 1.1 \
+task one { input { Int a = 4 } command <<< echo ~{a} >>> \
+output { Int r = read_int(stdout()) } runtime { maxRetries: 2 } } \
+workflow inner { input { Int n = 2 } \
+scatter (i in range(n)) { call one { input: a = i } } \
+output { Int e = n + 1 Array[Int] f = one.r } } ";
+
+/// What jobs write, as a number picks it: a digit, or now and then no number.
+const WRITTEN: &str = "0,1,2,3,4,5,6,7,8,9,0,1,2,3,4,5,6,7,8,9,none";
+
+/// The most answers of a run.
+const MOST: usize = 400;
+
+/// What the jobs of a document answer: what a number makes up; where it is 0, the number 3 with the
+/// statuses of rows `PLACE ATTEMPT STATUS`.
+#[derive(Drop)]
+pub struct Told {
+    pub rows: Text,
+    pub number: u64,
+}
+
+impl Told {
+    /// The answers of rows, or those of a number that stands in their place.
+    pub fn new(alloc: Global, rows: &str) -> Result<Told, Fail> {
+        let number = rows.parse::<u64>().unwrap_or(0);
+        let rows = Text::new(alloc, rows)?;
+        Ok(Told { rows, number })
+    }
+}
 
 fn push_file(
     alloc: Global,
@@ -43,8 +76,9 @@ fn push_file(
 
 /// The checked form of a document.
 fn checked_of(alloc: Global, document: &str) -> Result<Option<Checked>, Fail> {
+    let text = format!(in alloc; "{BEFORE}{document}")?;
     let mut files = Items::new(alloc);
-    push_file(alloc, &mut files, "w.wdl", document)?;
+    push_file(alloc, &mut files, "w.wdl", text.as_str())?;
     push_file(alloc, &mut files, "a.wdl", INNER)?;
     let mut shelf = MemoryShelf::new(files, Items::new(alloc));
     let Ok(library) = gather(alloc, &mut shelf, &Text::new(alloc, "w.wdl")?) else {
@@ -56,31 +90,45 @@ fn checked_of(alloc: Global, document: &str) -> Result<Option<Checked>, Fail> {
     }
 }
 
-/// The status that a row tells for a request; 0 where none does.
-fn status_of(alloc: Global, rows: &str, request: &Request) -> Result<u8, Fail> {
-    let place = place_text(alloc, &request.place)?;
-    let wanted = format!(in alloc; "{} {}", place.as_str(), request.attempt)?;
+/// The status that a row tells for an attempt at a place; 0 where none does.
+fn status_in(rows: &str, wanted: &str) -> Result<u8, Fail> {
     for row in rows.split(", ") {
         let (told, status) = row.rsplit_once(' ').unwrap_or((row, "0"));
-        if told == wanted.as_str() {
+        if told == wanted {
             return Ok(status.parse::<u8>()?);
         }
     }
     Ok(0)
 }
 
-/// The answer to a request: the status of its row, and a number as standard output.
-fn answer_to(alloc: Global, rows: &str, request: &Request) -> Result<Answer, Fail> {
-    let status = status_of(alloc, rows, request)?;
-    let out = Body::new(Items::from_slice(alloc, b"3\n")?);
+/// The status and the output that a number makes up.
+fn made_up(number: u64) -> (u8, &'static str) {
+    let status = if number % 8 == 0 { 3 } else { 0 };
+    let picked = (number / 8 % 21) as usize;
+    (status, WRITTEN.split(',').nth(picked).unwrap_or(""))
+}
+
+/// The status of the answer to a request, and what it writes.
+fn told_of(alloc: Global, told: &Told, request: &Request) -> Result<(u8, &'static str), Fail> {
+    let place = place_text(alloc, &request.place)?;
+    let wanted = format!(in alloc; "{} {}", place.as_str(), request.attempt)?;
+    if told.number != 0 {
+        return Ok(made_up(number_of(wanted.as_str(), told.number)));
+    }
+    Ok((status_in(told.rows.as_str(), wanted.as_str())?, "3"))
+}
+
+fn answer_to(alloc: Global, told: &Told, request: &Request) -> Result<Answer, Fail> {
+    let (status, text) = told_of(alloc, told, request)?;
+    let out = Body::new(Items::from_slice(alloc, text.as_bytes())?);
     let err = Body::new(Items::new(alloc));
     Ok(Answer::new(status, out, err, Items::new(alloc))?)
 }
 
-fn entry_of(alloc: Global, rows: &str, request: &Request) -> Result<Entry, Fail>
+fn entry_of(alloc: Global, told: &Told, request: &Request) -> Result<Entry, Fail>
     ensures { IfOk result (λ entry. entry.request ≡ request.now) }
 {
-    let answer = answer_to(alloc, rows, request)?;
+    let answer = answer_to(alloc, told, request)?;
     let request = request.copy(alloc)?;
     Ok(Entry {
         request,
@@ -89,15 +137,10 @@ fn entry_of(alloc: Global, rows: &str, request: &Request) -> Result<Entry, Fail>
     })
 }
 
-/// The next number of a row of numbers that looks random.
-fn next(seed: u64) -> u64 {
-    (seed % 4_294_967_296 * 1_664_525 + 1_013_904_223) % 4_294_967_296
-}
-
 /// The inputs of the main workflow, where none is given.
 fn no_inputs(alloc: Global, checked: &Checked) -> Result<Env, NoMemory>
     requires main { IsSome checked.now.main }
-    ensures fit { IfOk result (λ env. (k : ℕ) (main : FlowDef) → checked.now.main ≡ Some k → slice_get checked.now.flows k ≡ Some main → inputs_fit checked.now.structs main.inputs env ≡ true) }
+    ensures fit { IfOk result (AreInputsOf checked.now) }
 {
     match inputs_of(alloc, b"{}", checked) {
         Ok(env) => Ok(env),
@@ -115,94 +158,130 @@ fn mistake<L: Ledger>(
     steps: &mut Steps<L>,
 ) -> Result<&'static str, Fail>
     requires main { IsSome checked.now.main }
-    requires fit { (k : ℕ) (main : FlowDef) → checked.now.main ≡ Some k → slice_get checked.now.flows k ≡ Some main → inputs_fit checked.now.structs main.inputs inputs.now ≡ true }
+    requires fit { AreInputsOf checked.now inputs.now }
 {
     let site = Text::new(alloc, "/site")?;
     let Ok(flow) = flow_now(alloc, checked, inputs, &site, journal, steps) else {
-        return Ok("flow");
+        return Ok("!flow");
     };
     Ok(difference(plan, &flow, journal))
 }
 
-/// The answer arrives of the attempt that stands there among those that wait.
+/// What a run comes to whose plan is past its limits: `past` where the flow is too.
+fn past<L: Ledger>(
+    alloc: Global,
+    checked: &Checked,
+    inputs: &Env,
+    journal: &[Entry],
+    steps: &mut Steps<L>,
+) -> Result<Text, Fail>
+    requires main { IsSome checked.now.main }
+    requires fit { AreInputsOf checked.now inputs.now }
+{
+    let site = Text::new(alloc, "/site")?;
+    let Err(PlainFault::TooMany) = flow_now(alloc, checked, inputs, &site, journal, steps) else {
+        return Ok(Text::new(alloc, "!limits")?);
+    };
+    Ok(Text::new(alloc, "past")?)
+}
+
+/// The answer arrives of the attempt that stands there among those that wait, and stands in the
+/// journal. Answers whether the plan is within its limits.
 fn tell<L: Ledger>(
     alloc: Global,
-    rows: &str,
+    told: &Told,
     at: usize,
+    journal: &mut Items<Entry>,
     plan: &mut Plan,
     steps: &mut Steps<L>,
-) -> Result<Entry, Fail>
+) -> Result<bool, Fail>
     requires at { at < length (ready_in plan.old) }
     requires made { IsMade plan.old }
     requires told { HasTold plan.old }
     ensures made { OnOk result (IsMade plan.new) }
-    ensures told { OnOk result (HasTold plan.new) }
+    ensures told { IfOk result (λ within. within ≡ true → HasTold plan.new) }
 {
-    let entry = entry_of(alloc, rows, &plan.ready()[at].request)?;
+    let entry = entry_of(alloc, told, &plan.ready()[at].request)?;
     let (place, attempt) = (&entry.request.place, entry.request.attempt);
-    plan.arrive(alloc, place, attempt, &entry.answer, steps)?;
-    Ok(entry)
+    let arrived = plan.arrive(alloc, place, attempt, &entry.answer, steps);
+    journal.push(entry)?;
+    Ok(arrived.is_ok())
 }
 
-/// Lets the answers arrive, in the order that the seed tells. Answers what differs from the flow after one.
+/// The outputs of a plan as a JSON text, if it has them.
+fn shown(alloc: Global, checked: &Checked, plan: &Plan) -> Result<Text, Fail> {
+    match (checked.flows.as_slice().first(), plan.outputs()) {
+        (Some(flow), Some(outputs)) => Ok(outputs_text(alloc, &flow.name, outputs.as_slice())?),
+        _ => Ok(Text::new(alloc, "no outputs")?),
+    }
+}
+
+/// Lets the answers arrive, each time the one that the lowest digit of the order tells, to the base
+/// of how many may. Answers what the run comes to, as `ended` says.
 fn follow<L: Ledger>(
     alloc: Global,
     checked: &Checked,
     inputs: &Env,
-    rows: &str,
-    seed: u64,
+    told: &Told,
+    order: u64,
     plan: &mut Plan,
     steps: &mut Steps<L>,
-) -> Result<&'static str, Fail>
+) -> Result<Text, Fail>
     requires main { IsSome checked.now.main }
-    requires fit { (k : ℕ) (main : FlowDef) → checked.now.main ≡ Some k → slice_get checked.now.flows k ≡ Some main → inputs_fit checked.now.structs main.inputs inputs.now ≡ true }
+    requires fit { AreInputsOf checked.now inputs.now }
     requires made { IsMade plan.old }
     requires told { HasTold plan.old }
 {
     let mut journal = Items::new(alloc);
-    let mut seed = seed;
-    for _ in 0..200 {
+    let mut order = order;
+    for _ in 0..MOST {
         let found = mistake(alloc, plan, checked, inputs, journal.as_slice(), steps)?;
-        let waiting = plan.ready().len();
-        if found != "" || waiting == 0 {
-            return Ok(found);
+        if found != "" {
+            return Ok(Text::new(alloc, found)?);
         }
-        seed = next(seed);
-        journal.push(tell(alloc, rows, seed as usize % waiting, plan, steps)?)?;
+        let waiting = plan.ready().len();
+        if waiting == 0 {
+            return shown(alloc, checked, plan);
+        }
+        let at = order as usize % waiting;
+        order /= waiting as u64;
+        if !tell(alloc, told, at, &mut journal, plan, steps)? {
+            return past(alloc, checked, inputs, journal.as_slice(), steps);
+        }
     }
-    Ok("no end")
+    Ok(Text::new(alloc, "!no end")?)
 }
 
-/// What differs in a run of a document, by the order that the seed tells; nothing where all is the same.
+/// What a run of a document comes to, by an order of its answers: as `ended` says.
 fn found_in<L: Ledger>(
     alloc: Global,
     document: &str,
-    rows: &str,
-    seed: u64,
+    told: &Told,
+    order: u64,
     steps: &mut Steps<L>,
-) -> Result<&'static str, Fail> {
+) -> Result<Text, Fail> {
     let (Some(checked), Some(again)) = (checked_of(alloc, document)?, checked_of(alloc, document)?)
     else {
-        return Ok("no checked form");
+        return Ok(Text::new(alloc, "!no checked form")?);
     };
     let (Some(_), Some(_)) = (checked.main, again.main) else {
-        return Ok("no workflow");
+        return Ok(Text::new(alloc, "!no workflow")?);
     };
     let inputs = no_inputs(alloc, &checked)?;
     let given = no_inputs(alloc, &again)?;
     let site = Text::new(alloc, "/site")?;
     let Ok(mut plan) = Plan::new(alloc, again, given, site, steps) else {
-        return Ok("no plan");
+        return past(alloc, &checked, &inputs, &[], steps);
     };
-    follow(alloc, &checked, &inputs, rows, seed, &mut plan, steps)
+    follow(alloc, &checked, &inputs, told, order, &mut plan, steps)
 }
 
 /// The same, by a counter that is opened for it.
 fn run<L: Ledger>(
     alloc: Global,
     document: &Text,
-    rows: &Text,
-    seed: u64,
+    told: &Told,
+    order: u64,
     blank: Blank,
 ) -> Result<Text, Fail>
     requires name { blank.name ≡ L.name }
@@ -210,40 +289,12 @@ fn run<L: Ledger>(
     requires some { 0 < blank.parts }
 {
     let mut steps: Steps<L> = Steps::start(blank);
-    let found = found_in(alloc, document.as_str(), rows.as_str(), seed, &mut steps)?;
-    Ok(Text::new(alloc, found)?)
+    found_in(alloc, document.as_str(), told, order, &mut steps)
 }
 
-fn differs(alloc: Global, document: &Text, rows: &Text, seed: u64) -> Result<Text, Fail> {
-    run::<Brand>(alloc, document, rows, seed, Blank::new(1))
-}
-
-/// What differs in one of three orders; nothing where all is the same.
-fn in_orders(alloc: Global, document: &Text, rows: &Text) -> Result<Text, Fail> {
-    for seed in 0..3 {
-        let found = differs(alloc, document, rows, seed)?;
-        if found.as_str() != "" {
-            return Ok(found);
-        }
-    }
-    Ok(Text::empty(alloc))
-}
-
-/// The rows with what differs.
-pub fn mistakes(alloc: Global, rows: &str) -> Result<String, Fail> {
-    let mut out = String::new(alloc);
-    for row in rows.split(';') {
-        let (told, answers) = row.split_once(" => ").unwrap_or((row, ""));
-        let document = Text::new(alloc, format!(in alloc; "{BEFORE}{told}")?.as_str())?;
-        let answers = Text::new(alloc, answers)?;
-        let found = in_orders(alloc, &document, &answers)?;
-        if found.as_str() != "" {
-            out.push_str(format!(in alloc;
-                "{}: {}\n",
-                document.as_str(),
-                found.as_str()
-            )?.as_str())?;
-        }
-    }
-    Ok(out)
+/// What a run of a document comes to, by an order of its answers: the outputs as a JSON text,
+/// `no outputs`, or `past` where plan and flow are past their limits. Where plan and flow differ,
+/// it begins with `!`.
+pub fn ended(alloc: Global, document: &Text, told: &Told, order: u64) -> Result<Text, Fail> {
+    run::<Brand>(alloc, document, told, order, Blank::new(1))
 }

@@ -2,11 +2,11 @@ use Rattle.std.proofs.Common.{[], ◌∷◌, ◌++◌, length, slice_get, sym, a
 use Rattle.std.proofs.lemmas.Option.{slice_get_read}
 use Rattle.scatter_plan.specs.Calls.{row}
 use Rattle.scatter_plan.specs.Plans.{ready_in}
-use Rattle.scatter_plan_tests.proofs.Waits.{waits_at}
+use Rattle.scatter_plan_tests.proofs.Waits.{of_ok, waits_at}
 use Rattle.scatter_plan_tests.proofs.running.tell.Goals as goal
 
-pub arrive-requires-clause-waits : goal.arrive-requires-clause-waits
-arrive-requires-clause-waits g c =
+pub arrive-arrived-requires-clause-waits : goal.arrive-arrived-requires-clause-waits
+arrive-arrived-requires-clause-waits g c =
     let ready = ready_in c.args.plan.now in
     let same = c.ready.ensures.ready in
     let there = slice_get_read c.ready.result.now (length ready) c.args.at c.index-ready-at.result (ap length (sym same)) c.requires.at c.index-ready-at.is in
@@ -16,4 +16,7 @@ pub returns-clause-told : goal.returns-clause-told
 returns-clause-told g c =
     let h = c.requires.told in
     let entry = c.in_ok-entry.entry in
-    (h.0 ++ row entry.request.place entry.request.attempt entry.answer ∷ [], (c.in_ok-arrive.ensures.arrives h.0 h.1).told)
+    λ within. (
+      h.0 ++ row entry.request.place entry.request.attempt entry.answer ∷ [],
+      (of_ok c.arrive-arrived.result (c.arrive-arrived.ensures.arrives h.0 h.1) (sym c.is_ok.ensures.value ∙ within)).told,
+    )
