@@ -10,10 +10,9 @@ answer top 0 0 t
 answer left 0 0 l
 answer right 0 3
 $ run --workers 1 w.wdl
-> 1 3 +top -top +left -left +right -right
+> 1 2 +top -top +right -right
 > ! failed right: status 3
 > /tmp/wdl-run/top echo t
-> /tmp/wdl-run/left echo t
 > /tmp/wdl-run/right echo t
 
 say
