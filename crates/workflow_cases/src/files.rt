@@ -44,6 +44,7 @@ pub fn push_times(text: &mut String, rest: &str) -> Result<(), Fail> {
     Ok(())
 }
 
+/// Adds a file with these bytes under this path.
 pub fn push_file(
     alloc: Global,
     files: &mut Items<PathFile>,
