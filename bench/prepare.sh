@@ -1,7 +1,9 @@
 # What the scripts of this folder begin with: the top of the repository, a folder that goes when the script ends, and the program: the one that the
 # script was given, or else the one that ./wdl runs.
 top=$(CDPATH= cd -- "$(dirname -- "$0")/.." && pwd) || exit 1
-work=$(mktemp -d) || exit 1
+# In memory where that is had: a disk makes new folders slowly for some seconds after others were deleted, which would be measured too.
+[ -n "${TMPDIR:-}" ] || [ ! -w /dev/shm ] || TMPDIR=/dev/shm
+work=$(TMPDIR=${TMPDIR:-/tmp} mktemp -d) || exit 1
 trap 'rm -rf "$work"' EXIT
 program=${1:-$("$top/tools/program.sh")} || exit 1
 

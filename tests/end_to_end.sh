@@ -71,7 +71,7 @@ checks() {
 }
 
 echo "words"
-usage='usage: wdl run [--inputs FILE] [--workers N] [--root DIR] [--journal FILE] FILE | check FILE | inputs FILE | cwl [--inputs FILE] FILE | load N\n'
+usage='usage: wdl run [--inputs FILE] [--workers N] [--root DIR] [--journal FILE] FILE | check FILE | inputs FILE | cwl [--inputs FILE] FILE | load N | bundle FILE\n'
 document bare.wdl 'workflow w { }'
 expect "no words" 2 '' "$usage"
 expect "another command" 2 '' "$usage" walk bare.wdl
@@ -103,7 +103,8 @@ expect "load 5" 0 'calls 5 jobs 5 last 7\n' '' load 5
 expect "load 10000" 0 'calls 10000 jobs 10000 last 983\n' '' load 10000
 expect "load 0" 2 '' "$usage" load 0
 expect "load 10001" 2 '' "$usage" load 10001
-expect "bundle" 12 '' 'not built yet\n' bundle bare.wdl
+expect "bundle" 0 'version 1.1\nworkflow w {\n}\n' '' bundle bare.wdl
+expect "bundle without a file" 2 '' "$usage" bundle
 
 echo "files"
 expect "a file that is not there" 5 '' 'cannot read missing.wdl\n' run missing.wdl
@@ -310,17 +311,72 @@ expect "a document with the line ends of Windows" 0 '{"w.r":["a","b"]}\n' '' run
 
 . "$top/tests/shells.sh"
 
+echo "bundles"
+document part.wdl 'task t { command <<<echo hi>>> output { String r = read_string(stdout()) } } workflow inner { call t }'
+document main.wdl 'import "part.wdl" workflow w { call part.t output { String r = t.r } }'
+expect "a bundle" 0 'version 1.1\ntask task_1_0 {\ncommand <<<echo hi>>>\noutput {\nString r = read_string ( stdout ( ) ) }\n}\nworkflow w {\ncall task_1_0 as t output {\nString r = t . r }\n}\n' '' \
+  bundle main.wdl
+cp out bundle.wdl
+expect "a bundle that is run" 0 '{"w.r":"hi"}\n' '' run --root "$root" bundle.wdl
+[ -e "$root/t/_stdout" ] && pass || fail "the place of a task of another document"
+document main.wdl 'import "part.wdl" workflow w { call part.t call part.inner }'
+expect "a bundle of a workflow that calls one" 8 '' 'not in the subset: 620 at main.wdl:55..70\n' bundle main.wdl
+expect "a bundle without a workflow" 3 '' 'tasks.wdl:0..0: 327 NoWorkflow\n' bundle tasks.wdl
+expect "a bundle of an import that is not there" 5 '' 'cannot read parts/gone.wdl\n' bundle lost.wdl
+awk 'BEGIN { printf "version 1.1\nworkflow w { Array[Int] x = ["; for (i = 0; i < 300000; i++) printf "1,"; print "1] }" }' >wide.wdl
+expect "a bundle that would be too long" 8 '' 'not in the subset: 621 at wide.wdl:0..0\n' bundle wide.wdl
+
+# same_bundle NAME OUT DOCUMENT WORDS..: the document and its bundle, run with these words, write OUT, and the bundle is checked and is its own bundle.
+same_bundle() {
+  of=$1 text=$2 from=$3
+  shift 3
+  expect "$of" 0 "$text" '' run --root "$root" "$@" "$from"
+  "$program" bundle "$from" >bundle.wdl 2>err || fail "the bundle of $of: $(cat err)"
+  expect "the bundle of $of" 0 "$text" '' run --root "$root" "$@" bundle.wdl
+  expect "the check of the bundle of $of" 0 'ok\n' '' check bundle.wdl
+  "$program" bundle bundle.wdl 2>err | cmp -s - bundle.wdl && pass || fail "the bundle of the bundle of $of: $(cat err)"
+}
+# Tasks of one name and structs of one name in two documents, texts with escapes, and commands with marks of the shell.
+document part.wdl 'struct S { Int x String? y } task t { input { S s String p = "\x22\\~{1 + 2}\~\$" } command {
+    printf "%s|" ${s.x} "$(echo a)" "~" ~{"\x27" + p + "\x27"}
+  } output { String r = read_string(stdout()) S o = s } }'
+document other.wdl "struct S { String x } task t { input { S s } meta { a: 1.5 } command <<<
+    printf '%s|' ~{s.x} \"'\${PWD##*/}\" >out; cat out
+  >>> output { String r = read_string(stdout()) File f = 'out' } runtime { returnCodes: [0, 3] } }"
+document main.wdl 'import "part.wdl" alias S as P import "other.wdl" as o alias S as Q
+struct S { P p Array[Q]+ qs } task task_1_0 { command <<<echo own>>> output { String r = read_string(stdout()) } }
+workflow w { S s = S { qs: [Q { x: "b" }], p: P { x: 7 } }
+  call part.t { input: s = s.p } scatter (q in s.qs) { call o.t as u after t { input: s = q } } call task_1_0
+  output { String r = t.r Array[String] us = u.r String own = task_1_0.r Int x = t.o.x Array[File] fs = u.f } }'
+same_bundle "names that clash" \
+  "{\"w.fs\":[\"$root/scatter-0/0/u/out\"],\"w.own\":\"own\",\"w.r\":\"7|a|~|\\\\\"\\\\\\\\3~\$|\",\"w.us\":[\"b|'u|\"],\"w.x\":7}\\n" main.wdl
+grep -q '^call task_1_0_0 as t {$' bundle.wdl && grep -q '^call task_2_0 as u after t {$' bundle.wdl && pass || fail "the names of tasks: $(cat bundle.wdl)"
+
 echo "examples"
-# example NAME: the document, without `_off`, run for the inputs NAME.json, where there are such.
+# example NAME: the document, without `_off`, run for the inputs NAME.json, where there are such. `subworkflow` alone calls a workflow, and has no bundle.
 example() {
   here=$top/examples
   expected=$(sed "s|/tmp/wdl-run|$root|g" "$here/expected/$1.json")
   set -- "$1" "$here/${1%_off}.wdl"
   [ -f "$here/$1.json" ] && sed "s|@examples@|$here|g" "$here/$1.json" >i.json || echo '{}' >i.json
-  expect "the example $1" 0 "$(echo "$expected" | sed 's/[\\%]/&&/g')\n" '' run --inputs i.json --root "$root" "$2"
+  wanted="$(echo "$expected" | sed 's/[\\%]/&&/g')\n"
+  if [ "$1" = subworkflow ]; then expect "the example $1" 0 "$wanted" '' run --inputs i.json --root "$root" "$2"; else
+    same_bundle "the example $1" "$wanted" "$2" --inputs i.json
+  fi
+}
+# bundled FILE: the bundle of a document is checked and is its own bundle; only what calls a workflow or has none has no bundle.
+bundled() {
+  "$program" bundle "$1" >bundle.wdl 2>err
+  got=$?
+  case $got:$(cat err) in
+    0:) "$program" check bundle.wdl >out 2>err && "$program" bundle bundle.wdl 2>err | cmp -s - bundle.wdl && pass && return ;;
+    8:"not in the subset: 620 at $1:"* | 3:"$1:0..0: 327 NoWorkflow") [ ! -s bundle.wdl ] && pass && return ;;
+  esac
+  fail "the bundle of $1: status $got: $(cat err)"
 }
 for file in "$top"/examples/expected/*.json; do example "$(basename "$file" .json)"; done
 for file in "$top"/examples/*.wdl "$top"/examples/parts/*.wdl; do expect "the check of $file" 0 'ok\n' '' check "$file"; done
+for file in "$top"/examples/*.wdl "$top"/examples/*/*.wdl "$top"/examples/moving/*/after.wdl; do bundled "$file"; done
 expect "the example hello" 0 '{"w.r":"hi"}\n' '' run "$top/examples/hello.wdl"
 [ "$(cat /tmp/wdl-run/say/_stdout)" = hi ] && pass || fail "the default directory"
 if [ $# = 0 ]; then

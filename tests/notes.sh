@@ -394,8 +394,8 @@ done
 "$program" --version >out
 grep -qx 'wdl [0-9]*\.[0-9]*\.[0-9]*' out && pass || fail "the version: $(cat out)"
 "$program" help >out
-for command in run check inputs cwl; do grep -q "^ *\(wdl \)\?$command\b" out && pass || fail "help: no $command in $(cat out)"; done
-for command in run check inputs cwl; do
+for command in run check inputs cwl bundle; do grep -q "^ *\(wdl \)\?$command\b" out && pass || fail "help: no $command in $(cat out)"; done
+for command in run check inputs cwl bundle; do
   "$program" help "$command" >out
   tells "help $command" out "wdl $command" 'status  meaning' example:
 done

@@ -1,11 +1,15 @@
 ghost use Rattle.std.specs.Prelude.{◌≡◌};
 ghost use Rattle.command_text.specs.declared.error.FillFault.TheVariants.{NoMemory as FillNoMemory};
 
+use thiserror::Error;
+
 /// Why a template is not filled.
-#[derive(Clone, Copy, Debug, PartialEq, Eq)]
+#[derive(Clone, Copy, Debug, PartialEq, Eq, Error)]
 pub enum FillFault {
     /// The filled text would have more than 65,536 bytes.
+    #[error("the command has more than 65,536 bytes")]
     TooLarge,
+    #[error("out of memory")]
     NoMemory,
 }
 

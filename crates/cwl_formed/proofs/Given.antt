@@ -23,7 +23,7 @@ use Rattle.wdl_typed.specs.Kept.{flow_typed}
 use Rattle.wdl_typed.specs.Lists.{are_distinct}
 use Rattle.wdl_typed.specs.Scope.{is_among, lookup, same_key}
 use Rattle.wdl_names.proofs.FreshLemmas.{fresh-distinct}
-use Rattle.wdl_plain.proofs.FlowSound.{is_typed}
+use Rattle.flow_soundness.proofs.FlowSound.{is_typed}
 use Rattle.flow_laws.proofs.Checked.{each_passes, kept as kept_by}
 use Rattle.json_values.specs.Ordered.{members_ordered}
 use Rattle.json_values.proofs.OrderLemmas.{put_ordered}

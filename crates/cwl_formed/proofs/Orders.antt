@@ -14,7 +14,7 @@ use Rattle.wdl_typed.specs.Declarations.{input_names}
 use Rattle.wdl_typed.specs.Kept.{flow_typed}
 use Rattle.wdl_typed.specs.Lists.{are_distinct, has_name}
 use Rattle.wdl_names.proofs.FreshLemmas.{fresh-distinct}
-use Rattle.wdl_plain.proofs.FlowSound.{is_typed}
+use Rattle.flow_soundness.proofs.FlowSound.{is_typed}
 use Rattle.flow_laws.proofs.Checked.{each_passes, kept as kept_by}
 use Rattle.wdl_json.specs.declared.fault.InputFault.{InputFault}
 use Rattle.wdl_json.specs.declared.given.Given.{Given}

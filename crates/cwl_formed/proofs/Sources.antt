@@ -18,7 +18,7 @@ use Rattle.wdl_typed.specs.declared.task.TDecl.{TDecl}
 use Rattle.wdl_typed.specs.Bodies.{Giving, Library, Seen, Signature, arg_names, body_gives, body_step, gives, if_over, joined, optional, retyped, scatter_over, signature, statement_step, with_item}
 use Rattle.wdl_typed.specs.Declarations.{bound, decl_names, in_body, plain_key}
 use Rattle.wdl_typed.specs.Scope.{same_key, type_in}
-use Rattle.wdl_plain.proofs.GivenKeys.{some_inside}
+use Rattle.flow_soundness.proofs.GivenKeys.{some_inside}
 use Rattle.cwl_model.specs.declared.process.CwlStep.{CwlStep}
 use Rattle.cwl_model.specs.declared.process.FlowOut.{FlowOut}
 use Rattle.cwl_model.specs.declared.process.Process.{Process}

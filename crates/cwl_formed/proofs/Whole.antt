@@ -11,8 +11,8 @@ use Rattle.wdl_typed.specs.declared.task.TaskDef.{TaskDef}
 use Rattle.wdl_typed.specs.Bodies.{Library, Signature, flow_signature, signature, task_signature}
 use Rattle.wdl_typed.specs.Declarations.{decl_names, input_names, inputs_bound, task_typed}
 use Rattle.wdl_typed.specs.Kept.{flow_typed, inputs_seen}
-use Rattle.wdl_plain.proofs.FlowSound.{is_typed}
-use Rattle.wdl_plain.proofs.GivenKeys.{some_inside}
+use Rattle.flow_soundness.proofs.FlowSound.{is_typed}
+use Rattle.flow_soundness.proofs.GivenKeys.{some_inside}
 use Rattle.flow_laws.proofs.Checked.{IsKept, each_passes, kept as kept_by}
 use Rattle.cwl_model.specs.declared.process.FlowOut.{FlowOut}
 use Rattle.cwl_image.specs.declared.broken.Broken.{Broken}

@@ -9,7 +9,7 @@ use Rattle.wdl_typed.specs.declared.flow.TCall.{TCall}
 use Rattle.wdl_typed.specs.declared.task.TDecl.{TDecl}
 use Rattle.wdl_typed.specs.Bodies.{Seen, Signature, arg_names, body_nests, call_by, signature, target_nests}
 use Rattle.wdl_typed.specs.Flow.{Callee, Part, Run, call_of, run_of_part, statement_step}
-use Rattle.wdl_plain.proofs.GivenKeys.{some_inside, when_some}
+use Rattle.flow_soundness.proofs.GivenKeys.{some_inside, when_some}
 use Rattle.flow_laws.proofs.Checked.{OutputsDiffer}
 use Rattle.cwl_model.specs.declared.process.Process.{Process}
 use Rattle.cwl_image.specs.declared.broken.Broken.{Broken}

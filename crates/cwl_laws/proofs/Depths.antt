@@ -13,7 +13,7 @@ use Rattle.wdl_typed.specs.Bodies.{Library, Seen, Signature, body_nests, call_by
 use Rattle.wdl_typed.specs.Declarations.{input_names, inputs_bound, task_typed}
 use Rattle.wdl_typed.specs.Flow.{Run, flow}
 use Rattle.wdl_typed.specs.Kept.{count_statements, flow_typed, sum_of}
-use Rattle.wdl_plain.proofs.FlowSound.{is_typed}
+use Rattle.flow_soundness.proofs.FlowSound.{is_typed}
 use Rattle.wdl_names.proofs.FreshLemmas.{fresh-distinct}
 use Rattle.flow_laws.proofs.Checked.{IsKept, OutputsDiffer, each_passes, flow_at_kept}
 use Rattle.cwl_image.specs.declared.broken.Broken.{Broken}

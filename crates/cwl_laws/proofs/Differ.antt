@@ -10,8 +10,8 @@ use Rattle.wdl_typed.specs.Bodies.{Differing, Library, Seen, body_gives, declare
 use Rattle.wdl_typed.specs.Flow.{Known, env_of}
 use Rattle.wdl_typed.specs.Lists.{has_name}
 use Rattle.wdl_typed.specs.Scope.{is_among, lookup, type_in}
-use Rattle.wdl_plain.specs.Readiness.{IsNew}
-use Rattle.wdl_plain.proofs.Newness.{given_apart, tail_new}
+use Rattle.flow_soundness.specs.Readiness.{IsNew}
+use Rattle.flow_soundness.proofs.Newness.{given_apart, tail_new}
 use Rattle.cwl_model.proofs.Rounds.{first_is, later_is, none_is}
 use Rattle.cwl_image.specs.Image.{Draft, Linkage, Output, Targets, body_links, draft, keys_of, linkage_of, links_of}
 use Rattle.cwl_image.specs.Subset.{walk_body}

@@ -6,7 +6,7 @@ use Rattle.wdl_value.specs.declared.ty.Ty.{Ty}
 use Rattle.wdl_typed.specs.declared.scope.Bound.{Bound}
 use Rattle.wdl_typed.specs.Journal.{keys_distinct}
 use Rattle.wdl_typed.specs.Scope.{is_among, same_key, type_in}
-use Rattle.wdl_plain.proofs.NewNames.{keys_of as bound_keys}
+use Rattle.flow_soundness.proofs.NewNames.{keys_of as bound_keys}
 use Rattle.cwl_model.proofs.Rounds.{first_is, first_or_later, later_is, none_is, or_else}
 use Rattle.cwl_image.specs.Image.{Linkage, Output, Scope, keys_of, linkage_at, type_of}
 use Rattle.cwl_laws.specs.Laws.{has_key}

@@ -21,9 +21,9 @@ use Rattle.wdl_typed.specs.Lists.{has_name}
 use Rattle.wdl_typed.specs.Scope.{is_among, lookup, same_key, same_second, type_in}
 use Rattle.wdl_typed.specs.Typing.{is_type}
 use Rattle.wdl_names.proofs.FreshLemmas.{fresh-distinct}
-use Rattle.wdl_plain.proofs.FlowSound.{Typed, body_is_new}
-use Rattle.wdl_plain.proofs.Fitting.{is_type-some}
-use Rattle.wdl_plain.proofs.NewNames.{name_left}
+use Rattle.flow_soundness.proofs.FlowSound.{Typed, body_is_new}
+use Rattle.flow_soundness.proofs.Fitting.{is_type-some}
+use Rattle.flow_soundness.proofs.NewNames.{name_left}
 use Rattle.flow_laws.proofs.Checked.{IsFlow, OutputsDiffer, names_right}
 use Rattle.flow_laws.proofs.Owned.{shared_by_none}
 use Rattle.cwl_model.specs.declared.process.Process.{Process}

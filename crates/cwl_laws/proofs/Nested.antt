@@ -20,9 +20,9 @@ use Rattle.wdl_typed.specs.Declarations.{bound, in_body, plain_key}
 use Rattle.wdl_typed.specs.Flow.{Callee, Part, Run, Runner, body_names, body_run, if_run, scatter_run}
 use Rattle.wdl_typed.specs.Lists.{has_name}
 use Rattle.wdl_typed.specs.Scope.{is_among, same_key, type_in}
-use Rattle.wdl_plain.specs.Readiness.{IsNew}
-use Rattle.wdl_plain.proofs.GivenKeys.{some_inside}
-use Rattle.wdl_plain.proofs.Newness.{new_inside}
+use Rattle.flow_soundness.specs.Readiness.{IsNew}
+use Rattle.flow_soundness.proofs.GivenKeys.{some_inside}
+use Rattle.flow_soundness.proofs.Newness.{new_inside}
 use Rattle.flow_laws.proofs.Checked.{OutputsDiffer}
 use Rattle.cwl_model.specs.declared.process.Process.{Process}
 use Rattle.cwl_model.specs.declared.ty.CwlTy.TheVariants as cwl

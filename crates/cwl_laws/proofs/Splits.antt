@@ -3,7 +3,7 @@ use Rattle.std.proofs.Common.{◌≡◌, ℕ, List, [], ◌∷◌, ◌++◌, map
 use Rattle.wdl_typed.specs.declared.flow.Statement.{Statement}
 use Rattle.wdl_typed.specs.declared.scope.Bound.{Bound}
 use Rattle.wdl_typed.specs.Bodies.{Library, Seen, body_gives, gives, joined}
-use Rattle.wdl_plain.proofs.GivenKeys.{some_inside}
+use Rattle.flow_soundness.proofs.GivenKeys.{some_inside}
 use Rattle.cwl_image.specs.Image.{Targets, body_links, draft, links_of}
 use Rattle.cwl_image.specs.Subset.{walk, walk_body}
 use Rattle.cwl_laws.specs.Parts.{LinksTyped, OutsTyped}

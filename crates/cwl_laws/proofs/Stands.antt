@@ -13,8 +13,8 @@ use Rattle.wdl_typed.specs.Kept.{count_step}
 use Rattle.wdl_typed.specs.Lists.{has_name, has_number}
 use Rattle.wdl_typed.specs.Scope.{type_in}
 use Rattle.wdl_names.specs.Fresh.{fresh}
-use Rattle.wdl_plain.specs.Readiness.{IsNew, are_among}
-use Rattle.wdl_plain.proofs.Newness.{head_new, tail_new}
+use Rattle.flow_soundness.specs.Readiness.{IsNew, are_among}
+use Rattle.flow_soundness.proofs.Newness.{head_new, tail_new}
 use Rattle.cwl_image.specs.declared.broken.Broken.{Broken}
 use Rattle.cwl_image.specs.Expressions.{is_simple}
 use Rattle.cwl_image.specs.Image.{Draft, Scope, Targets, body_uses, draft, draft_step, links_of}

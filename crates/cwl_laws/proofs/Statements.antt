@@ -13,10 +13,10 @@ use Rattle.wdl_typed.specs.Lists.{are_distinct}
 use Rattle.wdl_typed.specs.Scope.{type_in}
 use Rattle.wdl_names.proofs.FreshLemmas.{fresh-distinct}
 use Rattle.wdl_flow.proofs.GivenNames.{bodies_same}
-use Rattle.wdl_plain.specs.Readiness.{Agrees, FitsSome, IsNew}
-use Rattle.wdl_plain.proofs.Fitting.{agrees_both}
-use Rattle.wdl_plain.proofs.GivenKeys.{all_gives_keys}
-use Rattle.wdl_plain.proofs.Newness.{fresh_wider, given_apart}
+use Rattle.flow_soundness.specs.Readiness.{Agrees, FitsSome, IsNew}
+use Rattle.flow_soundness.proofs.Fitting.{agrees_both}
+use Rattle.flow_soundness.proofs.GivenKeys.{all_gives_keys}
+use Rattle.flow_soundness.proofs.Newness.{fresh_wider, given_apart}
 use Rattle.flow_laws.proofs.Checked.{OutputsDiffer}
 use Rattle.flow_laws.proofs.Owned.{statements_owned}
 use Rattle.cwl_model.specs.declared.process.Link.TheVariants as link

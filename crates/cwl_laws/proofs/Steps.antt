@@ -12,7 +12,7 @@ use Rattle.wdl_typed.specs.declared.scope.Bound.{Bound}
 use Rattle.wdl_typed.specs.Bodies.{Library, Numbered, Seen, all_declared, append_all, append_numbers, arg_names, body_gives, declared, is_numbered, joined, names_step, numbered_step}
 use Rattle.wdl_typed.specs.Kept.{count_step, count_statements, sum_of}
 use Rattle.wdl_typed.specs.Lists.{are_below, are_counted, are_distinct, has_number, numbers_differ}
-use Rattle.wdl_plain.proofs.NewNames.{name_one}
+use Rattle.flow_soundness.proofs.NewNames.{name_one}
 use Rattle.flow_laws.proofs.Checked.{names_right}
 use Rattle.flow_laws.proofs.Signs.{Signed, numbers_right, signed_apart, signed_left, signed_right}
 use Rattle.cwl_model.specs.declared.process.CwlStep.{CwlStep}

@@ -22,9 +22,9 @@ use Rattle.wdl_typed.specs.KnownTypes.{are_structs, is_some}
 use Rattle.wdl_typed.specs.Lists.{are_distinct, has_name}
 use Rattle.wdl_typed.specs.Scope.{lookup, same_key, same_second}
 use Rattle.wdl_names.proofs.FreshLemmas.{fresh-distinct}
-use Rattle.wdl_plain.proofs.FlowSound.{callees_sound, is_typed}
-use Rattle.wdl_plain.proofs.Sound.{sound}
-use Rattle.wdl_plain.specs.Readiness.{IsLibrary}
+use Rattle.flow_soundness.proofs.FlowSound.{callees_sound, is_typed}
+use Rattle.flow_soundness.proofs.Sound.{sound}
+use Rattle.flow_soundness.specs.Readiness.{IsLibrary}
 use Rattle.flow_laws.proofs.Checked.{each_passes, kept as kept_by, outputs_differ}
 use Rattle.cwl_model.specs.Means.{Meaning, Named, named, value_at}
 use Rattle.cwl_model.proofs.Rounds.{first_is, first_or_later, later_is, none_is}

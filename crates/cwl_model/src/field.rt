@@ -8,13 +8,16 @@ ghost use Rattle.cwl_model.specs.declared.field.FieldFault.TheVariants.{NotPlain
 use crate::tool::Piece;
 use sqlite_items::Items;
 use std::alloc::{AllocError, Global};
+use thiserror::Error;
 use wdl_base::{Name, NameFault, NoMemory, Text};
 
 /// Why a string is no field of this profile.
-#[derive(Clone, Copy, Debug, PartialEq, Eq)]
+#[derive(Clone, Copy, Debug, PartialEq, Eq, Error)]
 pub enum FieldFault {
     /// It holds NUL, a backslash, `${`, or a `$(` that begins no reference.
+    #[error("the text holds NUL, a backslash, or a `$` that begins no reference")]
     NotPlain,
+    #[error("out of memory")]
     NoMemory,
 }
 

@@ -1,10 +1,5 @@
-mod CastsOut
-mod CommandLemmas
-mod ListLemmas
-mod LowestLemmas
 mod PartLemmas
 mod ReachLemmas
 mod RuleLemmas
 mod TableLemmas
 mod WalkLemmas
-mod WidensOut

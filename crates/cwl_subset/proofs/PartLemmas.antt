@@ -8,12 +8,12 @@ use Rattle.wdl_typed.specs.Bodies.{Library}
 use Rattle.wdl_typed.specs.Declarations.{inputs_bound}
 use Rattle.cwl_image.specs.declared.broken.Broken.{Broken}
 use Rattle.cwl_image.specs.Subset.{declared_by, each_broken, flow_broken, input_broken, run_broken, task_broken, task_scope, walk_body}
-use Rattle.cwl_subset.specs.declared.declaration.Role.TheVariants as role
+use Rattle.cwl_rules.specs.declared.declaration.Role.TheVariants as role
 use Rattle.cwl_subset.specs.declared.walk.Walked.{Walked as Kept}
-use Rattle.cwl_subset.specs.Lowest.{lower, lowest}
-use Rattle.cwl_subset.specs.Roles.{decl_broken}
+use Rattle.cwl_rules.specs.Lowest.{lower, lowest}
+use Rattle.cwl_rules.specs.Roles.{decl_broken}
 use Rattle.cwl_subset.specs.Walks.{flow_outputs_broken, summed}
-use Rattle.cwl_subset.proofs.LowestLemmas.{lowest_append}
+use Rattle.cwl_rules.proofs.LowestLemmas.{lowest_append}
 
 lowest_three : (a b c : List Broken) → lowest (a ++ b ++ c) ≡ lower (lower (lowest a) (lowest b)) (lowest c)
 lowest_three a b c = lowest_append (a ++ b) c ∙ ap (λ o. lower o (lowest c)) (lowest_append a b)

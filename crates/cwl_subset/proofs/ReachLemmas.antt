@@ -12,10 +12,10 @@ use Rattle.wdl_typed.specs.Bodies.{Library}
 use Rattle.cwl_image.specs.declared.broken.Broken.{Broken}
 use Rattle.cwl_image.specs.Subset as subset
 use Rattle.cwl_image.specs.Subset.{all_broken, called_broken, flow_at, flow_broken, reached, target_broken, task_at, task_broken}
-use Rattle.cwl_subset.specs.Lowest.{lower, lowest}
+use Rattle.cwl_rules.specs.Lowest.{lower, lowest}
 use Rattle.cwl_subset.specs.Refusals.{lowest_in}
 use Rattle.cwl_subset.specs.Tables.{Table, all_lower, called_by, called_entry, called_step, entry, first_table, next_table, own_table, table_at, target_entry, task_table}
-use Rattle.cwl_subset.proofs.LowestLemmas.{lowest_append}
+use Rattle.cwl_rules.proofs.LowestLemmas.{lowest_append}
 
 -- ---- what statements call
 

@@ -5,7 +5,7 @@ use Rattle.std.specs.List.{Any}
 use Rattle.wdl_base.specs.declared.span.Span.{Span}
 use Rattle.cwl_image.specs.declared.broken.Broken.{Broken}
 use Rattle.cwl_image.specs.Subset.{broken_in, is_empty, places_of}
-use Rattle.cwl_subset.specs.Lowest.{lower, lowest}
+use Rattle.cwl_rules.specs.Lowest.{lower, lowest}
 use Rattle.wdl_typed.specs.Bodies.{Library}
 use Rattle.cwl_image.specs.Kept.{is_kept}
 use Rattle.cwl_image.specs.Named.{names_are_names}

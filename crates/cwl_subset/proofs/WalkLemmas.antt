@@ -12,9 +12,9 @@ use Rattle.wdl_typed.specs.Declarations.{bound, in_body}
 use Rattle.cwl_image.specs.declared.broken.Broken.{Broken}
 use Rattle.cwl_image.specs.Subset.{Walk, Walked, after_block, block_broken, followed, if_over, nothing, scatter_at, scatter_over, walk, walk_body}
 use Rattle.cwl_subset.specs.declared.walk.Walked.{Walked as Kept}
-use Rattle.cwl_subset.specs.Lowest.{lower, lowest}
+use Rattle.cwl_rules.specs.Lowest.{lower, lowest}
 use Rattle.cwl_subset.specs.Walks.{conditional, if_walk, items_at, items_of, joined, none, scatter_walk, scattered, summed}
-use Rattle.cwl_subset.proofs.LowestLemmas.{lower_assoc, lower_none, lowest_append}
+use Rattle.cwl_rules.proofs.LowestLemmas.{lower_assoc, lower_none, lowest_append}
 
 abbrev kept : List Bound → Option Broken → Kept
 kept given broken = record { given = given; broken = broken }

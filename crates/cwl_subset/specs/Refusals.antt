@@ -6,7 +6,7 @@ use Rattle.cwl_image.specs.declared.broken.Broken.{Broken}
 use Rattle.cwl_image.specs.Subset.{broken_in, places_of, rule}
 use Rattle.cwl_subset.specs.declared.subset.SubsetFault.{SubsetFault}
 use Rattle.cwl_subset.specs.declared.subset.SubsetFault.TheVariants.{NotInSubset}
-use Rattle.cwl_subset.specs.Lowest.{lowest}
+use Rattle.cwl_rules.specs.Lowest.{lowest}
 
 -- The rule is broken at the place, and no lower rule is broken.
 abbrev pub IsLowest : Broken → List Broken → Type 0

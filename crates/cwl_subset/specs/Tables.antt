@@ -10,7 +10,7 @@ use Rattle.wdl_typed.specs.declared.task.TaskDef.{TaskDef}
 use Rattle.wdl_typed.specs.Bodies.{Library}
 use Rattle.cwl_image.specs.declared.broken.Broken.{Broken}
 use Rattle.cwl_image.specs.Subset.{flow_broken, task_broken}
-use Rattle.cwl_subset.specs.Lowest.{lower, lowest}
+use Rattle.cwl_rules.specs.Lowest.{lower, lowest}
 
 abbrev pub Table : Type 0
 Table = List (Option Broken)

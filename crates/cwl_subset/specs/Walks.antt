@@ -16,7 +16,7 @@ use Rattle.cwl_image.specs.declared.broken.Broken.{Broken}
 use Rattle.cwl_image.specs.Subset.{Walked, after_block, block_broken, call_broken, decl_broken, declared_step, each_broken, flow_output_broken, if_over, outputs_bound, retyped_bound, scatter_over, walk_body}
 use Rattle.cwl_subset.specs.declared.walk.Context.{Context}
 use Rattle.cwl_subset.specs.declared.walk.Walked.{Walked as Kept}
-use Rattle.cwl_subset.specs.Lowest.{lower, lowest}
+use Rattle.cwl_rules.specs.Lowest.{lower, lowest}
 
 abbrev pub library_of : Context → Library
 library_of c = library c.structs.now c.tasks.now c.flows.now

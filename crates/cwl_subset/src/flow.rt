@@ -3,16 +3,15 @@
 ghost use Rattle.std.specs.Prelude.{◌≡◌, ◌++◌, IfOk, OnOk};
 ghost use Rattle.wdl_typed.specs.Bodies.{library};
 ghost use Rattle.cwl_image.specs.Subset as subset;
-ghost use Rattle.cwl_subset.specs.Lowest.{lowest};
+ghost use Rattle.cwl_rules.specs.Lowest.{lowest};
 ghost use Rattle.cwl_subset.specs.Tables.{own_table};
 ghost use Rattle.cwl_subset.specs.Walks.{declared_in, flow_outputs_broken};
 
-use crate::declaration::{Role, decls_broken, inputs_broken};
 use crate::given::enter_names;
-use crate::lowest::lower;
 use crate::scope::{enter_decls, input_scope};
 use crate::walk::{Context, body_walk};
 use cwl_image::Broken;
+use cwl_rules::{Role, decls_broken, inputs_broken, lower};
 use sqlite_items::Items;
 use std::alloc::Global;
 use wdl_names::{Indexed, Names, Words};

@@ -7,20 +7,23 @@ ghost use Rattle.cwl_subset.specs.Refusals as spec;
 ghost use Rattle.cwl_subset.specs.declared.subset.SubsetFault.TheVariants.{NoMemory as OutOfMemory};
 
 use crate::flow::flows_broken;
-use crate::named::see_names;
 use crate::tables::{entry, reached_table};
 use crate::task::tasks_broken;
 use cwl_image::Broken;
+use cwl_rules::see_names;
 use std::alloc::Global;
+use thiserror::Error;
 use wdl_names::Indexed;
 use wdl_typed::Checked;
 use wdl_value::{NoMemory, Span};
 
 /// Why a checked form is not in the subset.
-#[derive(Clone, Copy, Debug, PartialEq, Eq)]
+#[derive(Clone, Copy, Debug, PartialEq, Eq, Error)]
 pub enum SubsetFault {
     /// The lowest of the rules 601 to 613 that is broken in what the main workflow reaches, and a place where it is.
+    #[error("rule {rule} of the CWL subset is broken")]
     NotInSubset { rule: u16, span: Span },
+    #[error("out of memory")]
     NoMemory,
 }
 

@@ -3,8 +3,8 @@
 ghost use Rattle.std.specs.Prelude.{◌≡◌, IfOk, slice_get};
 ghost use Rattle.cwl_subset.specs.Tables as spec;
 
-use crate::lowest::lower;
 use cwl_image::Broken;
+use cwl_rules::lower;
 use sqlite_items::{Items, at};
 use std::alloc::Global;
 use wdl_typed::{FlowDef, Statement, Target};
@@ -54,7 +54,7 @@ fn called_by(
 }
 
 /// The lowest rule that is broken in what the statements call.
-#[tactic(auto, using(crate::proofs::LowestLemmas::lower_assoc, crate::proofs::LowestLemmas::lower_none))]
+#[tactic(auto, using(cwl_rules::proofs::LowestLemmas::lower_assoc, cwl_rules::proofs::LowestLemmas::lower_none))]
 #[cycle(called)]
 fn called_entry(
     body: &[Statement],

@@ -4,18 +4,15 @@ ghost use Rattle.std.specs.Prelude.{◌≡◌, IfOk};
 ghost use Rattle.std.specs.Option.{option_copied};
 ghost use Rattle.cwl_image.specs.Image as image;
 ghost use Rattle.cwl_image.specs.Subset as subset;
-ghost use Rattle.cwl_subset.specs.Lowest.{lowest};
+ghost use Rattle.cwl_rules.specs.Lowest.{lowest};
 ghost use Rattle.cwl_subset.specs.Tables.{task_table};
 
-use crate::casts::{are_allowed, default_allowed};
-use crate::command::is_command;
-use crate::declaration::{Role, decls_broken, inputs_broken};
-use crate::literal::{is_zero, literal_of};
-use crate::lowest::{lower, unless};
-use crate::reference::reference;
 use crate::scope::{input_scope, task_scope};
-use crate::types::is_scalar;
 use cwl_image::Broken;
+use cwl_rules::{
+    Role, are_allowed, decls_broken, default_allowed, inputs_broken, is_command, is_scalar,
+    is_zero, literal_of, lower, reference, unless,
+};
 use sqlite_items::Items;
 use std::alloc::Global;
 use wdl_names::{Indexed, Names};
@@ -146,7 +143,7 @@ fn are_codes(codes: &TCodes) -> bool
 }
 
 /// The lowest rule that the attributes and the command break.
-#[tactic(auto, using(crate::proofs::LowestLemmas::lowest_append))]
+#[tactic(auto, using(cwl_rules::proofs::LowestLemmas::lowest_append))]
 fn run_broken(
     alloc: Global,
     task: &TaskDef,

@@ -5,14 +5,12 @@ ghost use Rattle.std.specs.Option.{option_copied};
 ghost use Rattle.wdl_typed.specs.Bodies as bodies;
 ghost use Rattle.wdl_typed.specs.Declarations.{bound};
 ghost use Rattle.cwl_image.specs.Subset as subset;
-ghost use Rattle.cwl_subset.specs.Lowest.{lowest};
+ghost use Rattle.cwl_rules.specs.Lowest.{lowest};
 ghost use Rattle.cwl_subset.specs.Walks as spec;
 
-use crate::casts::{are_allowed, refers};
-use crate::declaration::{Role, decl_broken};
 use crate::given::{arrays, enter_names, optionals, outputs_of};
-use crate::lowest::{lower, unless};
 use cwl_image::Broken;
+use cwl_rules::{Role, are_allowed, decl_broken, lower, refers, unless};
 use sqlite_items::{Items, at};
 use std::alloc::Global;
 use wdl_names::{Indexed, Names, Words};
@@ -93,7 +91,7 @@ fn args_allowed(
 }
 
 /// The lowest rule that a call breaks.
-#[tactic(auto, using(crate::proofs::LowestLemmas::lowest_append))]
+#[tactic(auto, using(cwl_rules::proofs::LowestLemmas::lowest_append))]
 fn call_broken(
     alloc: Global,
     call: &TCall,
@@ -182,7 +180,7 @@ fn decl_walk(alloc: Global, d: &TDecl, context: &Context, names: &Names) -> Resu
 }
 
 /// The lowest rule that the collection or the condition of a block breaks.
-#[tactic(auto, using(crate::proofs::LowestLemmas::lowest_append))]
+#[tactic(auto, using(cwl_rules::proofs::LowestLemmas::lowest_append))]
 fn block_broken(
     alloc: Global,
     e: &TExpr,

@@ -1,10 +1,7 @@
 //! Sentences on calls.
 
-use crate::entry::Entry;
 use crate::listed::{it_has, list};
-use crate::note::Note;
-use crate::part::{Part, imported, part_named, push_parts};
-use crate::scene::Scene;
+use fault_places::{Entry, Note, Part, Scene, imported, part_named, push_parts};
 use std::alloc::Global;
 use wdl_ast::{Call, Document, InputDeclaration};
 use wdl_value::NoMemory;

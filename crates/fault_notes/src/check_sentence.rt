@@ -2,11 +2,10 @@
 
 use crate::call_sentence::{input_missing, input_unknown, unknown_task};
 use crate::name_sentence::{duplicate, not_a_value, unknown_name, unknown_type};
-use crate::note::Note;
-use crate::scene::Scene;
 use crate::value_sentence::{
     bad_arguments, bad_operands, expected, members_differ, no_coercion, no_member,
 };
+use fault_places::{Note, Scene};
 use std::alloc::Global;
 use wdl_library::Library;
 use wdl_value::{NoMemory, Span};

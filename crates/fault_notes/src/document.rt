@@ -1,16 +1,14 @@
 //! The note of a fault in a document.
 
 ghost use Rattle.std.specs.Prelude.{◌≡◌, IfOk, string_bytes};
-ghost use Rattle.fault_notes.specs.Notes.{Begins, head_of};
+ghost use Rattle.fault_notes.specs.Notes.{Begins};
+ghost use Rattle.fault_places.specs.Heads.{head_of};
 
 use crate::check_sentence::check_sentence;
-use crate::excerpt::excerpt;
 use crate::import_sentence::import_sentence;
-use crate::note::Note;
-use crate::position::{Position, position_of};
 use crate::subset_sentence::subset_sentence;
 use crate::text_sentence::text_sentence;
-use report_text::code_text;
+use fault_places::{Note, excerpt, head};
 use std::alloc::Global;
 use wdl_library::Library;
 use wdl_value::{NoMemory, Span};
@@ -32,16 +30,6 @@ fn sentence(
     }
 }
 
-/// The place of a fault, and its code with the word.
-fn head(alloc: Global, path: &str, bytes: &[u8], code: u16, start: u32) -> Result<String, NoMemory>
-    ensures { IfOk result (λ t. string_bytes t ≡ head_of path.now bytes.now start code) }
-{
-    let Position { line, column } = position_of(bytes, start);
-    let rule = code_text(alloc, code)?;
-    let rule = rule.as_str();
-    Ok(format!(in alloc; "{path}:{line}:{column}: error {rule}: ")?)
-}
-
 /// Appends the sentence, the line of the document and the carets.
 fn tell(
     alloc: Global,
@@ -60,12 +48,12 @@ fn tell(
 /// sentence, the line of the document in which the span begins, and a line of carets under the
 /// span. Each of the three ends with a newline.
 ///
-/// `code` is one of 101 to 330 or 601 to 613; `bytes` are those of the document, and `span` is the
+/// `code` is one of 101 to 330, 601 to 613 or 620 to 622; `bytes` are those of the document, and `span` is the
 /// part of it in which the rule of the code is broken. For the codes from 301 on the sentence names
 /// what the library has: with no library it says less.
 ///
 /// It begins with `PATH:LINE:COLUMN: error CODE WORD: `, where line and column are those of
-/// `position_of`. Nothing is promised of what follows.
+/// `fault_places::position_of`. Nothing is promised of what follows.
 pub fn document_note(
     alloc: Global,
     path: &str,
@@ -79,7 +67,7 @@ pub fn document_note(
     let mut told = Note::new(alloc);
     tell(alloc, &mut told, code, bytes, span, library)?;
     let told = told.as_str();
-    let mut note = head(alloc, path, bytes, code, span.start)?;
+    let mut note = head(alloc, path, bytes, code, span)?;
     note.push_str(told)?;
     Ok(note)
 }

@@ -1,7 +1,6 @@
 //! Sentences on imports.
 
-use crate::note::Note;
-use crate::quoted::words_at;
+use fault_places::{Note, words_at};
 use wdl_value::{NoMemory, Span};
 
 /// The sentences that say the same of each import.

@@ -1,6 +1,6 @@
 //! Names in a sentence.
 
-use crate::note::Note;
+use fault_places::Note;
 use wdl_value::NoMemory;
 
 /// The most names that a sentence lists.

@@ -1,11 +1,7 @@
 //! Sentences on names.
 
-use crate::entry::Entry;
 use crate::listed::{it_has, list};
-use crate::note::Note;
-use crate::part::{Part, part_named};
-use crate::position::position_of;
-use crate::scene::Scene;
+use fault_places::{Entry, Note, Part, Scene, part_named, position_of};
 use std::alloc::Global;
 use wdl_value::{NoMemory, Span, is_identifier};
 

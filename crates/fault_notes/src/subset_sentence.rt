@@ -1,6 +1,6 @@
-//! Sentences on the rules of the subset that has a CWL document.
+//! Sentences on the rules of the subset that has a CWL document, and on those of bundles.
 
-/// The sentence on a rule of 601 to 613.
+/// The sentence on a rule of 601 to 613 or 620 to 622.
 pub fn subset_sentence(rule: u16) -> &'static str {
     match rule {
         601 => {
@@ -45,6 +45,12 @@ pub fn subset_sentence(rule: u16) -> &'static str {
             "this runtime has no form in CWL: expected no `maxRetries`, and `returnCodes` that \
              are `\"*\"`, 0, or at most 256 numbers with 0 among them"
         }
+        620 => {
+            "this is a call of a workflow: a bundle has the tasks of one workflow only; bundle \
+             that workflow by itself, or call its tasks here"
+        }
+        621 => "the bundle would be longer than 1,048,576 bytes, and a document may not be",
+        622 => "the bundle would not mean what the documents do: please report this",
         _ => "this has no form in CWL",
     }
 }

@@ -1,7 +1,6 @@
 //! Sentences on tokens and grammar.
 
-use crate::note::Note;
-use crate::quoted::{text_behind, words_at};
+use fault_places::{Note, text_behind, words_at};
 use wdl_value::{NoMemory, Span, is_reserved};
 
 /// The most bytes of a document.

@@ -1,12 +1,8 @@
 //! Sentences on values and their types.
 
-use crate::entry::Entry;
 use crate::function::usage_of;
 use crate::listed::list;
-use crate::note::Note;
-use crate::quoted::text_behind;
-use crate::scene::{Declared, Scene};
-use crate::type_text::type_text;
+use fault_places::{Declared, Entry, Note, Scene, text_behind, type_text};
 use std::alloc::Global;
 use wdl_ast::{Argument, Call, Declaration, Ident, InputDeclaration, TypeTree};
 use wdl_value::{NoMemory, Span, StructDef, is_identifier};

@@ -12,6 +12,8 @@ usage: wdl COMMAND ..
   check    check a document and all that it imports
   inputs   write the inputs of a workflow as a JSON object to fill in
   cwl      write a workflow, or its inputs, for CWL v1.2
+  bundle   write a workflow and its imports as one document
+  load     run a made-up workflow of N calls, to measure the runner
   help     show this help, or that of a command: wdl help run
   version  show the version of the program
 
@@ -28,11 +30,10 @@ status  meaning
      5  a file cannot be read
      6  the output cannot be written
      7  out of memory
-     8  the workflow has no CWL form
+     8  the workflow has no CWL form, or no bundle
      9  the command of a job cannot be started
     10  the journal cannot be used
     11  the run has too many jobs
-    12  the command is not built yet (`wdl bundle`)
 
 example:
   wdl run --inputs lanes.json lanes.wdl
@@ -157,7 +158,26 @@ example:
 ";
 
 pub const BUNDLE: &str = "\
-wdl bundle FILE is not built yet: it ends with status 12.
+Writes the workflow of a document and all that it imports as one document
+without imports, whose outputs and jobs are the same.
+
+usage: wdl bundle FILE
+
+The document has the structs, the tasks that the workflow calls, and the
+workflow. A task of an imported document is named task_D_K, by the numbers of
+the document and of the task in it; metadata and comments are left out.
+
+status  meaning
+     0  success: the document was written
+     2  the command line is not valid
+     3  the document, or one that it imports, has an error or no workflow
+     5  a document cannot be read
+     6  the output cannot be written
+     7  out of memory
+     8  the workflow calls a workflow, or its bundle is longer than 1 MiB
+
+example:
+  wdl bundle lanes.wdl >one.wdl
 ";
 
 pub const HELP: &str = "\

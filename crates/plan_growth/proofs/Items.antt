@@ -1,6 +1,6 @@
 -- The items of a scatter that is entered.
 use Rattle.std.proofs.Common.{◌≡◌, ℕ, ◌+◌, ◌<◌, ◌≤◌, List, [], ◌∷◌, ◌++◌, map, append_assoc, append-nil, length, get_or, Some, slice_get, arith, sym, ap, ◌∙◌, subst, refl}
-use Rattle.std.proofs.lemmas.List.{get_or_push, length-append, map-append}
+use Rattle.std.proofs.lemmas.List.{get_or_push, length-append, length-map, map-append}
 use Rattle.std.proofs.lemmas.Option.{slice_get_within}
 use Rattle.wdl_base.specs.declared.place.Segment.{Segment}
 use Rattle.wdl_base.specs.declared.place.Segment.TheVariants as segment
@@ -30,7 +30,7 @@ use Rattle.plan_layout.specs.Paths.{body_at}
 use Rattle.plan_layout.specs.Sees.{Sees}
 use Rattle.plan_growth.specs.declared.instance.Instance.{Instance}
 use Rattle.plan_growth.specs.Begun.{AllSit, HasBegun, all_given, base_at, hits, scope_at}
-use Rattle.plan_growth.specs.Entering.{Plot, Sown, dones_at, with_items}
+use Rattle.plan_growth.specs.Entering.{Plot, Sown, dones_at, with_item, with_items}
 use Rattle.plan_growth.specs.Growth.{IsEven, sheet_of}
 use Rattle.plan_growth.specs.Meaning.{AreThere}
 use Rattle.plan_growth.specs.News.{AllStand, New, new_code, new_means, new_wants, statement_news, with_news}
@@ -40,7 +40,7 @@ use Rattle.plan_growth.proofs.Entry.{item_entered, item_even, item_extends, item
 use Rattle.plan_growth.proofs.Instances.{Extends, IsEntered, Kept, entered_later, extends_twice, instance_owners, put}
 use Rattle.plan_growth.proofs.Lists.{get_left, get_right}
 use Rattle.plan_growth.proofs.Sitting.{all_sit}
-use Rattle.plan_growth.proofs.Standing.{news_length, statements_stand}
+use Rattle.plan_growth.proofs.Standing.{news_length, statements_added, statements_stand}
 use Rattle.plan_growth.proofs.There.{marks_more, slots_more, there_both, there_more}
 
 module _ (lib : Library) (layout : Layout) (number : ℕ) (bl : BodyLayout) (flow : FlowDef) (ss : List Statement) (outer path : List ℕ) (splace : List Segment) (k : ℕ) (item : List ℕ) (a : Stand) where
@@ -56,6 +56,9 @@ module _ (lib : Library) (layout : Layout) (number : ℕ) (bl : BodyLayout) (flo
   abbrev place_at : ℕ → List Segment
   place_at i = place ++ segment.Index i ∷ []
 
+  abbrev pub one_entered : ℕ → Value → Plot → Plot
+  one_entered i x p = with_item number outer (place_at i) bl x p
+
   abbrev pub entered : ℕ → List Value → Plot → Plot
   entered i xs p = with_items number outer place bl i xs p
 
@@ -67,14 +70,14 @@ module _ (lib : Library) (layout : Layout) (number : ℕ) (bl : BodyLayout) (flo
 
   abbrev pub items_news : ℕ → List Value → Plot → List New
   items_news i [] p = []
-  items_news i (x ∷ xs) p = items_news (i + 1) xs p ++ news_at i (entered (i + 1) xs p)
+  items_news i (x ∷ xs) p = news_at i p ++ items_news (i + 1) xs (one_entered i x p)
 
   abbrev owners_at : Plot → List ℕ
   owners_at q = instance_owners lib (0 ∷ []) [] (length q.net.steps) ss
 
   abbrev pub items_owners : ℕ → List Value → Plot → List ℕ
   items_owners i [] p = []
-  items_owners i (x ∷ xs) p = items_owners (i + 1) xs p ++ owners_at (entered (i + 1) xs p)
+  items_owners i (x ∷ xs) p = owners_at p ++ items_owners (i + 1) xs (one_entered i x p)
 
   abbrev pub rules_after : ℕ → List Value → Plot → List net.Rule → List net.Rule
   rules_after i xs p rules = rules ++ map new_means (items_news i xs p)
@@ -90,19 +93,20 @@ module _ (lib : Library) (layout : Layout) (number : ℕ) (bl : BodyLayout) (flo
 
     abbrev pub AllItems : ℕ → List Value → Plot → Type 0
     AllItems i [] p = Unit {0}
-    AllItems i (x ∷ xs) p = ItemAt i x (entered (i + 1) xs p) × AllItems (i + 1) xs p
+    AllItems i (x ∷ xs) p = ItemAt i x p × AllItems (i + 1) xs (one_entered i x p)
+
+  item_later : (b c : Sheet) (mine theirs : List ℕ) (is js : List Instance) → Extends b mine c theirs → Kept is js → (i : ℕ) (x : Value) (q : Plot) → ItemAt b mine is i x q → ItemAt c theirs js i x q
+  item_later b c mine theirs is js e kept i x q h =
+      record {
+        cell = e.values (length q.net.values) (Some x) h.cell;
+        entered_there = entered_later lib b c mine theirs (bases_at q) (place_at i) (0 ∷ []) [] (length q.net.values) (length q.net.steps) ss inner bl.statements e h.entered_there;
+        instance = kept (length q.instances) (record { body = number; bases = bases_at q; place = place_at i }) h.instance;
+      }
 
   pub items_later : (b c : Sheet) (mine theirs : List ℕ) (is js : List Instance) → Extends b mine c theirs → Kept is js → (i : ℕ) (xs : List Value) (p : Plot) → AllItems b mine is i xs p → AllItems c theirs js i xs p
   items_later b c mine theirs is js e kept i [] p h = tt
   items_later b c mine theirs is js e kept i (x ∷ xs) p h =
-      let q = entered (i + 1) xs p in (
-        record {
-          cell = e.values (length q.net.values) (Some x) h.0.cell;
-          entered_there = entered_later lib b c mine theirs (bases_at q) (place_at i) (0 ∷ []) [] (length q.net.values) (length q.net.steps) ss inner bl.statements e h.0.entered_there;
-          instance = kept (length q.instances) (record { body = number; bases = bases_at q; place = place_at i }) h.0.instance;
-        },
-        items_later b c mine theirs is js e kept (i + 1) xs p h.1,
-      )
+      (item_later b c mine theirs is js e kept i x p h.0, items_later b c mine theirs is js e kept (i + 1) xs (one_entered i x p) h.1)
 
   module _ (deep : length path ≡ length outer) (p : Laid (Sees lib) lib bl.flow flow.body layout.bodies (laid.all ss inner bl.statements)) (cells : bl.cells ≡ (laid.behind_all lib ss inner).next_done) where
     -- the items from one on are entered, and the rules and owners are these
@@ -130,49 +134,48 @@ module _ (lib : Library) (layout : Layout) (number : ℕ) (bl : BodyLayout) (flo
           steps = sym (append-nil q.net.steps);
         }
 
-    module _ (i : ℕ) (x : Value) (xs : List Value) (q : Plot) (rules : List net.Rule) (owners : List ℕ) (now : List net.Rule) (own : List ℕ) (h : AreEntered (i + 1) xs q rules owners now own) where
+    module _ (i : ℕ) (x : Value) (q : Plot) (rules : List net.Rule) (owners : List ℕ) (even : IsEven q.net rules owners) where
       abbrev mid : Plot
-      mid = entered (i + 1) xs q
+      mid = one_entered i x q
 
-      abbrev last : Plot
-      last = entered i (x ∷ xs) q
+      abbrev mid_rules : List net.Rule
+      mid_rules = rules ++ map new_means (news_at i q)
 
-      abbrev now_rules : List net.Rule
-      now_rules = now ++ map new_means (news_at i mid)
-
-      abbrev now_owners : List ℕ
-      now_owners = own ++ owners_at mid
+      abbrev mid_owners : List ℕ
+      mid_owners = owners ++ owners_at q
 
       abbrev instance_now : Instance
-      instance_now = record { body = number; bases = bases_at mid; place = place_at i }
+      instance_now = record { body = number; bases = bases_at q; place = place_at i }
 
-      on : Extends (sheet_of mid.net now) own (sheet_of last.net now_rules) now_owners
-      on = item_extends lib number bl ss outer (place_at i) (0 ∷ []) [] inner_names a.calls path deep bl.flow flow.body layout.bodies p cells mid now own h.even (omega arith) x
+      net_now : mid.net ≡ with_value (with_news (with_cells q.net bl.cells) (news_at i q)) (length q.net.values) x
+      net_now = ap (λ (v : Sown). with_value v (length q.net.values) x) (net_is lib number bl ss outer (place_at i) (0 ∷ []) [] inner_names a.calls path deep bl.flow flow.body layout.bodies p cells q rules owners even)
 
-      net_now : last.net ≡ with_value (with_news (with_cells mid.net bl.cells) (news_at i mid)) (length mid.net.values) x
-      net_now =
-          ap (λ (v : Sown). with_value v (length mid.net.values) x)
-          (net_is lib number bl ss outer (place_at i) (0 ∷ []) [] inner_names a.calls path deep bl.flow flow.body layout.bodies p cells mid now own h.even)
+      even_mid : IsEven mid.net mid_rules mid_owners
+      even_mid = item_even lib number bl ss outer (place_at i) (0 ∷ []) [] inner_names a.calls path deep bl.flow flow.body layout.bodies p cells q rules owners even (omega arith) x
 
-      kept : Kept mid.instances last.instances
-      kept j z e = get_left mid.instances (instance_now ∷ []) j z e
+      kept : Kept q.instances mid.instances
+      kept j z e = get_left q.instances (instance_now ∷ []) j z e
 
-      next_entered : AreEntered i (x ∷ xs) q rules owners now_rules now_owners
-      next_entered =
+      item_mid : ItemAt (sheet_of mid.net mid_rules) mid_owners mid.instances i x q
+      item_mid =
           record {
-            items = (
-              record {
-                cell = item_there lib number bl ss outer (place_at i) (0 ∷ []) [] inner_names a.calls path deep bl.flow flow.body layout.bodies p cells mid now own h.even (omega arith) x;
-                entered_there = item_entered lib number bl ss outer (place_at i) (0 ∷ []) [] inner_names a.calls path deep bl.flow flow.body layout.bodies p cells mid now own h.even (omega arith) x;
-                instance = ap (slice_get last.instances) (omega arith) ∙ get_right mid.instances (instance_now ∷ []) 0;
-              },
-              items_later (sheet_of mid.net now) (sheet_of last.net now_rules) own now_owners mid.instances last.instances on kept (i + 1) xs q h.items,
-            );
-            extends = extends_twice (sheet_of q.net rules) (sheet_of mid.net now) (sheet_of last.net now_rules) owners own now_owners h.extends on;
-            even = item_even lib number bl ss outer (place_at i) (0 ∷ []) [] inner_names a.calls path deep bl.flow flow.body layout.bodies p cells mid now own h.even (omega arith) x;
-            instances = λ j z e. kept j z (h.instances j z e);
-            codes = lists_both new_code q.net.rules last.net.rules mid.net.rules (items_news (i + 1) xs q) (news_at i mid) h.codes (ap (λ (v : Sown). v.rules) net_now);
-            steps = lists_both new_wants q.net.steps last.net.steps mid.net.steps (items_news (i + 1) xs q) (news_at i mid) h.steps (ap (λ (v : Sown). v.steps) net_now);
+            cell = item_there lib number bl ss outer (place_at i) (0 ∷ []) [] inner_names a.calls path deep bl.flow flow.body layout.bodies p cells q rules owners even (omega arith) x;
+            entered_there = item_entered lib number bl ss outer (place_at i) (0 ∷ []) [] inner_names a.calls path deep bl.flow flow.body layout.bodies p cells q rules owners even (omega arith) x;
+            instance = ap (slice_get mid.instances) (omega arith) ∙ get_right q.instances (instance_now ∷ []) 0;
+          }
+
+      next_entered : (xs : List Value) (now : List net.Rule) (own : List ℕ) → AreEntered (i + 1) xs mid mid_rules mid_owners now own → AreEntered i (x ∷ xs) q rules owners now own
+      next_entered xs now own h =
+          let last = entered (i + 1) xs mid in
+          record {
+            items = (item_later (sheet_of mid.net mid_rules) (sheet_of last.net now) mid_owners own mid.instances last.instances h.extends h.instances i x q item_mid, h.items);
+            extends =
+                extends_twice (sheet_of q.net rules) (sheet_of mid.net mid_rules) (sheet_of last.net now) owners mid_owners own
+                (item_extends lib number bl ss outer (place_at i) (0 ∷ []) [] inner_names a.calls path deep bl.flow flow.body layout.bodies p cells q rules owners even (omega arith) x) h.extends;
+            even = h.even;
+            instances = λ j z e. h.instances j z (kept j z e);
+            codes = lists_both new_code q.net.rules last.net.rules mid.net.rules (news_at i q) (items_news (i + 1) xs mid) (ap (λ (v : Sown). v.rules) net_now) h.codes;
+            steps = lists_both new_wants q.net.steps last.net.steps mid.net.steps (news_at i q) (items_news (i + 1) xs mid) (ap (λ (v : Sown). v.steps) net_now) h.steps;
           }
 
     pub are_entered : (i : ℕ) (xs : List Value) (q : Plot) (rules : List net.Rule) (owners : List ℕ) → IsEven q.net rules owners
@@ -180,22 +183,23 @@ module _ (lib : Library) (layout : Layout) (number : ℕ) (bl : BodyLayout) (flo
     are_entered i [] q rules owners even =
         as_lists i [] q rules owners rules (rules ++ []) owners (owners ++ []) (sym (append-nil rules)) (sym (append-nil owners)) (none_entered i q rules owners even)
     are_entered i (x ∷ xs) q rules owners even =
-        as_lists i (x ∷ xs) q rules owners (rules_after (i + 1) xs q rules ++ map new_means (news_at i (entered (i + 1) xs q))) (rules_after i (x ∷ xs) q rules)
-        ((owners ++ items_owners (i + 1) xs q) ++ owners_at (entered (i + 1) xs q)) (owners ++ items_owners i (x ∷ xs) q)
-        (rules_both rules (items_news (i + 1) xs q) (news_at i (entered (i + 1) xs q))) (append_assoc owners (items_owners (i + 1) xs q) (owners_at (entered (i + 1) xs q)))
-        (next_entered i x xs q rules owners (rules_after (i + 1) xs q rules) (owners ++ items_owners (i + 1) xs q) (are_entered (i + 1) xs q rules owners even))
+        let mid = one_entered i x q in
+        let mid_rules = rules ++ map new_means (news_at i q) in
+        let mid_owners = owners ++ owners_at q in
+        as_lists i (x ∷ xs) q rules owners (rules_after (i + 1) xs mid mid_rules) (rules_after i (x ∷ xs) q rules) (mid_owners ++ items_owners (i + 1) xs mid) (owners ++ items_owners i (x ∷ xs) q)
+        (rules_both rules (news_at i q) (items_news (i + 1) xs mid)) (append_assoc owners (owners_at q) (items_owners (i + 1) xs mid))
+        (next_entered i x q rules owners even xs (rules_after (i + 1) xs mid mid_rules) (mid_owners ++ items_owners (i + 1) xs mid) (are_entered (i + 1) xs mid mid_rules mid_owners (even_mid i x q rules owners even)))
 
   -- ---- what has begun at each item
 
   abbrev pub items_of : ℕ → List Value → Plot → List Item
   items_of i [] p = []
   items_of i (x ∷ xs) p =
-      let q = entered (i + 1) xs p in
-      record { item = length q.net.values; given = all_given lib (bases_at q) inner ss; dones = dones_at (length q.net.values) bl.statements } ∷ items_of (i + 1) xs p
+      record { item = length p.net.values; given = all_given lib (bases_at p) inner ss; dones = dones_at (length p.net.values) bl.statements } ∷ items_of (i + 1) xs (one_entered i x p)
 
   abbrev pub items_leaves : ℕ → ℕ → ℕ → List Value → Plot → ℕ
   items_leaves v n i [] p = 0
-  items_leaves v n i (x ∷ xs) p = hits v n (length (entered (i + 1) xs p).net.steps) ss + items_leaves v n (i + 1) xs p
+  items_leaves v n i (x ∷ xs) p = hits v n (length p.net.steps) ss + items_leaves v n (i + 1) xs (one_entered i x p)
 
   abbrev pub items_work : List Value → Work
   items_work [] = no_work
@@ -250,22 +254,27 @@ module _ (lib : Library) (layout : Layout) (number : ℕ) (bl : BodyLayout) (flo
         → Begins depth (each ss outside k item i xs (items_of i xs q)) (items_work xs) (λ v n. items_leaves v n i xs q)
     each_begins i [] q h depth = record { grown = no_item depth ss outside k item i; weighs = λ weight is_weight. refl; leaves_are = λ v n. refl; spends = λ task. refl }
     each_begins i (x ∷ xs) q h depth =
-        let m = entered (i + 1) xs q in
-        let body = body_begins i x m h.0 depth in
-        let rest = each_begins (i + 1) xs q h.1 depth in
+        let m = one_entered i x q in
+        let body = body_begins i x q h.0 depth in
+        let rest = each_begins (i + 1) xs m h.1 depth in
         record {
           grown =
-              item_next depth ss outside k item i (length m.net.values) x xs (all_given lib (bases_at m) inner ss) (dones_at (length m.net.values) bl.statements) (items_of (i + 1) xs q) (ap joined h.0.cell)
+              item_next depth ss outside k item i (length q.net.values) x xs (all_given lib (bases_at q) inner ss) (dones_at (length q.net.values) bl.statements) (items_of (i + 1) xs m) (ap joined h.0.cell)
               body.grown rest.grown;
           weighs = λ weight is_weight.
               both_weigh weight is_weight (work_of lib site rows (rules_of b) (state_of b owners) body.grown) (work_of lib site rows (rules_of b) (state_of b owners) rest.grown) (items_work xs)
               (work_even lib site rows (rules_of b) (state_of b owners) body.grown)
               (body.weighs weight is_weight) (rest.weighs weight is_weight);
-          leaves_are = λ v n. both_sums _ _ (hits v n (length m.net.steps) ss) (items_leaves v n (i + 1) xs q) (body.leaves_are v n) (rest.leaves_are v n);
+          leaves_are = λ v n. both_sums _ _ (hits v n (length q.net.steps) ss) (items_leaves v n (i + 1) xs m) (body.leaves_are v n) (rest.leaves_are v n);
           spends = λ task. both_sums _ _ 0 0 (body.spends task) (rest.spends task);
         }
 
     -- ---- what holds of the steps
+
+    steps_long : (i : ℕ) (x : Value) (q : Plot) → length (one_entered i x q).net.steps ≡ length q.net.steps + length (news_at i q)
+    steps_long i x q =
+        ap (λ (v : Sown). length v.steps) (statements_added lib (length q.instances) (bases_at q) (place_at i) bl.flow flow.body layout.bodies p 0 (with_cells q.net bl.cells))
+        ∙ length-append q.net.steps (map new_wants (news_at i q)) ∙ ap (λ (m : ℕ). length q.net.steps + m) (length-map (news_at i q) new_wants)
 
     module _ (there : slice_get layout.bodies number ≡ Some bl) (of_flow : slice_get lib.flows bl.flow ≡ Some flow) (at_path : body_at flow.body bl.path ≡ ss) where
       abbrev AllHere : ℕ → List New → Type 0
@@ -285,23 +294,21 @@ module _ (lib : Library) (layout : Layout) (number : ℕ) (bl : BodyLayout) (flo
           (omega (arith, long, deep))
           (λ j y e. ap (λ (xs : List Statement). slice_get xs (0 + j)) at_path ∙ ap (slice_get ss) (omega arith) ∙ e, λ j y e. ap (slice_get bl.statements) (omega arith) ∙ e) (omega arith, omega arith)
 
-      pub items_stand : (i : ℕ) (xs : List Value) (q : Plot) → AllItems b owners is i xs q → ((j : ℕ) (ys : List Value) → length (entered j ys q).net.steps ≡ length q.net.steps + length (items_news j ys q))
-          → AllHere (length q.net.steps) (items_news i xs q)
-      items_stand i [] q h long = tt
-      items_stand i (x ∷ xs) q h long =
-          stand_both lib layout is b owners (length q.net.steps) (length (entered (i + 1) xs q).net.steps) (items_news (i + 1) xs q) (news_at i (entered (i + 1) xs q)) (long (i + 1) xs)
-          (items_stand (i + 1) xs q h.1 long) (stands_at i x (entered (i + 1) xs q) h.0)
+      pub items_stand : (i : ℕ) (xs : List Value) (q : Plot) → AllItems b owners is i xs q → AllHere (length q.net.steps) (items_news i xs q)
+      items_stand i [] q h = tt
+      items_stand i (x ∷ xs) q h =
+          let m = one_entered i x q in
+          stand_both lib layout is b owners (length q.net.steps) (length m.net.steps) (news_at i q) (items_news (i + 1) xs m) (steps_long i x q) (stands_at i x q h.0) (items_stand (i + 1) xs m h.1)
 
     -- the leaves of all, as those of the steps
     news_long : (i : ℕ) (q : Plot) → length (news_at i q) ≡ length ss
     news_long i q = news_length lib (length q.instances) (bases_at q) (place_at i) bl.flow flow.body layout.bodies p 0
 
-    pub leaves_sum : (v n i : ℕ) (xs : List Value) (q : Plot) → ((j : ℕ) (ys : List Value) → length (entered j ys q).net.steps ≡ length q.net.steps + length (items_news j ys q))
-        → items_leaves v n i xs q ≡ hits v n (length q.net.steps) (items_news i xs q)
-    leaves_sum v n i [] q long = refl
-    leaves_sum v n i (x ∷ xs) q long =
-        let m = entered (i + 1) xs q in
-        let rest = leaves_sum v n (i + 1) xs q long in
-        let own = hits_length v n (length m.net.steps) ss (news_at i m) (sym (news_long i m)) in
-        let both = hits_both v n (length q.net.steps) (length m.net.steps) (items_news (i + 1) xs q) (news_at i m) (long (i + 1) xs) in
+    pub leaves_sum : (v n i : ℕ) (xs : List Value) (q : Plot) → items_leaves v n i xs q ≡ hits v n (length q.net.steps) (items_news i xs q)
+    leaves_sum v n i [] q = refl
+    leaves_sum v n i (x ∷ xs) q =
+        let m = one_entered i x q in
+        let rest = leaves_sum v n (i + 1) xs m in
+        let own = hits_length v n (length q.net.steps) ss (news_at i q) (sym (news_long i q)) in
+        let both = hits_both v n (length q.net.steps) (length m.net.steps) (news_at i q) (items_news (i + 1) xs m) (steps_long i x q) in
         omega (arith, rest, own, both)

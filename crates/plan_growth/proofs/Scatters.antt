@@ -150,12 +150,8 @@ module _ (lib : Library) (layout : Layout) (site : List ℕ) (rows : List Row) (
   abbrev news_in : List New
   news_in = items_news lib layout l.inner lay.inner flow x.body outer path place x.number x.item a 0 xs start
 
-  long : (j : ℕ) (ys : List Value) → length (entered lib layout l.inner lay.inner flow x.body outer path place x.number x.item a j ys start).net.steps
-      ≡ length start.net.steps + length (items_news lib layout l.inner lay.inner flow x.body outer path place x.number x.item a j ys start)
-  long j ys =
-      let e = are_entered lib layout l.inner lay.inner flow x.body outer path place x.number x.item a deep inner_laid lay.body.runs.cells j ys start rules owners_out even_start in
-      let news = items_news lib layout l.inner lay.inner flow x.body outer path place x.number x.item a j ys start in
-      ap length e.steps ∙ length-append start.net.steps (map new_wants news) ∙ ap (λ (m : ℕ). length start.net.steps + m) (length-map news new_wants)
+  long : length items_net.net.steps ≡ length start.net.steps + length news_in
+  long = ap length entry.steps ∙ length-append start.net.steps (map new_wants news_in) ∙ ap (λ (m : ℕ). length start.net.steps + m) (length-map news_in new_wants)
 
   -- ---- the joints
 
@@ -313,19 +309,19 @@ module _ (lib : Library) (layout : Layout) (site : List ℕ) (rows : List Row) (
   names_gathered =
       subst (λ (ss : List Slot). AllGathered lib site rows (rules_of b) (state_of b owners_now) all_of n.keys ss) (sym (slots_run outer (length a.path) a.next_name (base + a.next_name) n.keys refl))
       (gathered_all lib site rows (rules_of b) (state_of b owners_now) all_of firsts 1 (base + a.next_name) n.keys
-      (items_named lib layout l.inner lay.inner flow x.body outer path place x.number x.item a start deep site rows (rules_of b) (state_of b owners_now) keys_differ 0 xs) gathered_at)
+      (items_named lib layout l.inner lay.inner flow x.body outer path place x.number x.item a deep site rows (rules_of b) (state_of b owners_now) keys_differ 0 xs start) gathered_at)
 
   pub calls_ending : AllEnding lib site rows (rules_of b) (state_of b owners_now) all_of n.calls (given_by outer a n).calls
   calls_ending =
       subst (λ (ms : List Mark). AllEnding lib site rows (rules_of b) (state_of b owners_now) all_of n.calls ms) (sym (marks_run outer (length a.path) a.next_call (base + a.next_call) n.calls refl))
       (ending_all lib site rows (rules_of b) (state_of b owners_now) all_of firsts lay.inner.first_call (base + a.next_call) n.calls
-      (items_called lib layout l.inner lay.inner flow x.body outer path place x.number x.item a start deep site rows (rules_of b) (state_of b owners_now) calls_differ lay.inner.first_call lay.body.runs.first_call 0 xs)
+      (items_called lib layout l.inner lay.inner flow x.body outer path place x.number x.item a deep site rows (rules_of b) (state_of b owners_now) calls_differ lay.inner.first_call lay.body.runs.first_call 0 xs start)
       ending_at)
 
   pub all_ended : Ending lib site rows (rules_of b) (state_of b owners_now) (net.all_dones lib site rows (rules_of b) (state_of b owners_now) all_of) (base + l.done)
   all_ended =
       subst (λ (cs : List ℕ). Ending lib site rows (rules_of b) (state_of b owners_now) cs (base + l.done))
-      (sym (dones_same lib layout l.inner lay.inner flow x.body outer path place x.number x.item a start site rows (rules_of b) (state_of b owners_now) 0 xs)) (
+      (sym (dones_same lib layout l.inner lay.inner flow x.body outer path place x.number x.item a site rows (rules_of b) (state_of b owners_now) 0 xs start)) (
         done_step,
         inl
             (joint_waits lib site rows b owners_now done_step (ends (entering.all_dones lay.inner.statements firsts) (base + l.done)) (entering.all_dones lay.inner.statements firsts) (base + l.done)
@@ -348,17 +344,17 @@ module _ (lib : Library) (layout : Layout) (site : List ℕ) (rows : List Row) (
 
   names_inside : (j : ℕ) → j < length n.keys → Inside (beyond_each firsts (1 + j))
   names_inside j lt =
-      beyond_within lib layout l.inner lay.inner flow x.body outer path place x.number x.item a start b owners_now items_net.instances 0 xs all_items (1 + j) (omega arith) (λ u. let m = many u in omega (arith, m, lt))
+      beyond_within lib layout l.inner lay.inner flow x.body outer path place x.number x.item a b owners_now items_net.instances 0 xs start all_items (1 + j) (omega arith) (λ u. let m = many u in omega (arith, m, lt))
 
   calls_inside : (j : ℕ) → j < length n.calls → Inside (beyond_each firsts (lay.inner.first_call + j))
   calls_inside j lt =
       let e = lay.body.runs.first_call in
-      beyond_within lib layout l.inner lay.inner flow x.body outer path place x.number x.item a start b owners_now items_net.instances 0 xs all_items (lay.inner.first_call + j) (omega (arith, e))
+      beyond_within lib layout l.inner lay.inner flow x.body outer path place x.number x.item a b owners_now items_net.instances 0 xs start all_items (lay.inner.first_call + j) (omega (arith, e))
       (λ u. let m = many u in omega (arith, m, lt, e))
 
   dones_inside : Inside (entering.all_dones lay.inner.statements firsts)
   dones_inside =
-      all_within lib layout l.inner lay.inner flow x.body outer path place x.number x.item a start deep inner_laid site rows b owners_now items_net.instances (length v.values) longer names_there calls_there 0 xs all_items
+      all_within lib layout l.inner lay.inner flow x.body outer path place x.number x.item a deep inner_laid site rows b owners_now items_net.instances (length v.values) longer names_there calls_there 0 xs start all_items
 
   joints_stand : Here name_step joints
   joints_stand =
@@ -382,9 +378,9 @@ module _ (lib : Library) (layout : Layout) (site : List ℕ) (rows : List Row) (
   pub news_stand : Here (length v.steps) news
   news_stand =
       subst (λ (u : ℕ). Here u news) starts
-      (stand_both lib layout items_net.instances b owners_now (length start.net.steps) name_step news_in joints (long 0 xs)
+      (stand_both lib layout items_net.instances b owners_now (length start.net.steps) name_step news_in joints long
       (items_stand lib layout l.inner lay.inner flow x.body outer path place x.number x.item a deep inner_laid site rows b owners_now items_net.instances (length v.values) longer names_there calls_there lay.there
-      (ap (slice_get lib.flows) lay.body.runs.flow_is ∙ flow_there) (ap (body_at flow.body) lay.body.runs.path_is ∙ lay.body.runs.there) 0 xs start all_items long) joints_stand)
+      (ap (slice_get lib.flows) lay.body.runs.flow_is ∙ flow_there) (ap (body_at flow.body) lay.body.runs.path_is ∙ lay.body.runs.there) 0 xs start all_items) joints_stand)
 
   -- ---- what the step did
 
@@ -419,7 +415,7 @@ module _ (lib : Library) (layout : Layout) (site : List ℕ) (rows : List Row) (
 
   leaves_are : (u k : ℕ) → new_leaves u k ≡ hits u k (length v.steps) news_in
   leaves_are u k =
-      leaves_sum lib layout l.inner lay.inner flow x.body outer path place x.number x.item a deep inner_laid site rows b owners_now items_net.instances (length v.values) longer names_there calls_there u k 0 xs start long
+      leaves_sum lib layout l.inner lay.inner flow x.body outer path place x.number x.item a deep inner_laid site rows b owners_now items_net.instances (length v.values) longer names_there calls_there u k 0 xs start
       ∙ ap (λ (m : ℕ). hits u k m news_in) starts
 
   pub leaves_before : (u k : ℕ) → u < length v.steps → new_leaves u k ≡ 0
@@ -429,7 +425,7 @@ module _ (lib : Library) (layout : Layout) (site : List ℕ) (rows : List Row) (
   leaves_past u k le =
       let all = ap length steps_are in
       let both = length-append items_net.net.steps (map new_wants joints) in
-      let some = long 0 xs in
+      let some = long in
       let first = starts in
       leaves_are u k ∙ hits_behind u k (length v.steps) news_in (omega (arith, all, both, some, first, le))
 

@@ -61,17 +61,17 @@ abbrev pub with_item : ℕ → List ℕ → List Segment → BodyLayout → Valu
 with_item body outer place layout item p =
     with_net (with_instance body outer place layout p) (with_value (with_instance body outer place layout p).net (length p.net.values) item)
 
--- an instance for each item, from this index on; the last one is entered first
+-- an instance for each item, from this index on, in their order
 abbrev pub with_items : ℕ → List ℕ → List Segment → BodyLayout → ℕ → List Value → Plot → Plot
 with_items body outer place layout i [] p = p
 with_items body outer place layout i (x ∷ xs) p =
-    with_item body outer (place ++ segment.Index i ∷ []) layout x (with_items body outer place layout (i + 1) xs p)
+    with_items body outer place layout (i + 1) xs (with_item body outer (place ++ segment.Index i ∷ []) layout x p)
 
 -- the first cell of each
 abbrev pub firsts_of : ℕ → List ℕ → List Segment → BodyLayout → ℕ → List Value → Plot → List ℕ
 firsts_of body outer place layout i [] p = []
 firsts_of body outer place layout i (x ∷ xs) p =
-    length (with_items body outer place layout (i + 1) xs p).net.values ∷ firsts_of body outer place layout (i + 1) xs p
+    length p.net.values ∷ firsts_of body outer place layout (i + 1) xs (with_item body outer (place ++ segment.Index i ∷ []) layout x p)
 
 -- the cells that say that their statements are done, in the order of the items
 abbrev pub all_dones : List StatementLayout → List ℕ → List ℕ

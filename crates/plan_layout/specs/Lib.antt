@@ -4,6 +4,5 @@ pub mod Laws
 pub mod Paths
 pub mod Referring
 pub mod Sees
-pub mod SpotMarks
 pub mod Spots
 pub mod Steps

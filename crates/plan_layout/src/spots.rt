@@ -1,48 +1,40 @@
 //! Names with the places of their cells, in an index.
 
-ghost use Rattle.std.specs.Prelude.{◌≡◌, ◌++◌, ◌∷◌, [], length, take, OnOk, OnErr, IfOk, MatchOption};
+ghost use Rattle.std.specs.Prelude.{◌≡◌, ◌++◌, ◌∷◌, [], length, take, OnOk, MatchOption};
 ghost use Rattle.std.specs.Option.{option_copied};
-ghost use Rattle.wdl_typed.specs.Scope as scope;
 ghost use Rattle.plan_layout.specs.Spots as spec;
 
 use crate::layout::Need;
 use std::alloc::Global;
 use std::marker::Model;
-use wdl_names::{Places, key_mark, same_key};
+use wdl_names::{Index, Keyed};
 use wdl_value::{Items, Key, NoMemory};
+
+impl Keyed for Need {
+    ghost keyed = { λ n. n.key };
+
+    fn key(&self) -> &Key {
+        &self.key
+    }
+}
 
 /// Names with the places of their cells, found by a look-up in logarithmic time. Of two with one key the first counts.
 #[derive(Drop)]
 pub struct Spots {
-    spots: Items<Need>,
-    places: Places,
+    spots: Index<Need>,
 }
 
 impl Model for Spots {
-    ghost use Rattle.std.specs.Prelude.{◌≡◌, List};
+    ghost use Rattle.std.specs.Prelude.{List};
     ghost use Rattle.std.specs.Coded.{coded_list};
     ghost use Rattle.plan_layout.specs.declared.layout.Need.{Need};
     ghost use Rattle.plan_layout.specs.contracts.layout.Need as need;
-    ghost use Rattle.plan_layout.specs.SpotMarks.{spot_marks};
 
     ghost Value = { List Need };
 
     ghost coded = { coded_list need.the_row.coded };
 
     ghost view = { λ s. s.spots };
-
-    ghost invariant = { λ s. s.places ≡ spot_marks s.spots };
-}
-
-fn spot_among<'a>(spots: &'a [Need], key: &Key) -> Option<&'a Need>
-    ensures { option_copied result ≡ spec.find_spot spots.now key.now }
-{
-    for spot in spots {
-        if same_key(&spot.key, key) {
-            return Some(spot);
-        }
-    }
-    None
 }
 
 impl Spots {
@@ -51,8 +43,7 @@ impl Spots {
         ensures { result ≡ [] }
     {
         Spots {
-            spots: Items::new(alloc),
-            places: Places::empty(alloc),
+            spots: Index::empty(alloc),
         }
     }
 
@@ -60,9 +51,8 @@ impl Spots {
     pub fn into_items(self) -> Items<Need>
         ensures { result ≡ self }
     {
-        let Spots { spots, places } = self;
-        drop(places);
-        spots
+        let Spots { spots } = self;
+        spots.into_items()
     }
 
     /// How many names there are.
@@ -76,22 +66,13 @@ impl Spots {
     pub fn enter(&mut self, spot: Need) -> Result<(), NoMemory>
         ensures { OnOk result (self.new ≡ self.old ++ spot ∷ []) }
     {
-        let mark = key_mark(&spot.key);
-        if self.places.push(mark).is_err() {
-            return Err(NoMemory);
-        }
-        if self.spots.push(spot).is_err() {
-            self.places.pop();
-            return Err(NoMemory);
-        }
-        Ok(())
+        self.spots.push(spot)
     }
 
     /// Takes the last name away.
     fn leave(&mut self) -> Option<Need>
         ensures { MatchOption result ((self.old ≡ []) × (self.new ≡ [])) (λ last. self.old ≡ self.new ++ last ∷ []) }
     {
-        self.places.pop();
         self.spots.pop()
     }
 
@@ -108,7 +89,6 @@ impl Spots {
     pub fn find(&self, key: &Key) -> Option<&Need>
         ensures { option_copied result ≡ spec.find_spot self.now key.now }
     {
-        let from = self.places.place(key_mark(key));
-        spot_among(&self.spots.as_slice()[from..], key)
+        self.spots.find(key)
     }
 }

@@ -20,7 +20,7 @@ use Rattle.wdl_typed.specs.Bodies.{Library}
 use Rattle.wdl_typed.specs.Flow.{args_met, env_of}
 use Rattle.wdl_eval.specs.Ready.{IsReady}
 use Rattle.wdl_task.specs.Readiness.{Kept, are_given}
-use Rattle.wdl_plain.specs.Readiness.{AreArgsReady}
+use Rattle.flow_soundness.specs.Readiness.{AreArgsReady}
 use Rattle.step_net.specs.Views.{Wants}
 use Rattle.value_net.specs.Nets.{are_set, value_at}
 use Rattle.net_laws.specs.Cost.{TaskCost}

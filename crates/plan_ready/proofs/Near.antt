@@ -12,7 +12,7 @@ use Rattle.wdl_typed.specs.Journal.{keys_distinct}
 use Rattle.wdl_typed.specs.Requests.{before}
 use Rattle.wdl_typed.specs.Scope.{is_among, lookup, names_of, same_key, type_in}
 use Rattle.wdl_eval.specs.Ready.{IsGiven, IsReady}
-use Rattle.wdl_plain.specs.Readiness.{AreArgsReady}
+use Rattle.flow_soundness.specs.Readiness.{AreArgsReady}
 use Rattle.flow_laws.proofs.Agree.{Agree, value_same}
 use Rattle.flow_laws.proofs.Keys.{key_same}
 use Rattle.net_laws.specs.Net.{Cells, Scope, Slot, known_in, slot_keys}

@@ -24,11 +24,11 @@ use Rattle.wdl_typed.specs.Journal.{keys_distinct}
 use Rattle.wdl_typed.specs.Kept.{flow_typed}
 use Rattle.wdl_typed.specs.Scope.{lookup}
 use Rattle.wdl_task.specs.Readiness.{are_given}
-use Rattle.wdl_plain.specs.Readiness.{AreDeclsReady, AreInputsReady, IsBodyReady, IsDeclReady, IsDefaultReady, IsFlowReady, IsStatementReady}
-use Rattle.wdl_plain.proofs.BlockReady.{if_body_ready, if_cond_ready, scatter_items_ready, scatter_over_ready}
-use Rattle.wdl_plain.proofs.FlowReady.{flow_body_ready, flow_inputs_ready, flow_outputs_ready}
-use Rattle.wdl_plain.proofs.GivenKeys.{some_inside}
-use Rattle.wdl_plain.proofs.Ready.{call_args_ready, callee_is_ready, decl_is_ready, first_ready, rest_ready, statement_typed}
+use Rattle.flow_soundness.specs.Readiness.{AreDeclsReady, AreInputsReady, IsBodyReady, IsDeclReady, IsDefaultReady, IsFlowReady, IsStatementReady}
+use Rattle.flow_soundness.proofs.BlockReady.{if_body_ready, if_cond_ready, scatter_items_ready, scatter_over_ready}
+use Rattle.flow_soundness.proofs.FlowReady.{flow_body_ready, flow_inputs_ready, flow_outputs_ready}
+use Rattle.flow_soundness.proofs.GivenKeys.{some_inside}
+use Rattle.flow_soundness.proofs.Ready.{call_args_ready, callee_is_ready, decl_is_ready, first_ready, rest_ready, statement_typed}
 use Rattle.flow_laws.specs.Laws.{run_with}
 use Rattle.flow_laws.proofs.Agree.{Agree}
 use Rattle.flow_laws.proofs.Checked.{each_passes, kept}

@@ -19,7 +19,7 @@ use Rattle.wdl_typed.specs.KnownTypes.{is_some}
 use Rattle.wdl_typed.specs.Scope.{names_of}
 use Rattle.wdl_eval.specs.Ready.{IsReady}
 use Rattle.wdl_task.specs.Readiness.{are_given}
-use Rattle.wdl_plain.specs.Readiness.{AreArgsReady}
+use Rattle.flow_soundness.specs.Readiness.{AreArgsReady}
 use Rattle.net_laws.specs.Growing.{Growing, Rule, State, copies, declares, does, ends, gathers, whole}
 use Rattle.net_laws.specs.Laws.{ruled}
 use Rattle.net_laws.specs.Moving.{at_step}

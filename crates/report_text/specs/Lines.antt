@@ -34,7 +34,7 @@ name_text (Some name) = codes " " ++ name
 abbrev pub line_of : Status → List (List ℕ) → List ℕ
 line_of status.Ok paths = []
 line_of (status.Failed fault) paths = codes "failed " ++ place_text fault.place ++ why_text fault.name fault.why ++ codes "\n"
-line_of status.Usage paths = codes "usage: wdl run [--inputs FILE] [--workers N] [--root DIR] [--journal FILE] FILE | check FILE | inputs FILE | cwl [--inputs FILE] FILE | load N\n"
+line_of status.Usage paths = codes "usage: wdl run [--inputs FILE] [--workers N] [--root DIR] [--journal FILE] FILE | check FILE | inputs FILE | cwl [--inputs FILE] FILE | load N | bundle FILE\n"
 line_of (status.Document code span) paths = span_text paths span ++ codes ": " ++ code_text code ++ codes "\n"
 line_of (status.Inputs code name) paths = codes "inputs: " ++ code_text code ++ name_text name ++ codes "\n"
 line_of (status.Read path) paths = codes "cannot read " ++ path ++ codes "\n"
@@ -44,7 +44,6 @@ line_of (status.NotInSubset rule span) paths = codes "not in the subset: " ++ de
 line_of (status.Launch place) paths = codes "cannot launch " ++ place_text place ++ codes "\n"
 line_of status.Keep paths = codes "journal fault\n"
 line_of status.TooMany paths = codes "too many jobs\n"
-line_of status.NotBuilt paths = codes "not built yet\n"
 
 -- each span's document has a path
 abbrev pub HasPath : Status → List (List ℕ) → Type 0

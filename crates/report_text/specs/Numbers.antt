@@ -16,4 +16,3 @@ number_of (status.NotInSubset rule span) = 8
 number_of (status.Launch place) = 9
 number_of status.Keep = 10
 number_of status.TooMany = 11
-number_of status.NotBuilt = 12

@@ -159,7 +159,7 @@ pub fn line_of(alloc: Global, status: &Status, paths: &Items<Text>) -> Result<Te
         Status::Usage => Text::from_plain(
             alloc,
             "usage: wdl run [--inputs FILE] [--workers N] [--root DIR] [--journal FILE] FILE \
-             | check FILE | inputs FILE | cwl [--inputs FILE] FILE | load N\n",
+             | check FILE | inputs FILE | cwl [--inputs FILE] FILE | load N | bundle FILE\n",
         ),
         Status::Document(code, span) => document_line(alloc, *code, *span, paths),
         Status::Inputs(code, name) => inputs_line(alloc, *code, name),
@@ -170,6 +170,5 @@ pub fn line_of(alloc: Global, status: &Status, paths: &Items<Text>) -> Result<Te
         Status::Launch(place) => launch_line(alloc, place),
         Status::Keep => Text::from_plain(alloc, "journal fault\n"),
         Status::TooMany => Text::from_plain(alloc, "too many jobs\n"),
-        Status::NotBuilt => Text::from_plain(alloc, "not built yet\n"),
     }
 }

@@ -23,8 +23,8 @@ pub enum Status {
     Write,
     /// An allocation failed.
     NoMemory,
-    /// The workflow is not in the subset that has a CWL document: the number of
-    /// the rule that is broken, and where.
+    /// The workflow has no CWL document, or no bundle: the number of the rule that
+    /// is broken, and where.
     NotInSubset(u16, Span),
     /// The command of the call at that place could not be started.
     Launch(Place),
@@ -32,8 +32,6 @@ pub enum Status {
     Keep,
     /// The run has more jobs or statement instances than are allowed.
     TooMany,
-    /// The document or the words use a form that is not built yet.
-    NotBuilt,
 }
 
 /// The number that the program ends with. It takes no memory.
@@ -53,6 +51,5 @@ pub fn number_of(status: &Status) -> u8
         Status::Launch(_) => 9,
         Status::Keep => 10,
         Status::TooMany => 11,
-        Status::NotBuilt => 12,
     }
 }

@@ -188,7 +188,7 @@ fn each_code_has_its_word(rt: HostRuntime) -> Result<(), Fail> {
 const STATUS_LINES: &str = "\
 1 failed scatter-0/2/if-1/say: status 255\n\
 2 usage: wdl run [--inputs FILE] [--workers N] [--root DIR] [--journal FILE] FILE \
-| check FILE | inputs FILE | cwl [--inputs FILE] FILE | load N\n\
+| check FILE | inputs FILE | cwl [--inputs FILE] FILE | load N | bundle FILE\n\
 4 inputs: 401 NotJson\n\
 5 cannot read b.wdl\n\
 6 cannot write\n\
@@ -196,7 +196,6 @@ const STATUS_LINES: &str = "\
 9 cannot launch .\n\
 10 journal fault\n\
 11 too many jobs\n\
-12 not built yet\n\
 0 ";
 
 fn tell(alloc: Global, lines: &mut String, status: Status) -> Result<(), Fail>
@@ -226,7 +225,6 @@ fn each_status_has_its_number_and_line(rt: HostRuntime) -> Result<(), Fail> {
     tell(alloc, &mut lines, Status::Launch(Items::new(alloc)))?;
     tell(alloc, &mut lines, Status::Keep)?;
     tell(alloc, &mut lines, Status::TooMany)?;
-    tell(alloc, &mut lines, Status::NotBuilt)?;
     tell(alloc, &mut lines, Status::Ok)?;
     assert_eq!(rt; lines.as_str(), STATUS_LINES);
     assert_eq!(rt; number_of(&Status::Document(106, SPAN)), 3);

@@ -3,21 +3,26 @@ ghost use Rattle.run_keeper.specs.declared.error.RowFault.TheVariants.{NotARow a
 ghost use Rattle.run_keeper.specs.declared.error.MigrateFault.TheVariants.{NoMemory as NoRoom};
 
 use std::alloc::AllocError;
+use thiserror::Error;
 use wdl_value::NoMemory;
 
 /// Why a string gives no entry.
-#[derive(Clone, Copy, Debug, PartialEq, Eq)]
+#[derive(Clone, Copy, Debug, PartialEq, Eq, Error)]
 pub enum RowFault {
     /// It is no row's text.
+    #[error("the text is no row of a journal")]
     NotARow,
+    #[error("out of memory")]
     NoMemory,
 }
 
 /// Why a list of strings is not brought to the last version.
-#[derive(Clone, Copy, Debug, PartialEq, Eq)]
+#[derive(Clone, Copy, Debug, PartialEq, Eq, Error)]
 pub enum MigrateFault {
     /// The string of that number, counted from 0, is the first that is no row's text.
+    #[error("row {index} is no row of a journal")]
     NotARow { index: u32 },
+    #[error("out of memory")]
     NoMemory,
 }
 

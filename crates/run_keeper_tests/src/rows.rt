@@ -8,34 +8,56 @@ use std::alloc::Global;
 use std::test::Fail;
 use wdl_value::{Answer, Body, Entry, Name, NoMemory, Place, Request, Segment, Source, Text};
 
-const ROW: &str =
-    "{\"attempt\":0,\"command\":\"echo hi\",\"dir\":\"/tmp/wdl-run/say\",\"err\":\"\",\"files\":[],\"laid\":[],\"out\":\"68690a\",\"place\":\"say\",\"status\":0,\"v\":2}";
+const ROW: &str = "\
+    {\"attempt\":0,\"command\":\"echo hi\",\"dir\":\"/tmp/wdl-run/say\",\
+        \"err\":\"\",\"files\":[],\"laid\":[],\
+        \"out\":\"68690a\",\"place\":\"say\",\"status\":0,\"v\":2}";
 
-const OLD: &str =
-    "{\"command\":\"echo hi\",\"dir\":\"/tmp/wdl-run/say\",\"err\":\"\",\"files\":[],\"out\":\"68690a\",\"place\":\"say\",\"status\":0,\"v\":1}";
+const OLD: &str = "\
+    {\"command\":\"echo hi\",\"dir\":\"/tmp/wdl-run/say\",\
+        \"err\":\"\",\"files\":[],\"out\":\"68690a\",\"place\":\"say\",\"status\":0,\"v\":1}";
 
 /// A row with two files, two laid files, a long body, an attempt, and a text with escapes.
-const FULL: &str =
-    "{\"attempt\":2,\"command\":\"a\\\"\\\\\\n\\u0001é\",\"dir\":\"/d\",\"err\":null,\"files\":[[\"a\",null],[\"b/c\",\"00ff\"]],\"laid\":[[\".written-0\",\"610a\"],[\".written-1\",\"\"]],\"out\":\"\",\"place\":\"scatter-0/12/say\",\"status\":255,\"v\":2}";
+const FULL: &str = "\
+    {\"attempt\":2,\"command\":\"a\\\"\\\\\\n\\u0001é\",\"dir\":\"/d\",\
+        \"err\":null,\"files\":[[\"a\",null],[\"b/c\",\"00ff\"]],\
+        \"laid\":[[\".written-0\",\"610a\"],[\".written-1\",\"\"]],\
+        \"out\":\"\",\"place\":\"scatter-0/12/say\",\"status\":255,\"v\":2}";
 
 /// Texts that are no rows, one a line.
 const BAD: &str = "\
-{}\n\
-\n\
-[]\n\
-{\"command\":\"echo hi\",\"dir\":\"/tmp/wdl-run/say\",\"err\":\"\",\"files\":[],\"out\":\"68690a\",\"place\":\"say\",\"status\":0,\"v\":1} \n\
-{\"command\":\"echo hi\", \"dir\":\"/tmp/wdl-run/say\",\"err\":\"\",\"files\":[],\"out\":\"68690a\",\"place\":\"say\",\"status\":0,\"v\":1}\n\
-{\"dir\":\"/tmp/wdl-run/say\",\"command\":\"echo hi\",\"err\":\"\",\"files\":[],\"out\":\"68690a\",\"place\":\"say\",\"status\":0,\"v\":1}\n\
-{\"command\":\"echo hi\",\"dir\":\"/tmp/wdl-run/say\",\"err\":\"\",\"files\":[],\"out\":\"68690A\",\"place\":\"say\",\"status\":0,\"v\":1}\n\
-{\"command\":\"echo hi\",\"dir\":\"/tmp/wdl-run/say\",\"err\":\"\",\"files\":[],\"out\":\"68690\",\"place\":\"say\",\"status\":0,\"v\":1}\n\
-{\"command\":\"echo hi\",\"dir\":\"/tmp/wdl-run/say\",\"err\":\"\",\"files\":[],\"out\":\"68690a\",\"place\":\"say\",\"status\":256,\"v\":1}\n\
-{\"command\":\"echo hi\",\"dir\":\"/tmp/wdl-run/say\",\"err\":\"\",\"files\":[],\"out\":\"68690a\",\"place\":\"say/\",\"status\":0,\"v\":1}\n\
-{\"command\":\"echo hi\",\"dir\":\"/tmp/wdl-run/say\",\"err\":\"\",\"files\":[],\"out\":\"68690a\",\"place\":\"say\",\"status\":0,\"v\":3}\n\
-{\"command\":\"echo hi\",\"dir\":\"/tmp/wdl-run/say\",\"err\":\"\",\"files\":[],\"more\":0,\"out\":\"68690a\",\"place\":\"say\",\"status\":0,\"v\":1}\n\
-{\"command\":\"echo hi\",\"dir\":\"/tmp/wdl-run/say\",\"err\":\"\",\"files\":[[\"b\",\"\"],[\"a\",\"\"]],\"out\":\"68690a\",\"place\":\"say\",\"status\":0,\"v\":1}\n\
-{\"command\":\"echo\\u0020hi\",\"dir\":\"/tmp/wdl-run/say\",\"err\":\"\",\"files\":[],\"out\":\"68690a\",\"place\":\"say\",\"status\":0,\"v\":1}\n\
-{\"attempt\":0,\"command\":\"echo hi\",\"dir\":\"/tmp/wdl-run/say\",\"err\":\"\",\"files\":[],\"laid\":[],\"out\":\"68690a\",\"place\":\"say\",\"status\":0,\"v\":1}\n\
-{\"command\":\"echo hi\",\"dir\":\"/tmp/wdl-run/say\",\"err\":\"\",\"files\":[],\"out\":\"68690a\",\"place\":\"say\",\"status\":0,\"v\":2}";
+    {}\n\
+    \n\
+    []\n\
+    {\"command\":\"echo hi\",\"dir\":\"/tmp/wdl-run/say\",\
+        \"err\":\"\",\"files\":[],\"out\":\"68690a\",\"place\":\"say\",\"status\":0,\"v\":1} \n\
+    {\"command\":\"echo hi\", \"dir\":\"/tmp/wdl-run/say\",\
+        \"err\":\"\",\"files\":[],\"out\":\"68690a\",\"place\":\"say\",\"status\":0,\"v\":1}\n\
+    {\"dir\":\"/tmp/wdl-run/say\",\"command\":\"echo hi\",\
+        \"err\":\"\",\"files\":[],\"out\":\"68690a\",\"place\":\"say\",\"status\":0,\"v\":1}\n\
+    {\"command\":\"echo hi\",\"dir\":\"/tmp/wdl-run/say\",\
+        \"err\":\"\",\"files\":[],\"out\":\"68690A\",\"place\":\"say\",\"status\":0,\"v\":1}\n\
+    {\"command\":\"echo hi\",\"dir\":\"/tmp/wdl-run/say\",\
+        \"err\":\"\",\"files\":[],\"out\":\"68690\",\"place\":\"say\",\"status\":0,\"v\":1}\n\
+    {\"command\":\"echo hi\",\"dir\":\"/tmp/wdl-run/say\",\
+        \"err\":\"\",\"files\":[],\"out\":\"68690a\",\"place\":\"say\",\"status\":256,\"v\":1}\n\
+    {\"command\":\"echo hi\",\"dir\":\"/tmp/wdl-run/say\",\
+        \"err\":\"\",\"files\":[],\"out\":\"68690a\",\"place\":\"say/\",\"status\":0,\"v\":1}\n\
+    {\"command\":\"echo hi\",\"dir\":\"/tmp/wdl-run/say\",\
+        \"err\":\"\",\"files\":[],\"out\":\"68690a\",\"place\":\"say\",\"status\":0,\"v\":3}\n\
+    {\"command\":\"echo hi\",\"dir\":\"/tmp/wdl-run/say\",\
+        \"err\":\"\",\"files\":[],\"more\":0,\
+        \"out\":\"68690a\",\"place\":\"say\",\"status\":0,\"v\":1}\n\
+    {\"command\":\"echo hi\",\"dir\":\"/tmp/wdl-run/say\",\
+        \"err\":\"\",\"files\":[[\"b\",\"\"],[\"a\",\"\"]],\
+        \"out\":\"68690a\",\"place\":\"say\",\"status\":0,\"v\":1}\n\
+    {\"command\":\"echo\\u0020hi\",\"dir\":\"/tmp/wdl-run/say\",\
+        \"err\":\"\",\"files\":[],\"out\":\"68690a\",\"place\":\"say\",\"status\":0,\"v\":1}\n\
+    {\"attempt\":0,\"command\":\"echo hi\",\"dir\":\"/tmp/wdl-run/say\",\
+        \"err\":\"\",\"files\":[],\"laid\":[],\
+        \"out\":\"68690a\",\"place\":\"say\",\"status\":0,\"v\":1}\n\
+    {\"command\":\"echo hi\",\"dir\":\"/tmp/wdl-run/say\",\
+        \"err\":\"\",\"files\":[],\"out\":\"68690a\",\"place\":\"say\",\"status\":0,\"v\":2}";
 
 fn place(alloc: Global) -> Result<Place, NoMemory> {
     let Ok(name) = Name::new(alloc, "say") else {

@@ -17,7 +17,7 @@ use Rattle.wdl_typed.specs.Kept.{count, flow_typed, is_checked, main_is_there}
 use Rattle.wdl_typed.specs.Journal.{keys_distinct}
 use Rattle.wdl_typed.specs.KnownTypes.{are_structs}
 use Rattle.wdl_task.specs.declared.request.Prepared.{Prepared}
-use Rattle.wdl_plain.proofs.FlowReady.{fit_are_given}
+use Rattle.flow_soundness.proofs.FlowReady.{fit_are_given}
 use Rattle.flow_laws.proofs.Elements.{none_within}
 use Rattle.value_net.specs.Nets.{IsSound, empty, value_at, view}
 use Rattle.net_laws.specs.Growing.{whole}

@@ -84,9 +84,9 @@ item_count body outer place layout item p =
 pub items_more : (body : ℕ) (outer : List ℕ) (place : List Segment) (layout : BodyLayout) (i : ℕ) (xs : List Value) (p : Plot) → length p.net.values ≤ length (with_items body outer place layout i xs p).net.values
 items_more body outer place layout i [] p = omega arith
 items_more body outer place layout i (x ∷ xs) p =
-    let rest : length p.net.values ≤ length (with_items body outer place layout (i + 1) xs p).net.values = items_more body outer place layout (i + 1) xs p in
-    let own : length (with_items body outer place layout i (x ∷ xs) p).net.values ≡ length (with_items body outer place layout (i + 1) xs p).net.values + layout.cells =
-    item_count body outer (place ++ segment.Index i ∷ []) layout x (with_items body outer place layout (i + 1) xs p) in
+    let mid : Plot = with_item body outer (place ++ segment.Index i ∷ []) layout x p in
+    let rest : length mid.net.values ≤ length (with_items body outer place layout (i + 1) xs mid).net.values = items_more body outer place layout (i + 1) xs mid in
+    let own : length mid.net.values ≡ length p.net.values + layout.cells = item_count body outer (place ++ segment.Index i ∷ []) layout x p in
     omega (arith, rest, own)
 
 pub cells_more : (net : Sown) (n : ℕ) → length (with_cells net n).values ≡ length net.values + n
@@ -147,9 +147,8 @@ pub firsts_followed : (body : ℕ) (outer : List ℕ) (place : List Segment) (la
     → AreFollowed (length (with_items body outer place layout i xs p).net.values) (firsts_of body outer place layout i xs p) layout.cells
 firsts_followed body outer place layout i [] p = All-nil (λ (first : ℕ). first + layout.cells < length p.net.values + 1)
 firsts_followed body outer place layout i (x ∷ xs) p =
-    let rest : Plot = with_items body outer place layout (i + 1) xs p in
-    let count : length (with_items body outer place layout i (x ∷ xs) p).net.values ≡ length rest.net.values + layout.cells = item_count body outer (place ++ segment.Index i ∷ []) layout x rest in
-    let later : AreFollowed (length rest.net.values) (firsts_of body outer place layout (i + 1) xs p) layout.cells = firsts_followed body outer place layout (i + 1) xs p in
-    All-cons (λ (first : ℕ). first + layout.cells < length (with_items body outer place layout i (x ∷ xs) p).net.values + 1) (length rest.net.values) (firsts_of body outer place layout (i + 1) xs p)
-    (omega (arith, count))
-    (λ k d inside. let b : get_or (firsts_of body outer place layout (i + 1) xs p) k d + layout.cells < length rest.net.values + 1 = later k d inside in omega (arith, b, count))
+    let mid : Plot = with_item body outer (place ++ segment.Index i ∷ []) layout x p in
+    let more : length mid.net.values ≤ length (with_items body outer place layout (i + 1) xs mid).net.values = items_more body outer place layout (i + 1) xs mid in
+    let own : length mid.net.values ≡ length p.net.values + layout.cells = item_count body outer (place ++ segment.Index i ∷ []) layout x p in
+    All-cons (λ (first : ℕ). first + layout.cells < length (with_items body outer place layout (i + 1) xs mid).net.values + 1) (length p.net.values) (firsts_of body outer place layout (i + 1) xs mid)
+    (omega (arith, more, own)) (firsts_followed body outer place layout (i + 1) xs mid)

@@ -3,6 +3,7 @@ mod Beginning
 mod Concluding
 mod Counts
 mod Dones
+mod EnteredItems
 mod HoldAnswers
 mod HoldCalls
 mod HoldMany

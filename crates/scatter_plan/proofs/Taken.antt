@@ -10,7 +10,7 @@ use Rattle.wdl_typed.specs.Flow.{arg_bind, args_met, named_arg}
 use Rattle.wdl_typed.specs.Requests.{Tried, before, tried}
 use Rattle.wdl_eval.specs.Ready.{IsReady}
 use Rattle.wdl_task.proofs.Loops.{cut}
-use Rattle.wdl_plain.specs.Readiness.{AreArgsReady}
+use Rattle.flow_soundness.specs.Readiness.{AreArgsReady}
 
 none_before : (o : Tried (List Bind)) → tried o (λ more. Ok ([] ++ more)) ≡ o
 none_before (Ok more) = refl

@@ -21,7 +21,7 @@ use Rattle.wdl_eval.specs.Ready.{IsReady}
 use Rattle.wdl_task.specs.Counts.{prepare_count}
 use Rattle.wdl_task.specs.Readiness.{Kept}
 use Rattle.wdl_task.specs.Views.{asked_of}
-use Rattle.wdl_plain.specs.Readiness.{AreArgsReady}
+use Rattle.flow_soundness.specs.Readiness.{AreArgsReady}
 use Rattle.plan_layout.specs.declared.layout.BodyLayout.{BodyLayout}
 use Rattle.plan_layout.specs.declared.layout.FlowLayout.{FlowLayout}
 use Rattle.plan_layout.specs.declared.layout.Layout.{Layout}

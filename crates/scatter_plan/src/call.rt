@@ -8,7 +8,7 @@ ghost use Rattle.wdl_typed.specs.Requests.{Asked, asks as asks_of};
 ghost use Rattle.wdl_task.specs.Counts.{prepare_count};
 ghost use Rattle.wdl_task.specs.Readiness.{Kept};
 ghost use Rattle.wdl_task.specs.Tells.{Tells};
-ghost use Rattle.wdl_plain.specs.Readiness.{AreArgsReady};
+ghost use Rattle.flow_soundness.specs.Readiness.{AreArgsReady};
 ghost use Rattle.value_net.specs.Nets.{IsSound, view};
 ghost use Rattle.plan_growth.specs.Blocks.{with_call};
 ghost use Rattle.scatter_plan.specs.Askings.{IsAsking, IsNew, calls};

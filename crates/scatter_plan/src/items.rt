@@ -1,6 +1,6 @@
 //! The instances of a scatter's body.
 
-ghost use Rattle.std.specs.Prelude.{◌≡◌, ◌<◌, ◌++◌, ◌∷◌, [], IfOk, OnOk};
+ghost use Rattle.std.specs.Prelude.{◌≡◌, ◌<◌, ◌++◌, ◌∷◌, [], IfOk, OnOk, reverse};
 ghost use Rattle.wdl_base.specs.declared.place.Segment.TheVariants as segment;
 ghost use Rattle.value_net.specs.Nets.{IsSound, view};
 ghost use Rattle.plan_growth.specs.Blocks.{with_scatter};
@@ -50,10 +50,21 @@ fn item_place(alloc: Global, place: &Place, index: usize) -> Result<Place, NoMem
     place_below(alloc, place, Segment::Index(index))
 }
 
-/// Enters the body for each item, the last one first. Answers the first cell of each.
+/// The items, the last one first.
+fn backwards(alloc: Global, mut items: Items<Value>) -> Result<Items<Value>, NoMemory>
+    ensures { IfOk result (λ turned. turned ≡ reverse items) }
+{
+    let mut turned = Items::new(alloc);
+    while let Some(item) = items.pop() {
+        turned.push(item)?;
+    }
+    Ok(turned)
+}
+
+/// Enters the body for each item, in their order. Answers the first cell of each.
 fn enter_items(
     alloc: Global,
-    mut items: Items<Value>,
+    items: Items<Value>,
     body: usize,
     outer: &[usize],
     place: &Place,
@@ -67,12 +78,12 @@ fn enter_items(
     ensures firsts { IfOk result (λ firsts. firsts.items ≡ entering.firsts_of body outer.now place.now layout.now 0 items (plot entered.old)) }
     ensures entered { OnOk result (plot entered.new ≡ entering.with_items body outer.now place.now layout.now 0 items (plot entered.old)) }
 {
+    let mut left = backwards(alloc, items)?;
     let mut firsts = Vec::new(alloc);
-    while let Some(item) = items.pop() {
-        let place = item_place(alloc, place, items.len())?;
+    while let Some(item) = left.pop() {
+        let place = item_place(alloc, place, firsts.len())?;
         firsts.push(enter_item(alloc, item, body, outer, place, layout, entered)?)?;
     }
-    firsts.reverse();
     Ok(firsts)
 }
 

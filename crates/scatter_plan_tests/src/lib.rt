@@ -10,4 +10,6 @@ mod drafts;
 #[cfg(test)]
 mod numbers;
 #[cfg(test)]
+mod offering;
+#[cfg(test)]
 mod running;

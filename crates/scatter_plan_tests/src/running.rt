@@ -75,7 +75,7 @@ fn push_file(
 }
 
 /// The checked form of a document.
-fn checked_of(alloc: Global, document: &str) -> Result<Option<Checked>, Fail> {
+pub fn checked_of(alloc: Global, document: &str) -> Result<Option<Checked>, Fail> {
     let text = format!(in alloc; "{BEFORE}{document}")?;
     let mut files = Items::new(alloc);
     push_file(alloc, &mut files, "w.wdl", text.as_str())?;
@@ -138,7 +138,7 @@ fn entry_of(alloc: Global, told: &Told, request: &Request) -> Result<Entry, Fail
 }
 
 /// The inputs of the main workflow, where none is given.
-fn no_inputs(alloc: Global, checked: &Checked) -> Result<Env, NoMemory>
+pub fn no_inputs(alloc: Global, checked: &Checked) -> Result<Env, NoMemory>
     requires main { IsSome checked.now.main }
     ensures fit { IfOk result (AreInputsOf checked.now) }
 {

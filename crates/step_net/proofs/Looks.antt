@@ -1,12 +1,11 @@
 -- What a look at a step comes to.
 use Rattle.std.proofs.Common.{◌≡◌, ◌<◌, ◌≤◌, ◌⊎◌, inl, inr, ℕ, Bool, true, false, List, [], ◌∷◌, ◌++◌, Some, length, slice_get, get_or, arith, ap, refl, subst, sym, ◌∙◌}
 use Rattle.std.specs.List.{slice_set}
-use Rattle.std.specs.Global.{Vec}
 use Rattle.std.proofs.lemmas.Bool.{cases_lt}
 use Rattle.std.proofs.lemmas.List.{get_or_default}
 use Rattle.std.proofs.lemmas.Option.{slice_get_read}
 use Rattle.step_net.specs.declared.net.Step.{Step}
-use Rattle.step_net.specs.Nets.{IsSound, IsSoundBut, Spans, need_is_set}
+use Rattle.step_net.specs.Nets.{IsSound, IsSoundBut, Spans, Watchers, need_is_set}
 use Rattle.step_net.proofs.Moves.{taken, watched}
 
 pub read : {A : Type 0} (xs : List A) (i : ℕ) (x : A) → i < length xs → x ≡ get_or xs i x → slice_get xs i ≡ Some x
@@ -36,12 +35,12 @@ module _ (is_set : List Bool) (needs : List ℕ) where
   advanced : (x : Step) → Spans is_set needs x → (n : ℕ) → x.next ≤ n → n ≤ x.end → AllSet is_set needs x.next n → (b : Bool) → Spans is_set needs (moved_to x n b)
   advanced x s n low high h b = record { low = let l = s.low in omega (arith, l, low); high = high; end = s.end; passed = passed x s n h }
 
-  pub took : (watchers : List (Vec ℕ)) (steps : List Step) (queue : List ℕ) (s : ℕ) (x : Step) (n : ℕ) → slice_get steps s ≡ Some x → IsSoundBut s is_set watchers needs steps queue → x.next ≤ n → n ≤ x.end
+  pub took : (watchers : List Watchers) (steps : List Step) (queue : List ℕ) (s : ℕ) (x : Step) (n : ℕ) → slice_get steps s ≡ Some x → IsSoundBut s is_set watchers needs steps queue → x.next ≤ n → n ≤ x.end
       → AllSet is_set needs x.next n → IsSound is_set watchers needs (slice_set steps s (moved_to x n true)) queue
   took watchers steps queue s x n e h low high all =
       taken is_set watchers needs steps queue s x (moved_to x n true) e refl (advanced x (h.fitting.spans s x e) n low high all true) h
 
-  pub missed : (watchers : List (Vec ℕ)) (steps : List Step) (queue : List ℕ) (s : ℕ) (x : Step) (k cell : ℕ) (list more : Vec ℕ) → slice_get steps s ≡ Some x → IsSoundBut s is_set watchers needs steps queue
+  pub missed : (watchers : List Watchers) (steps : List Step) (queue : List ℕ) (s : ℕ) (x : Step) (k cell : ℕ) (list more : Watchers) → slice_get steps s ≡ Some x → IsSoundBut s is_set watchers needs steps queue
       → x.next ≤ k → k < x.end → AllSet is_set needs x.next k → need_is_set is_set needs k ≡ false → cell ≡ get_or needs k 0 → slice_get watchers cell ≡ Some list → more.items ≡ list.items ++ s ∷ []
       → IsSound is_set (slice_set watchers cell more) needs (slice_set steps s (moved_to x k false)) queue
   missed watchers steps queue s x k cell list more e h low high all missing at found is =

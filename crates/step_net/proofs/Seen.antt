@@ -1,12 +1,11 @@
 -- What moves of a net's lists come to in its view.
 use Rattle.std.proofs.Common.{◌≡◌, ◌<◌, ◌≤◌, ℕ, zero, suc, ◌+◌, ◌-◌, ◌&&◌, Bool, true, false, List, [], ◌∷◌, ◌++◌, Some, length, length-drop, map, slice_get, get_or, take, drop, arith, ap, refl, ◌∙◌, subst}
-use Rattle.std.specs.Global.{Vec}
 use Rattle.std.specs.List.{list_all, slice_range, slice_set}
 use Rattle.std.proofs.Math.Seq.{drop-append_seam, take-length}
 use Rattle.std.proofs.lemmas.List.{drop-append-le, get_or-drop, get_or-take, length-take-le, map-append, map-set, take-append-le}
 use Rattle.std.proofs.lemmas.List.Folds.{list_all_at}
 use Rattle.step_net.specs.declared.net.Step.{Step}
-use Rattle.step_net.specs.Nets.{IsSound, IsStuck, Spans, need_is_set, set_at, step_of}
+use Rattle.step_net.specs.Nets.{IsSound, IsStuck, Spans, Watchers, need_is_set, set_at, step_of}
 use Rattle.step_net.specs.Views.{AllStuck, IsTaken, View, Wants, view_of, wants, with_step}
 use Rattle.step_net.proofs.Gets.{get_map, set_own, some_same}
 use Rattle.step_net.proofs.Looks.{AllSet, moved_to, passed}
@@ -76,7 +75,7 @@ from_map f (x ∷ xs) zero b h = (x, refl, some_same h)
 from_map f (x ∷ xs) (suc i) b h = from_map f xs i b h
 
 -- With an empty queue no step that is not taken is ready.
-pub seen_stuck : (is_set : List Bool) (watchers : List (Vec ℕ)) (needs : List ℕ) (steps : List Step) (queue : List ℕ) → queue ≡ [] → IsSound is_set watchers needs steps queue → AllStuck (view_of is_set needs steps)
+pub seen_stuck : (is_set : List Bool) (watchers : List Watchers) (needs : List ℕ) (steps : List Step) (queue : List ℕ) → queue ≡ [] → IsSound is_set watchers needs steps queue → AllStuck (view_of is_set needs steps)
 seen_stuck is_set watchers needs steps queue empty h t w e fresh =
     let found = from_map (wants needs) steps t w e in
     let x : Step = found.0 in
@@ -93,7 +92,7 @@ same_steps needs more (x ∷ xs) h =
     ap (λ (ns : List ℕ). (let w : Wants = record { needs = ns; is_taken = x.is_taken } in w) ∷ map (wants (needs ++ more)) xs) (same_range needs more x.start x.end (h 0 x refl).0 (h 0 x refl).1)
     ∙ ap (λ ws. wants needs x ∷ ws) (same_steps needs more xs (λ t y e. h (suc t) y e))
 
-pub seen_step : (is_set : List Bool) (watchers : List (Vec ℕ)) (needs more : List ℕ) (steps : List Step) (queue : List ℕ) → IsSound is_set watchers needs steps queue
+pub seen_step : (is_set : List Bool) (watchers : List Watchers) (needs more : List ℕ) (steps : List Step) (queue : List ℕ) → IsSound is_set watchers needs steps queue
     → view_of is_set (needs ++ more) (steps ++ step_of (length needs) (length more) ∷ []) ≡ with_step (view_of is_set needs steps) more
 seen_step is_set watchers needs more steps queue h =
     ap (λ (ws : List Wants). let v : View = record { cells = is_set; steps = ws } in v)

@@ -1,11 +1,12 @@
-//! A net of steps and cells. A step that is not taken watches one cell that it needs and that is not set, or it is
-//! queued.
+//! A net of steps and cells. A step that is not taken watches one cell that it needs and that is
+//! not set, or it is queued: first in, first out.
 
 ghost use Rattle.std.specs.Prelude.{◌≡◌, ◌<◌, ◌≤◌, ℕ, true, false, Some, IfOk, slice_get, slice_index, length};
 ghost use Rattle.step_net.specs.Nets.{AreSound, IsSoundBut, need_is_set};
 ghost use Rattle.step_net.specs.Views.{IsSoundNet, Looked, Popped, Wants, view, empty, with_cell, with_step, with_set};
 
 use std::alloc::{AllocError, Global};
+use std::collections::VecDeque;
 
 /// A step: it needs the cells in a range of the net's needs, and those before `next` are set.
 #[derive(Clone, Copy)]
@@ -16,19 +17,23 @@ struct Step {
     is_taken: bool,
 }
 
-/// *Cells*, each set at most once, and *steps*, each handed out once, when all cells that it needs are set. Cells and
-/// steps are numbered from 0 on, in the order in which they are made.
+/// *Cells*, each set at most once, and *steps*, each handed out once, when all cells that it needs
+/// are set. Cells and steps are numbered from 0 on, in the order in which they are made.
 ///
-/// A step waits at the first of its needs that is not set, and goes on from there when that cell is set, so it passes
-/// each of its needs once. All looks over the life of a net are therefore at most its steps and twice its needs. That is
-/// no clause. After want of memory nothing is said of a net.
+/// A step waits at the first of its needs that is not set, and goes on from there when that cell is
+/// set, so it passes each of its needs once. All looks over the life of a net are therefore at most
+/// its steps and twice its needs. That is no clause.
+///
+/// Steps are handed out in the order in which they were made or in which the last cell that they
+/// waited for was set. Where one cell frees several, they come in the order in which they began to
+/// wait for it. That is no clause either. After want of memory nothing is said of a net.
 #[derive(Drop)]
 pub struct StepNet {
     is_set: Vec<bool>,
-    watchers: Vec<Vec<usize>>,
+    watchers: Vec<VecDeque<usize>>,
     needs: Vec<usize>,
     steps: Vec<Step>,
-    queue: Vec<usize>,
+    queue: VecDeque<usize>,
 }
 
 /// The first need from `next` on that is not set, or the end.
@@ -61,7 +66,7 @@ impl StepNet {
             watchers: Vec::new(alloc),
             needs: Vec::new(alloc),
             steps: Vec::new(alloc),
-            queue: Vec::new(alloc),
+            queue: VecDeque::new(alloc),
         }
     }
 
@@ -88,7 +93,7 @@ impl StepNet {
             return Ok(true);
         }
         let cell = self.needs[next];
-        self.watchers[cell].push(s)?;
+        self.watchers[cell].push_back(s)?;
         self.steps[s] = Step {
             start: step.start,
             next,
@@ -98,14 +103,14 @@ impl StepNet {
         Ok(false)
     }
 
-    /// Takes a step that was not taken before and whose needs are all set, and answers its number. `None` comes exactly
-    /// where each step that is not taken has a need that is not set.
+    /// Takes a step that was not taken before and whose needs are all set, and answers its number.
+    /// `None` comes exactly where each step that is not taken has a need that is not set.
     pub fn pop(&mut self) -> Result<Option<usize>, AllocError>
         requires { IsSoundNet self.old }
         ensures sound { IfOk result (λ o. IsSoundNet self.new) }
         ensures popped { IfOk result (λ o. Popped (view self.old) o (view self.new)) }
     {
-        while let Some(s) = self.queue.pop() {
+        while let Some(s) = self.queue.pop_front() {
             if self.look(s)? {
                 return Ok(Some(s));
             }
@@ -113,16 +118,15 @@ impl StepNet {
         Ok(None)
     }
 
-    /// Sets a cell. To set it once more changes nothing.
+    /// Sets a cell: the steps that wait for it go to the end of the queue. To set it once more
+    /// changes nothing.
     pub fn set(&mut self, cell: usize) -> Result<(), AllocError>
         requires there { cell < length (view self.old).cells }
         requires sound { IsSoundNet self.old }
         ensures sound { IfOk result (λ u. IsSoundNet self.new) }
         ensures set { IfOk result (λ u. view self.new ≡ with_set (view self.old) cell) }
     {
-        while let Some(s) = self.watchers[cell].pop() {
-            self.queue.push(s)?;
-        }
+        self.queue.append(&mut self.watchers[cell])?;
         self.is_set[cell] = true;
         Ok(())
     }
@@ -145,12 +149,13 @@ impl StepNet {
         ensures cell { IfOk result (λ c. view self.new ≡ with_cell (view self.old)) }
     {
         let number = self.is_set.len();
-        self.watchers.push(Vec::new(alloc))?;
+        self.watchers.push(VecDeque::new(alloc))?;
         self.is_set.push(false)?;
         Ok(number)
     }
 
-    /// Makes a step that needs these cells, in any order and any number of times each, and answers its number.
+    /// Makes a step that needs these cells, in any order and any number of times each, and answers
+    /// its number.
     pub fn step(&mut self, needs: &[usize]) -> Result<usize, AllocError>
         requires there { (k : ℕ) → k < length needs.now → slice_index needs.now k < length (view self.old).cells }
         requires sound { IsSoundNet self.old }
@@ -162,7 +167,7 @@ impl StepNet {
         let start = self.needs.len();
         self.needs.extend_from_slice(needs)?;
         let end = self.needs.len();
-        self.queue.push(number)?;
+        self.queue.push_back(number)?;
         self.steps.push(Step {
             start,
             next: start,

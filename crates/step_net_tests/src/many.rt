@@ -69,3 +69,20 @@ fn each_step_is_done_once(rt: HostRuntime) -> Result<(), Fail> {
     assert!(rt; net.pop()?.is_none());
     Ok(())
 }
+
+/// Steps that one cell frees come in the order in which they began to wait for it.
+#[test]
+fn first_in_first_out(rt: HostRuntime) -> Result<(), Fail> {
+    let alloc = rt.alloc();
+    let mut net = StepNet::new(alloc);
+    let a = net.cell(alloc)?;
+    net.step(&[a])?;
+    net.step(&[a])?;
+    assert!(rt; net.pop()?.is_none());
+    net.step(&[])?;
+    net.set(a)?;
+    assert!(rt; net.pop()? == Some(2));
+    assert!(rt; net.pop()? == Some(0));
+    assert!(rt; net.pop()? == Some(1));
+    Ok(())
+}

@@ -3,9 +3,11 @@ ghost use Rattle.wdl_base.specs.declared.error.TextFault.TheVariants.{NoMemory a
 ghost use Rattle.wdl_base.specs.declared.error.NameFault.TheVariants.{NoMemory as NameNoMemory};
 
 use std::alloc::{AllocError, AllocFailed};
+use thiserror::Error;
 
 /// An allocation failed.
-#[derive(Clone, Copy, Debug, PartialEq, Eq)]
+#[derive(Clone, Copy, Debug, PartialEq, Eq, Error)]
+#[error("out of memory")]
 pub struct NoMemory;
 
 impl From<AllocError> for NoMemory {
@@ -21,10 +23,12 @@ impl<T: Drop> From<AllocFailed<T>> for NoMemory {
 }
 
 /// Why a string is no `Text`.
-#[derive(Clone, Copy, Debug, PartialEq, Eq)]
+#[derive(Clone, Copy, Debug, PartialEq, Eq, Error)]
 pub enum TextFault {
     /// It holds the character NUL.
+    #[error("the text holds the character NUL")]
     Nul,
+    #[error("out of memory")]
     NoMemory,
 }
 
@@ -45,10 +49,12 @@ impl From<NoMemory> for TextFault {
 }
 
 /// Why a string is no `Name`.
-#[derive(Clone, Copy, Debug, PartialEq, Eq)]
+#[derive(Clone, Copy, Debug, PartialEq, Eq, Error)]
 pub enum NameFault {
     /// It is no identifier of at most 128 bytes, or it is a reserved word.
+    #[error("not an identifier of at most 128 bytes, or a reserved word")]
     NotAName,
+    #[error("out of memory")]
     NoMemory,
 }
 
@@ -70,7 +76,8 @@ impl From<NoMemory> for NameFault {
 
 /// Why a status, two outputs and a list of files are no `Answer`: a limit is passed, or the names of the files are
 /// not relative, distinct and in byte order.
-#[derive(Clone, Copy, Debug, PartialEq, Eq)]
+#[derive(Clone, Copy, Debug, PartialEq, Eq, Error)]
 pub enum AnswerFault {
+    #[error("the answer passes a limit, or its files are not relative, distinct and in byte order")]
     NotAnAnswer,
 }

@@ -10,12 +10,15 @@ use crate::name::Name;
 use crate::place::{Place, Segment};
 use sqlite_items::Items;
 use std::alloc::{AllocError, Global};
+use thiserror::Error;
 
 /// Why a string stands for no `Place`.
-#[derive(Clone, Copy, Debug, PartialEq, Eq)]
+#[derive(Clone, Copy, Debug, PartialEq, Eq, Error)]
 pub enum PlaceFault {
     /// It is the text of no place.
+    #[error("the text names no place of a run")]
     NotAPlace,
+    #[error("out of memory")]
     NoMemory,
 }
 

@@ -9,9 +9,9 @@ ghost use Rattle.wdl_check_doc.specs.Outcomes.{all};
 use crate::fault::placed;
 use std::alloc::Global;
 use wdl_check_rules::CheckFault;
+use wdl_depths::{Levels, MOST_BLOCKS, levels_of, nests};
 use wdl_typed::{FlowDef, Statement};
 use wdl_value::Span;
-use wdl_well_typed::{Levels, MOST, levels_of, nests};
 
 fn span_of(statement: &Statement) -> Span
     ensures { result ≡ spec.span_at (out-Statement statement.now) }
@@ -28,7 +28,7 @@ fn check_statement(statement: &Statement, levels: &Levels) -> Result<(), CheckFa
     requires { levels.now.1 ≡ 24 }
     ensures { Answers (spec.statement_nests levels.now.0 statement.now) result }
 {
-    if nests(statement, levels, MOST) {
+    if nests(statement, levels, MOST_BLOCKS) {
         return Ok(());
     }
     Err(CheckFault::Bad {

@@ -1,7 +1,7 @@
 //! How many structs the members of structs lead through.
 
 ghost use Rattle.std.specs.Prelude.{◌≡◌, map};
-ghost use Rattle.wdl_typing.specs.Depths.{shallow_level};
+ghost use Rattle.wdl_depths.specs.Depths.{shallow_level};
 ghost use Rattle.wdl_library.specs.Sections.{structs_in};
 ghost use Rattle.wdl_check_types.specs.Locals.{stands_for as naming};
 ghost use Rattle.wdl_check_types.specs.Outcome.{Answers};
@@ -15,12 +15,9 @@ use std::alloc::Global;
 use wdl_ast::{Section, StructSection};
 use wdl_check_rules::CheckFault;
 use wdl_check_types::{Local, stands_for};
+use wdl_depths::{MOST_STRUCTS, name_is_shallow, shallow_structs};
 use wdl_names::Indexed;
-use wdl_typing::{name_is_shallow, shallow_structs};
 use wdl_value::{Name, StructDef};
-
-/// The most structs that members may lead through.
-const MOST: u32 = 32;
 
 /// The name of the library for the struct of a section.
 fn struct_name<'a>(section: &'a StructSection, locals: &Indexed<'_, Local<'a>>) -> &'a Name
@@ -41,7 +38,7 @@ fn check_section(
     requires { table.now ≡ shallow_level 32 structs.now }
     ensures { Answers (spec.section_nests structs.now (naming locals.now) section.now) result }
 {
-    if !name_is_shallow(struct_name(section, locals), MOST, table, structs) {
+    if !name_is_shallow(struct_name(section, locals), MOST_STRUCTS, table, structs) {
         return Err(CheckFault::Bad {
             code: 330,
             span: section.name.span,

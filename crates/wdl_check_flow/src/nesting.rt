@@ -5,15 +5,13 @@ ghost use Rattle.wdl_check_flow.specs.Nesting as spec;
 
 use wdl_ast::Statement;
 use wdl_check_types::statement_span;
+use wdl_depths::MOST_BLOCKS;
 use wdl_value::Span;
-
-/// The most blocks and calls that may stand on one path.
-const MOST: u32 = 24;
 
 /// Where a block or a call stands with more than `most` blocks and calls on the way to it, itself counted. The calls of
 /// workflows count as one here.
 #[cycle(nesting)]
-fn first_too_deep(body: &[Statement], most: u32) -> Option<Span>
+fn first_too_deep(body: &[Statement], most: usize) -> Option<Span>
     ensures { result ≡ spec.first_deep (map spec.too_deep body.now) most }
 {
     for statement in body {
@@ -26,7 +24,7 @@ fn first_too_deep(body: &[Statement], most: u32) -> Option<Span>
 
 /// The same of one statement.
 #[cycle(nesting)]
-fn too_deep(statement: &Statement, most: u32) -> Option<Span>
+fn too_deep(statement: &Statement, most: usize) -> Option<Span>
     ensures { result ≡ spec.too_deep statement.now most }
 {
     if let Statement::Declaration(_) = statement {
@@ -47,7 +45,7 @@ pub fn deepest(statements: &[&Statement]) -> Option<Span>
     ensures { result ≡ spec.first_deep (map spec.too_deep (map (λ s. s.now) statements.now)) 24 }
 {
     for statement in statements {
-        if let Some(span) = too_deep(statement, MOST) {
+        if let Some(span) = too_deep(statement, MOST_BLOCKS) {
             return Some(span);
         }
     }

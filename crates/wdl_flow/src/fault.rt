@@ -2,13 +2,16 @@ ghost use Rattle.std.specs.Prelude.{◌≡◌};
 ghost use Rattle.wdl_flow.specs.declared.fault.PlainFault.TheVariants.{NoMemory as OutOfMemory};
 
 use std::alloc::{AllocError, AllocFailed};
+use thiserror::Error;
 use wdl_value::NoMemory;
 
 /// Why a flow is not given: it has more than 20,000 jobs or more than 1,000,000 instances of statements, or memory is
 /// wanting.
-#[derive(Clone, Copy, Debug, PartialEq, Eq)]
+#[derive(Clone, Copy, Debug, PartialEq, Eq, Error)]
 pub enum PlainFault {
+    #[error("more than 65,535 items or 1,048,576 jobs")]
     TooMany,
+    #[error("out of memory")]
     NoMemory,
 }
 

@@ -89,36 +89,61 @@ fn shown(alloc: Global, shelf: &mut MemoryShelf, root: &Text) -> Result<String, 
 
 /// Shelves, each with what gathering `a.wdl` from it gives.
 const CASES: &str = "\
-a.wdl=struct P { Int x }¦a.wdl P:P; P Int x; ¶\
-a.wdl=import \"b.wdl\"|b.wdl=import \"a.wdl\"¦b.wdl:12..26: 202¶\
-a.wdl=import \"a.wdl\"¦a.wdl:12..26: 202¶\
-a.wdl=import \"b.wdl\"|b.wdl=import \"c.wdl\"|c.wdl=import \"b.wdl\"¦c.wdl:12..26: 202¶\
-a.wdl=import \"c.wdl\" import \"b.wdl\"|b.wdl=import \"c.wdl\"|c.wdl=import \"b.wdl\"¦b.wdl:12..26: 202¶\
-a.wdl=import \"b.wdl\" import \"c.wdl\"|b.wdl=import \"d.wdl\"|c.wdl=import \"d.wdl\" import \"a.wdl\"|d.wdl=¦c.wdl:27..41: 202¶\
-a.wdl=import \"b.wdl\" import \"c.wdl\"|b.wdl=import \"d.wdl\"|c.wdl=import \"d.wdl\" import \"b.wdl\"|d.wdl=¦a.wdl b=1 c=3; b.wdl d=2; d.wdl; c.wdl d=2 b=1; ¶\
-a.wdl=import \"b.wdl\" import \"a.wdl\"|b.wdl=import \"b.wdl\"¦b.wdl:12..26: 202¶\
-a.wdl=import \"b.wdl\" import \"c.wdl\"|b.wdl=struct P { Int x }|c.wdl=struct P { Int x }¦a.wdl b=1 c=2 P:P; b.wdl P:P; c.wdl P:P; P Int x; ¶\
-a.wdl=import \"b.wdl\" import \"c.wdl\"|b.wdl=struct P { Int x }|c.wdl=struct P { Int? x }¦c.wdl:19..20: 204¶\
-a.wdl=import \"b.wdl\" import \"c.wdl\" alias P as Q|b.wdl=struct P { Int x }|c.wdl=struct P { Int? x }¦a.wdl b=1 c=2 P:P Q:Q; b.wdl P:P; c.wdl P:Q; P Int x; Q Int? x; ¶\
-a.wdl=import \"b.wdl\" alias Q as R|b.wdl=struct P { Int x }¦a.wdl:33..34: 206¶\
-a.wdl=import \"b.wdl\" alias P as Q alias P as R|b.wdl=struct P { P? x }¦a.wdl b=1 Q:Q R:Q; b.wdl P:Q; Q Q? x; R Q? x; ¶\
-a.wdl=import \"b.wdl\" import \"c.wdl\" alias P as Q|b.wdl=struct P { Int x }|c.wdl=import \"b.wdl\"¦a.wdl b=1 c=2 P:P Q:P; b.wdl P:P; c.wdl b=1 P:P; P Int x; Q Int x; ¶\
-a.wdl=struct S { P p } import \"b.wdl\" alias P as Q|b.wdl=struct P { Int x } struct T { P p }¦a.wdl b=1 S:S Q:Q T:T; b.wdl P:Q T:T; S P p; Q Int x; T Q p; ¶\
-a.wdl=struct P { Int x } struct P { Int x }¦a.wdl P:P; P Int x; ¶\
-a.wdl=struct P { Int x } struct P { Int y }¦a.wdl:38..39: 204¶\
-a.wdl=import \"b.wdl\" import \"c.wdl\"|b.wdl=struct P { Int x } struct S { P p }|c.wdl=struct S { P p } struct P { Int x }¦a.wdl b=1 c=2 P:P S:S; b.wdl P:P S:S; c.wdl S:S P:P; P Int x; S P p; ¶\
-a.wdl=import \"b.wdl\" import \"c.wdl\"|b.wdl=struct P { Int x } struct S { P p }|c.wdl=struct S { P p } struct P { Int? x }¦c.wdl:36..37: 204¶\
-a.wdl=import \"b.wdl\" import \"c.wdl\"|b.wdl=struct P { Int x } struct S { P p }|c.wdl=struct Q { Int x } struct S { Q p }¦c.wdl:38..39: 204¶\
-a.wdl=import \"b.wdl\" import \"c.wdl\" alias Q as P|b.wdl=struct P { Int x } struct S { P p }|c.wdl=struct Q { Int x } struct S { Q p }¦a.wdl b=1 c=2 P:P S:S; b.wdl P:P S:S; c.wdl Q:P S:S; P Int x; S P p; ¶\
-a.wdl=import \"b.wdl\" alias Q as R import \"c.wdl\"|b.wdl=struct P { Int x }|c.wdl=struct P { Int x }¦a.wdl:33..34: 206¶\
-a.wdl=import \"b.wdl\" as p import \"./b.wdl\" as q|b.wdl=struct P { Int x }¦a.wdl p=1 q=1 P:P; b.wdl P:P; P Int x; ¶\
-a.wdl=import \"b.wdl\" alias P as Q struct P { Int y }|b.wdl=struct P { Int x }¦a.wdl b=1 P:P Q:Q; b.wdl P:Q; P Int y; Q Int x; ¶\
-a.wdl=import \"b.wdl\" alias P as Q import \"c.wdl\" alias P as Q|b.wdl=struct P { Int x }|c.wdl=struct P { Int x }¦a.wdl b=1 c=2 Q:Q; b.wdl P:Q; c.wdl P:Q; Q Int x; ¶\
-a.wdl=import \"b.wdl\"|b.wdl=import \"c.wdl\" alias P as R|c.wdl=struct P { Int x }¦a.wdl b=1 R:R; b.wdl c=2 R:R; c.wdl P:R; R Int x; ¶\
-a.wdl=import \"b.wdl\" import \"b.wdl\" as c alias P as Q|b.wdl=struct P { Int x }¦a.wdl b=1 c=1 P:P Q:P; b.wdl P:P; P Int x; Q Int x; ¶\
-a.wdl=import \"b.wdl\"|b.wdl=$¦b.wdl:12..13: 102¶\
-a.wdl=import \"b.wdl\" import \"x/b.wdl\"|b.wdl=|x/b.wdl=¦a.wdl:27..43: 203¶\
-b.wdl=¦cannot read a.wdl";
+    a.wdl=struct P { Int x }¦a.wdl P:P; P Int x; ¶\
+    a.wdl=import \"b.wdl\"|b.wdl=import \"a.wdl\"¦b.wdl:12..26: 202¶\
+    a.wdl=import \"a.wdl\"¦a.wdl:12..26: 202¶\
+    a.wdl=import \"b.wdl\"|b.wdl=import \"c.wdl\"|c.wdl=import \"b.wdl\"¦c.wdl:12..26: 202¶\
+    a.wdl=import \"c.wdl\" import \"b.wdl\"|b.wdl=import \"c.wdl\"|c.wdl=import \"b.wdl\"\
+        ¦b.wdl:12..26: 202¶\
+    a.wdl=import \"b.wdl\" import \"c.wdl\"|b.wdl=import \"d.wdl\"\
+        |c.wdl=import \"d.wdl\" import \"a.wdl\"|d.wdl=¦c.wdl:27..41: 202¶\
+    a.wdl=import \"b.wdl\" import \"c.wdl\"|b.wdl=import \"d.wdl\"\
+        |c.wdl=import \"d.wdl\" import \"b.wdl\"|d.wdl=\
+        ¦a.wdl b=1 c=3; b.wdl d=2; d.wdl; c.wdl d=2 b=1; ¶\
+    a.wdl=import \"b.wdl\" import \"a.wdl\"|b.wdl=import \"b.wdl\"¦b.wdl:12..26: 202¶\
+    a.wdl=import \"b.wdl\" import \"c.wdl\"|b.wdl=struct P { Int x }|c.wdl=struct P { Int x }\
+        ¦a.wdl b=1 c=2 P:P; b.wdl P:P; c.wdl P:P; P Int x; ¶\
+    a.wdl=import \"b.wdl\" import \"c.wdl\"|b.wdl=struct P { Int x }|c.wdl=struct P { Int? x }\
+        ¦c.wdl:19..20: 204¶\
+    a.wdl=import \"b.wdl\" import \"c.wdl\" alias P as Q|b.wdl=struct P { Int x }\
+        |c.wdl=struct P { Int? x }\
+        ¦a.wdl b=1 c=2 P:P Q:Q; b.wdl P:P; c.wdl P:Q; P Int x; Q Int? x; ¶\
+    a.wdl=import \"b.wdl\" alias Q as R|b.wdl=struct P { Int x }¦a.wdl:33..34: 206¶\
+    a.wdl=import \"b.wdl\" alias P as Q alias P as R|b.wdl=struct P { P? x }\
+        ¦a.wdl b=1 Q:Q R:Q; b.wdl P:Q; Q Q? x; R Q? x; ¶\
+    a.wdl=import \"b.wdl\" import \"c.wdl\" alias P as Q|b.wdl=struct P { Int x }\
+        |c.wdl=import \"b.wdl\"\
+        ¦a.wdl b=1 c=2 P:P Q:P; b.wdl P:P; c.wdl b=1 P:P; P Int x; Q Int x; ¶\
+    a.wdl=struct S { P p } import \"b.wdl\" alias P as Q\
+        |b.wdl=struct P { Int x } struct T { P p }\
+        ¦a.wdl b=1 S:S Q:Q T:T; b.wdl P:Q T:T; S P p; Q Int x; T Q p; ¶\
+    a.wdl=struct P { Int x } struct P { Int x }¦a.wdl P:P; P Int x; ¶\
+    a.wdl=struct P { Int x } struct P { Int y }¦a.wdl:38..39: 204¶\
+    a.wdl=import \"b.wdl\" import \"c.wdl\"|b.wdl=struct P { Int x } struct S { P p }\
+        |c.wdl=struct S { P p } struct P { Int x }\
+        ¦a.wdl b=1 c=2 P:P S:S; b.wdl P:P S:S; c.wdl S:S P:P; P Int x; S P p; ¶\
+    a.wdl=import \"b.wdl\" import \"c.wdl\"|b.wdl=struct P { Int x } struct S { P p }\
+        |c.wdl=struct S { P p } struct P { Int? x }¦c.wdl:36..37: 204¶\
+    a.wdl=import \"b.wdl\" import \"c.wdl\"|b.wdl=struct P { Int x } struct S { P p }\
+        |c.wdl=struct Q { Int x } struct S { Q p }¦c.wdl:38..39: 204¶\
+    a.wdl=import \"b.wdl\" import \"c.wdl\" alias Q as P\
+        |b.wdl=struct P { Int x } struct S { P p }|c.wdl=struct Q { Int x } struct S { Q p }\
+        ¦a.wdl b=1 c=2 P:P S:S; b.wdl P:P S:S; c.wdl Q:P S:S; P Int x; S P p; ¶\
+    a.wdl=import \"b.wdl\" alias Q as R import \"c.wdl\"|b.wdl=struct P { Int x }\
+        |c.wdl=struct P { Int x }¦a.wdl:33..34: 206¶\
+    a.wdl=import \"b.wdl\" as p import \"./b.wdl\" as q|b.wdl=struct P { Int x }\
+        ¦a.wdl p=1 q=1 P:P; b.wdl P:P; P Int x; ¶\
+    a.wdl=import \"b.wdl\" alias P as Q struct P { Int y }|b.wdl=struct P { Int x }\
+        ¦a.wdl b=1 P:P Q:Q; b.wdl P:Q; P Int y; Q Int x; ¶\
+    a.wdl=import \"b.wdl\" alias P as Q import \"c.wdl\" alias P as Q|b.wdl=struct P { Int x }\
+        |c.wdl=struct P { Int x }¦a.wdl b=1 c=2 Q:Q; b.wdl P:Q; c.wdl P:Q; Q Int x; ¶\
+    a.wdl=import \"b.wdl\"|b.wdl=import \"c.wdl\" alias P as R|c.wdl=struct P { Int x }\
+        ¦a.wdl b=1 R:R; b.wdl c=2 R:R; c.wdl P:R; R Int x; ¶\
+    a.wdl=import \"b.wdl\" import \"b.wdl\" as c alias P as Q|b.wdl=struct P { Int x }\
+        ¦a.wdl b=1 c=1 P:P Q:P; b.wdl P:P; P Int x; Q Int x; ¶\
+    a.wdl=import \"b.wdl\"|b.wdl=$¦b.wdl:12..13: 102¶\
+    a.wdl=import \"b.wdl\" import \"x/b.wdl\"|b.wdl=|x/b.wdl=¦a.wdl:27..43: 203¶\
+    b.wdl=¦cannot read a.wdl";
 
 #[test]
 fn structs_are_gathered_with_their_aliases(rt: HostRuntime) -> Result<(), Fail> {

@@ -2,6 +2,7 @@ ghost use Rattle.std.specs.Prelude.{◌≡◌};
 ghost use Rattle.wdl_lex.specs.Reading.Code as reading;
 
 use std::alloc::{AllocError, AllocFailed};
+use thiserror::Error;
 use wdl_value::{NoMemory, Span};
 
 /// Why a text has no tokens.
@@ -10,9 +11,11 @@ use wdl_value::{NoMemory, Span};
 /// a number directly followed by a letter, a digit or `_`, 103 a newline or the end of the text in a string, 104 the end
 /// of the text in a command, 105 an escape that is none, 106 an integer past 9223372036854775807, 107 a document of more
 /// than 1,048,576 bytes or a word of more than 128.
-#[derive(Clone, Copy, Debug, PartialEq, Eq)]
+#[derive(Clone, Copy, Debug, PartialEq, Eq, Error)]
 pub enum LexFault {
+    #[error("out of memory")]
     NoMemory,
+    #[error("error {code}")]
     Bad { code: u16, span: Span },
 }
 

@@ -2,12 +2,15 @@ ghost use Rattle.std.specs.Prelude.{◌≡◌};
 ghost use Rattle.wdl_links.specs.declared.fault.LinkFault.TheVariants.{NoMemory as OutOfMemory};
 
 use std::alloc::{AllocError, AllocFailed};
+use thiserror::Error;
 use wdl_value::{NoMemory, Span};
 
 /// Why a document of a library is amiss: a code, and where it holds.
-#[derive(Clone, Copy, Debug, PartialEq, Eq)]
+#[derive(Clone, Copy, Debug, PartialEq, Eq, Error)]
 pub enum LinkFault {
+    #[error("error {code}")]
     Bad { code: u16, span: Span },
+    #[error("out of memory")]
     NoMemory,
 }
 

@@ -3,7 +3,9 @@
 
 mod leaf;
 mod localizing;
-mod renamed;
+mod renaming;
 mod unknown;
 
+pub use leaf::{copy_chars, copy_ident, copy_options};
 pub use localizing::localized;
+pub use renaming::renamed;

@@ -2,7 +2,7 @@ ghost use Rattle.wdl_check_types.specs.Locals as local;
 ghost use Rattle.wdl_check_types.specs.Outcome as outcome;
 ghost use Rattle.wdl_localize.specs.Localized as spec;
 
-use crate::renamed::renamed;
+use crate::renaming::renamed;
 use crate::unknown::first_unknown;
 use std::alloc::Global;
 use wdl_ast::Expr;

@@ -1,5 +1,5 @@
-mod FindLemmas
+mod FirstLemmas
 pub mod FreshLemmas
-mod NameMarks
+mod KeyLemmas
+mod NameLemmas
 mod PlaceLemmas
-mod Skip

@@ -1,3 +1,5 @@
+pub mod Firsts
 pub mod Fresh
+pub mod KeyTexts
 pub mod Marks
 pub mod Names

@@ -1,27 +1,29 @@
-ghost use Rattle.std.specs.Prelude.{◌≡◌, ◌++◌, ◌∷◌, [], length, map, IfOk, OnOk};
+ghost use Rattle.std.specs.Prelude.{◌≡◌, ◌++◌, ◌∷◌, [], length, is_some, OnOk, OnErr, MatchOption};
 ghost use Rattle.std.specs.List.{find};
 ghost use Rattle.std.specs.Option.{option_copied};
 ghost use Rattle.wdl_typed.specs.Scope as scope;
 
-use crate::key::same_key;
+use crate::key_places::KeyPlaces;
 use crate::keyed::Keyed;
-use crate::mark::key_mark;
-use crate::places::Places;
+use crate::standing::keyed_at;
 use std::alloc::Global;
 use std::marker::Model;
 use wdl_value::{Items, Key, NoMemory};
 
 /// A list that grows, whose items are found by their keys in logarithmic time. Of two with one key the first counts.
-#[derive(Drop)]
+#[derive(Debug, Drop)]
 pub struct Index<T: Keyed + Drop> {
     items: Items<T>,
-    places: Places,
+    places: KeyPlaces,
 }
 
 impl<T: Keyed + Drop> Model for Index<T> {
-    ghost use Rattle.std.specs.Prelude.{◌≡◌, List, map};
+    ghost use Rattle.std.specs.Prelude.{List};
     ghost use Rattle.std.specs.Coded.{coded_list};
-    ghost use Rattle.wdl_names.specs.Marks.{key_mark};
+    ghost use Rattle.wdl_base.specs.declared.name.Key.{Key};
+    ghost use Rattle.wdl_typed.specs.Scope.{same_key};
+    ghost use Rattle.wdl_names.specs.Firsts.{Finds};
+    ghost use Rattle.wdl_names.specs.KeyTexts.{place_of};
 
     ghost Value = { List T };
 
@@ -29,18 +31,7 @@ impl<T: Keyed + Drop> Model for Index<T> {
 
     ghost view = { λ s. s.items };
 
-    ghost invariant = { λ s. s.places ≡ map (λ (x : T). key_mark (T.keyed x)) s.items };
-}
-
-fn found_among<'a, T: Keyed>(items: &'a [T], key: &Key) -> Option<&'a T>
-    ensures { option_copied result ≡ find (λ x. scope.same_key (T.keyed x) key.now) items.now }
-{
-    for item in items {
-        if same_key(item.key(), key) {
-            return Some(item);
-        }
-    }
-    None
+    ghost invariant = { λ s. Finds (λ (k : Key) (x : T). same_key (T.keyed x) k) (place_of s.places.alone s.places.outputs) s.items };
 }
 
 impl<T: Keyed + Drop> Index<T> {
@@ -50,7 +41,7 @@ impl<T: Keyed + Drop> Index<T> {
     {
         Index {
             items: Items::new(alloc),
-            places: Places::empty(alloc),
+            places: KeyPlaces::empty(alloc),
         }
     }
 
@@ -68,25 +59,52 @@ impl<T: Keyed + Drop> Index<T> {
         self.items.as_slice()
     }
 
+    /// The list of the items.
+    pub fn into_items(self) -> Items<T>
+        ensures { result ≡ self }
+    {
+        let Index { items, places } = self;
+        drop(places);
+        items
+    }
+
+    fn has(&self, key: &Key) -> bool
+        ensures { result ≡ is_some (find (λ x. scope.same_key (T.keyed x) key.now) self.now) }
+    {
+        self.find(key).is_some()
+    }
+
+    /// Adds an item behind the others.
+    pub(crate) fn add(&mut self, item: T) -> Result<(), NoMemory>
+        ensures ok { OnOk result (self.new ≡ self.old ++ item ∷ []) }
+        ensures err { OnErr result (self.new ≡ self.old) }
+    {
+        let place = self.items.len();
+        let known = self.has(item.key());
+        self.places.put_new(item.key(), place, known)?;
+        self.items.push(item)?;
+        Ok(())
+    }
+
     /// Adds an item behind the others.
     pub fn push(&mut self, item: T) -> Result<(), NoMemory>
         ensures { OnOk result (self.new ≡ self.old ++ item ∷ []) }
     {
-        if self.places.push(key_mark(item.key())).is_err() {
-            return Err(NoMemory);
-        }
-        if self.items.push(item).is_err() {
-            self.places.pop();
-            return Err(NoMemory);
-        }
-        Ok(())
+        self.add(item)
+    }
+
+    /// Takes the last item away.
+    pub fn pop(&mut self) -> Option<T>
+        ensures { MatchOption result ((self.old ≡ []) × (self.new ≡ [])) (λ last. self.old ≡ self.new ++ last ∷ []) }
+    {
+        self.items.pop()
     }
 
     /// The first item of that key.
     pub fn find(&self, key: &Key) -> Option<&T>
         ensures { option_copied result ≡ find (λ x. scope.same_key (T.keyed x) key.now) self.now }
     {
-        let from = self.places.place(key_mark(key));
-        found_among(&self.items.as_slice()[from..], key)
+        let place = self.places.get(key);
+        keyed_at(self.items.as_slice(), place, key)
     }
 }

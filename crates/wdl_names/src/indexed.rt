@@ -1,12 +1,12 @@
-ghost use Rattle.std.specs.Prelude.{◌≡◌, ◌<◌, ◌≤◌, IfOk, IfSome, drop, length, map, option_and_then, slice_get};
+ghost use Rattle.std.specs.Prelude.{◌≡◌, ◌<◌, ℕ, List, IfOk, IfSome, length, option_and_then, slice_get};
+ghost use Rattle.std.specs.BTreeMap.{get_by_text};
 ghost use Rattle.std.specs.List.{find};
 ghost use Rattle.std.specs.Option.{option_copied};
 ghost use Rattle.std.specs.Str.{bytes_eq};
-ghost use Rattle.wdl_names.specs.Marks as mark;
+ghost use Rattle.wdl_names.specs.Firsts.{first_place_of};
 
-use crate::mark::name_mark;
+use crate::name_places::NamePlaces;
 use crate::named::Named;
-use crate::places::Places;
 use std::alloc::Global;
 use std::marker::Model;
 use wdl_value::{Name, NoMemory};
@@ -15,13 +15,15 @@ use wdl_value::{Name, NoMemory};
 #[derive(Drop)]
 pub struct Indexed<'a, T: Named> {
     items: &'a [T],
-    places: Places,
+    places: NamePlaces,
 }
 
 impl<'a, T: Named> Model for Indexed<'a, T> {
-    ghost use Rattle.std.specs.Prelude.{◌≡◌, List, map};
+    ghost use Rattle.std.specs.Prelude.{◌≡◌, ℕ, List};
+    ghost use Rattle.std.specs.BTreeMap.{get_by_text};
     ghost use Rattle.std.specs.Coded.{coded_list};
-    ghost use Rattle.wdl_names.specs.Marks.{name_mark};
+    ghost use Rattle.std.specs.Str.{bytes_eq};
+    ghost use Rattle.wdl_names.specs.Firsts.{first_place_of};
 
     ghost Value = { List T };
 
@@ -29,30 +31,19 @@ impl<'a, T: Named> Model for Indexed<'a, T> {
 
     ghost view = { λ s. s.items.now };
 
-    ghost invariant = { λ s. s.places ≡ map (λ (x : T). name_mark (T.named x)) s.items.now };
+    ghost invariant = { λ s. (q : List ℕ) → get_by_text s.places.places q ≡ first_place_of (λ (x : T). bytes_eq (T.named x) q) s.items.now };
 }
 
-/// Where the first item of that name stands, from a place on.
-fn place_among<T: Named>(items: &[T], from: usize, name: &Name) -> Option<usize>
-    requires { from ≤ length items.now }
-    ensures found { option_and_then (slice_get items.now) result ≡ find (λ x. bytes_eq (T.named x) name.now) (drop from items.now) }
-    ensures within { IfSome result (λ p. p < length items.now) }
+/// Where each name first stands. It goes from the last item to the first, so that an earlier one takes the place of a
+/// later one.
+fn places_of<T: Named>(alloc: Global, items: &[T]) -> Result<NamePlaces, NoMemory>
+    ensures { IfOk result (λ p. (q : List ℕ) → get_by_text p.places q ≡ first_place_of (λ x. bytes_eq (T.named x) q) items.now) }
 {
-    for place in from..items.len() {
-        if items[place].name().same(name) {
-            return Some(place);
-        }
-    }
-    None
-}
-
-/// The numbers of the items' names.
-fn places_of<T: Named>(alloc: Global, items: &[T]) -> Result<Places, NoMemory>
-    ensures { IfOk result (λ p. p ≡ map (λ x. mark.name_mark (T.named x)) items.now) }
-{
-    let mut places = Places::empty(alloc);
-    for item in items {
-        places.push(name_mark(item.name()))?;
+    let mut places = NamePlaces::empty(alloc);
+    let mut place = items.len();
+    while place > 0 {
+        place -= 1;
+        places.put(items[place].name(), place)?;
     }
     Ok(places)
 }
@@ -78,8 +69,7 @@ impl<'a, T: Named> Indexed<'a, T> {
         ensures found { option_and_then (slice_get self.now) result ≡ find (λ x. bytes_eq (T.named x) name.now) self.now }
         ensures within { IfSome result (λ p. p < length self.now) }
     {
-        let from = self.places.place(name_mark(name));
-        place_among(self.items, from, name)
+        self.places.get(name)
     }
 
     /// The first item of that name.

@@ -1,12 +1,13 @@
-ghost use Rattle.std.specs.Prelude.{◌≡◌, ◌++◌, ◌∷◌, [], length, take, OnOk, OnErr, MatchOption};
+ghost use Rattle.std.specs.Prelude.{◌≡◌, ◌++◌, ◌∷◌, [], length, take, option_and_then, option_map, slice_get, OnOk, OnErr, MatchOption};
 ghost use Rattle.std.specs.Option.{option_copied};
 ghost use Rattle.wdl_typed.specs.Scope as scope;
+ghost use Rattle.wdl_typed.specs.declared.scope.Bound.{Bound};
+ghost use Rattle.wdl_names.specs.Firsts.{passes};
 ghost use Rattle.wdl_names.specs.Names as spec;
 
-use crate::key::same_key;
-use crate::mark::{call_mark, key_mark, name_mark};
-use crate::places::Places;
-use sqlite_items::Items;
+use crate::index::Index;
+use crate::keyed::Keyed;
+use crate::name_places::NamePlaces;
 use std::alloc::Global;
 use std::marker::Model;
 use wdl_typed::Bound;
@@ -16,15 +17,16 @@ use wdl_value::{Key, Name, NoMemory, Ty};
 /// key the first counts.
 #[derive(Debug, Drop)]
 pub struct Names {
-    bounds: Items<Bound>,
-    keys: Places,
-    calls: Places,
+    bounds: Index<Bound>,
+    calls: NamePlaces,
 }
 
 impl Model for Names {
-    ghost use Rattle.std.specs.Prelude.{◌≡◌, List};
+    ghost use Rattle.std.specs.Prelude.{List, ℕ};
+    ghost use Rattle.std.specs.BTreeMap.{get_by_text};
     ghost use Rattle.wdl_typed.specs.declared.scope.Bound.{Bound};
-    ghost use Rattle.wdl_names.specs.Marks.{key_marks, call_marks};
+    ghost use Rattle.wdl_names.specs.Firsts.{Finds};
+    ghost use Rattle.wdl_names.specs.Names.{is_call_of};
 
     ghost Value = { List Bound };
 
@@ -35,7 +37,15 @@ impl Model for Names {
 
     ghost view = { λ n. n.bounds };
 
-    ghost invariant = { λ n. (n.keys ≡ key_marks n.bounds) × (n.calls ≡ call_marks n.bounds) };
+    ghost invariant = { λ n. Finds is_call_of (get_by_text n.calls.places) n.bounds };
+}
+
+impl Keyed for Bound {
+    ghost keyed = { λ b. b.key };
+
+    fn key(&self) -> &Key {
+        &self.key
+    }
 }
 
 fn is_output_of(key: &Key, name: &Name) -> bool
@@ -44,26 +54,26 @@ fn is_output_of(key: &Key, name: &Name) -> bool
     key.second.is_some() && key.first.same(name)
 }
 
-fn type_among<'a>(bounds: &'a [Bound], key: &Key) -> Option<&'a Ty>
-    ensures { option_copied result ≡ scope.type_in bounds.now key.now }
+/// Whether an output of a call of that name stands at the place.
+fn stands(bounds: &[Bound], place: Option<usize>, name: &Name) -> bool
+    ensures { result ≡ passes (spec.is_call_of name.now) (option_and_then (slice_get bounds.now) place) }
 {
-    for bound in bounds {
-        if same_key(&bound.key, key) {
-            return Some(&bound.ty);
-        }
+    let Some(place) = place else {
+        return false;
+    };
+    match bounds.get(place) {
+        Some(bound) => is_output_of(&bound.key, name),
+        None => false,
     }
-    None
 }
 
-fn is_call_among(bounds: &[Bound], name: &Name) -> bool
-    ensures { result ≡ spec.is_call bounds.now name.now }
+fn ty_of(bound: Option<&Bound>) -> Option<&Ty>
+    ensures { option_copied result ≡ option_map (λ (b : Bound). b.ty) (option_copied bound.entry) }
 {
-    for bound in bounds {
-        if is_output_of(&bound.key, name) {
-            return true;
-        }
+    match bound {
+        Some(bound) => Some(&bound.ty),
+        None => None,
     }
-    false
 }
 
 impl Names {
@@ -72,9 +82,8 @@ impl Names {
         ensures { result ≡ [] }
     {
         Names {
-            bounds: Items::new(alloc),
-            keys: Places::empty(alloc),
-            calls: Places::empty(alloc),
+            bounds: Index::empty(alloc),
+            calls: NamePlaces::empty(alloc),
         }
     }
 
@@ -85,34 +94,31 @@ impl Names {
         self.bounds.len()
     }
 
+    /// Whether the key is no output of a call, or one of a call that is there.
+    fn is_known(&self, key: &Key) -> bool
+        ensures { result ≡ spec.is_known self.now key.now.first key.now.second }
+    {
+        match &key.second {
+            None => true,
+            Some(_) => self.is_call(&key.first),
+        }
+    }
+
     /// Adds a name behind the others.
     pub fn enter(&mut self, bound: Bound) -> Result<(), NoMemory>
         ensures ok { OnOk result (self.new ≡ self.old ++ bound ∷ []) }
         ensures err { OnErr result (self.new ≡ self.old) }
     {
-        let key = key_mark(&bound.key);
-        let call = call_mark(&bound.key);
-        if self.keys.push(key).is_err() {
-            return Err(NoMemory);
-        }
-        if self.calls.push(call).is_err() {
-            self.keys.pop();
-            return Err(NoMemory);
-        }
-        if self.bounds.push(bound).is_err() {
-            self.calls.pop();
-            self.keys.pop();
-            return Err(NoMemory);
-        }
-        Ok(())
+        let place = self.bounds.len();
+        let known = self.is_known(&bound.key);
+        self.calls.put_new(&bound.key.first, place, known)?;
+        self.bounds.add(bound)
     }
 
     /// Takes the last name away.
     pub fn leave(&mut self) -> Option<Bound>
         ensures { MatchOption result ((self.old ≡ []) × (self.new ≡ [])) (λ last. self.old ≡ self.new ++ last ∷ []) }
     {
-        self.keys.pop();
-        self.calls.pop();
         self.bounds.pop()
     }
 
@@ -129,15 +135,14 @@ impl Names {
     pub fn type_of(&self, key: &Key) -> Option<&Ty>
         ensures { option_copied result ≡ scope.type_in self.now key.now }
     {
-        let from = self.keys.place(key_mark(key));
-        type_among(&self.bounds.as_slice()[from..], key)
+        ty_of(self.bounds.find(key))
     }
 
     /// Whether one of the names is an output of a call of that name.
     pub fn is_call(&self, name: &Name) -> bool
         ensures { result ≡ spec.is_call self.now name.now }
     {
-        let from = self.calls.place(name_mark(name));
-        is_call_among(&self.bounds.as_slice()[from..], name)
+        let place = self.calls.get(name);
+        stands(self.bounds.as_slice(), place, name)
     }
 }

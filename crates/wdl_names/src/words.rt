@@ -1,8 +1,9 @@
-ghost use Rattle.std.specs.Prelude.{◌≡◌, ◌++◌, ◌∷◌, [], length, take, OnOk, OnErr, MatchOption};
+ghost use Rattle.std.specs.Prelude.{◌≡◌, ◌++◌, ◌∷◌, [], length, take, option_and_then, slice_get, OnOk, OnErr, MatchOption};
+ghost use Rattle.std.specs.Str.{bytes_eq};
 ghost use Rattle.wdl_typed.specs.Lists as spec;
+ghost use Rattle.wdl_names.specs.Firsts.{passes};
 
-use crate::mark::name_mark;
-use crate::places::Places;
+use crate::name_places::NamePlaces;
 use sqlite_items::Items;
 use std::alloc::Global;
 use std::marker::Model;
@@ -12,29 +13,33 @@ use wdl_value::{Name, NoMemory};
 #[derive(Debug, Drop)]
 pub struct Words {
     names: Items<Name>,
-    places: Places,
+    places: NamePlaces,
 }
 
 impl Model for Words {
-    ghost use Rattle.std.specs.Prelude.{◌≡◌, List, ℕ};
-    ghost use Rattle.wdl_names.specs.Marks.{name_marks};
+    ghost use Rattle.std.specs.Prelude.{List, ℕ};
+    ghost use Rattle.std.specs.BTreeMap.{get_by_text};
+    ghost use Rattle.std.specs.Str.{bytes_eq};
+    ghost use Rattle.wdl_names.specs.Firsts.{Finds};
 
     ghost Value = { List (List ℕ) };
 
     ghost view = { λ w. w.names };
 
-    ghost invariant = { λ w. w.places ≡ name_marks w.names };
+    ghost invariant = { λ w. Finds (λ (q : List ℕ) (n : List ℕ). bytes_eq n q) (get_by_text w.places.places) w.names };
 }
 
-fn is_among(names: &[Name], name: &Name) -> bool
-    ensures { result ≡ spec.has_name name.now names.now }
+/// Whether that name stands at the place.
+fn stands(names: &[Name], place: Option<usize>, name: &Name) -> bool
+    ensures { result ≡ passes (λ n. bytes_eq n name.now) (option_and_then (slice_get names.now) place) }
 {
-    for other in names {
-        if other.same(name) {
-            return true;
-        }
+    let Some(place) = place else {
+        return false;
+    };
+    match names.get(place) {
+        Some(other) => other.same(name),
+        None => false,
     }
-    false
 }
 
 impl Words {
@@ -44,7 +49,7 @@ impl Words {
     {
         Words {
             names: Items::new(alloc),
-            places: Places::empty(alloc),
+            places: NamePlaces::empty(alloc),
         }
     }
 
@@ -59,8 +64,8 @@ impl Words {
     pub fn has(&self, name: &Name) -> bool
         ensures { result ≡ spec.has_name name.now self.now }
     {
-        let from = self.places.place(name_mark(name));
-        is_among(&self.names.as_slice()[from..], name)
+        let place = self.places.get(name);
+        stands(self.names.as_slice(), place, name)
     }
 
     /// Adds a name behind the others.
@@ -68,13 +73,10 @@ impl Words {
         ensures ok { OnOk result (self.new ≡ self.old ++ name ∷ []) }
         ensures err { OnErr result (self.new ≡ self.old) }
     {
-        if self.places.push(name_mark(&name)).is_err() {
-            return Err(NoMemory);
-        }
-        if self.names.push(name).is_err() {
-            self.places.pop();
-            return Err(NoMemory);
-        }
+        let place = self.names.len();
+        let known = self.has(&name);
+        self.places.put_new(&name, place, known)?;
+        self.names.push(name)?;
         Ok(())
     }
 
@@ -82,7 +84,6 @@ impl Words {
     pub fn leave(&mut self) -> Option<Name>
         ensures { MatchOption result ((self.old ≡ []) × (self.new ≡ [])) (λ last. self.old ≡ self.new ++ last ∷ []) }
     {
-        self.places.pop();
         self.names.pop()
     }
 

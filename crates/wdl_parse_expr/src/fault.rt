@@ -3,14 +3,17 @@ ghost use Rattle.wdl_parse_expr.specs.declared.fault.ParseFault.TheVariants.{NoM
 ghost use Rattle.wdl_parse_expr.specs.declared.fault.Stop.TheVariants.{NoMemory as StopNoMemory};
 
 use std::alloc::AllocError;
+use thiserror::Error;
 use wdl_value::{NoMemory, Span};
 
 /// Why no tree was given. The codes are 110 (no such tree starts there), 111 (reading met the limit of depth), and those of
 /// forms that are left out: 120 (fractions, `Float`, and the functions that give one), 121 (`Object`, `object` and
 /// their functions), 122 (`sub`), 123 (`read_json`, `write_json`).
-#[derive(Clone, Copy, Debug, PartialEq, Eq)]
+#[derive(Clone, Copy, Debug, PartialEq, Eq, Error)]
 pub enum ParseFault {
+    #[error("error {code}")]
     Bad { code: u16, span: Span },
+    #[error("out of memory")]
     NoMemory,
 }
 

@@ -1,8 +1,6 @@
 -- The value of an expression hangs on the values of its own names alone.
-use Rattle.std.proofs.Common.{◌≡◌, ℕ, Bool, true, false, ◌||◌, List, [], ◌∷◌, ◌++◌, map, Option, Some, None, sym, ap, ◌∙◌, subst, refl}
-use Rattle.std.proofs.lemmas.Bool.{false≢true, or_left, or_right, and_from}
-use Rattle.std.specs.Str.{bytes_eq}
-use Rattle.std.proofs.lemmas.Slice.Eq.{bytes_eq-Decides}
+use Rattle.std.proofs.Common.{◌≡◌, Bool, true, false, ◌||◌, List, [], ◌∷◌, ◌++◌, map, sym, ap, ◌∙◌, subst, refl}
+use Rattle.std.proofs.lemmas.Bool.{false≢true, or_left, or_right}
 use Rattle.wdl_base.specs.declared.name.Key.{Key}
 use Rattle.wdl_value.specs.declared.env.Bind.{Bind}
 use Rattle.wdl_value.specs.declared.value.Value.{Value}
@@ -15,8 +13,9 @@ use Rattle.wdl_typed.specs.declared.expr.TPart.{TPart}
 use Rattle.wdl_typed.specs.declared.expr.TPart.TheVariants as part
 use Rattle.wdl_typed.specs.Evaluation.{Met, found, met, node_step, settled, then_, value_met, value_of, value_step}
 use Rattle.wdl_typed.specs.Requests.{before}
-use Rattle.wdl_typed.specs.Scope.{all_names, field_names, is_among, lookup, names_of, names_step, part_names, row_names, same_key, same_second}
+use Rattle.wdl_typed.specs.Scope.{all_names, field_names, is_among, lookup, names_of, names_step, part_names, row_names, same_key}
 use Rattle.wdl_eval.proofs.PartMaps.{part_of, parts_map}
+use Rattle.flow_soundness.proofs.NewNames.{same_key-refl}
 
 -- ---- names among others
 
@@ -31,13 +30,6 @@ among_left key (x ∷ xs) ys h = either (same_key x key) (is_among key xs) (is_a
 pub among_right : (key : Key) (xs ys : List Key) → is_among key ys ≡ true → is_among key (xs ++ ys) ≡ true
 among_right key [] ys h = h
 among_right key (x ∷ xs) ys h = or_right (same_key x key) (is_among key (xs ++ ys)) (among_right key xs ys h)
-
-second_same : (s : Option (List ℕ)) → same_second s s ≡ true
-second_same (Some s) = (bytes_eq-Decides s s).1 refl
-second_same None = refl
-
-pub same_key-refl : (key : Key) → same_key key key ≡ true
-same_key-refl key = and_from (bytes_eq key.first key.first) (same_second key.second key.second) ((bytes_eq-Decides key.first key.first).1 refl) (second_same key.second)
 
 among_one : (key : Key) → is_among key (key ∷ []) ≡ true
 among_one key = or_left (same_key key key) false (same_key-refl key)

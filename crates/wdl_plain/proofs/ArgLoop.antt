@@ -11,7 +11,7 @@ use Rattle.wdl_typed.specs.Flow.{Known, all_known, arg_bind, args_known, args_me
 use Rattle.wdl_typed.specs.Requests.{Tried, before, tried}
 use Rattle.wdl_eval.specs.Ready.{IsReady}
 use Rattle.wdl_task.proofs.Loops.{cut}
-use Rattle.wdl_plain.specs.Readiness.{AreArgsReady}
+use Rattle.flow_soundness.specs.Readiness.{AreArgsReady}
 
 none_before : (o : Tried (List Bind)) → tried o (λ more. Ok ([] ++ more)) ≡ o
 none_before (Ok more) = refl

@@ -15,7 +15,8 @@ use Rattle.wdl_eval.specs.Ready.{IsGiven, IsReady}
 use Rattle.wdl_flow.specs.declared.known.Known.{Known}
 use Rattle.wdl_plain.specs.Referring.{pick, picked, picks}
 use Rattle.wdl_flow.specs.Views.{env_in, knowns_of}
-use Rattle.wdl_plain.proofs.Alike.{Agree, same_key-refl, values_alike}
+use Rattle.flow_soundness.proofs.NewNames.{same_key-refl}
+use Rattle.wdl_plain.proofs.Alike.{Agree, values_alike}
 use Rattle.wdl_flow.proofs.MarkLemmas.{same_key-true}
 use Rattle.wdl_plain.proofs.PickLemmas.{picked_is}
 

@@ -27,7 +27,8 @@ use Rattle.wdl_flow.specs.declared.flowing.Flowing.{Flowing as Made}
 use Rattle.wdl_flow.specs.Flows.{Flows, counted}
 use Rattle.wdl_flow.proofs.Limits.{many_left, many_right}
 use Rattle.wdl_flow.proofs.Turns.{together_assoc, together_nothing}
-use Rattle.wdl_plain.specs.Readiness.{IsStatementReady}
+use Rattle.flow_soundness.specs.Readiness.{IsStatementReady}
+use Rattle.flow_soundness.specs.StatementFlow.{statement_flow}
 use Rattle.wdl_plain.specs.Walk as spec
 use Rattle.wdl_plain.proofs.Forms.{decl_is}
 
@@ -55,8 +56,8 @@ ready_as lib levels st x s e h = subst (λ (z : Statement). IsStatementReady lib
 module _ (r : Run) (depth : ℕ) (s : Sight) where
   -- ---- statements by their form
 
-  pub gives_decl : (st : Statement) (d : TDecl) → st ≡ stmt.Decl d → spec.statement_flow r depth st s ≡ flow.declaration s d.name d.value
-  gives_decl st d e = ap (λ (x : Statement). spec.statement_flow r depth x s) e ∙ decl_is r depth s d
+  pub gives_decl : (st : Statement) (d : TDecl) → st ≡ stmt.Decl d → statement_flow r depth st s ≡ flow.declaration s d.name d.value
+  gives_decl st d e = ap (λ (x : Statement). statement_flow r depth x s) e ∙ decl_is r depth s d
 
   -- ---- scatters
 

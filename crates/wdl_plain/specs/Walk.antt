@@ -1,21 +1,16 @@
--- The flow of each form of statement, with callees to a depth.
+-- The flow of a body and of each form of statement, with callees to a depth.
 use Rattle.std.specs.Prelude.{ℕ, List, [], ◌∷◌, map}
 use Rattle.wdl_value.specs.declared.value.Value.{Value}
-use Rattle.wdl_typed.specs.declared.flow.Statement.{Statement, fold-Statement}
+use Rattle.wdl_typed.specs.declared.flow.Statement.{Statement}
 use Rattle.wdl_typed.specs.declared.flow.TCall.{TCall}
 use Rattle.wdl_typed.specs.declared.flow.TIf.{TIf}
 use Rattle.wdl_typed.specs.declared.flow.TScatter.{TScatter}
 use Rattle.wdl_typed.specs.Bodies.{signature}
-use Rattle.wdl_typed.specs.Flow.{Names, Part, Run, Runner, Sight, body_names, body_run, call_of, each_item, flow, gathered, if_run, item_sight as entering, run_of_part, scatter_run, signature_keys, statement_step}
-
-abbrev pub part_of : Run → ℕ → Statement → Part
-part_of r depth = fold-Statement Part (statement_step r (flow r depth))
+use Rattle.wdl_typed.specs.Flow.{Names, Part, Run, Runner, Sight, body_names, body_run, call_of, each_item, flow, gathered, if_run, item_sight as entering, scatter_run, signature_keys}
+use Rattle.flow_soundness.specs.StatementFlow.{part_of}
 
 abbrev pub parts_of : Run → ℕ → List Statement → List Part
 parts_of r depth ss = map (part_of r depth) ss
-
-abbrev pub statement_flow : Run → ℕ → Statement → Runner
-statement_flow r depth st = run_of_part (part_of r depth st)
 
 abbrev pub body_flow : Run → ℕ → List Statement → Runner
 body_flow r depth ss = body_run (parts_of r depth ss)

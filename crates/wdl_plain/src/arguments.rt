@@ -6,7 +6,7 @@ ghost use Rattle.wdl_typed.specs.Evaluation.{value_of};
 ghost use Rattle.wdl_typed.specs.Requests.{before};
 ghost use Rattle.wdl_eval.specs.Ready.{IsReady};
 ghost use Rattle.wdl_task.specs.Tells.{Tells};
-ghost use Rattle.wdl_plain.specs.Readiness.{AreArgsReady};
+ghost use Rattle.flow_soundness.specs.Readiness.{AreArgsReady};
 ghost use Rattle.wdl_typed.specs.Flow as flow;
 ghost use Rattle.wdl_flow.specs.Views.{endeds_of, env_in, knowns_of};
 

@@ -7,11 +7,9 @@ mod blocks;
 mod callee;
 mod declaration;
 mod flow;
-mod laws;
 mod referring;
 mod valued;
 mod walk;
 
 pub use flow::{Flow, flow_now};
-pub use laws::flows_fit;
 pub use wdl_flow::PlainFault;

@@ -9,7 +9,8 @@ ghost use Rattle.wdl_typed.specs.Flow as flow;
 ghost use Rattle.wdl_task.specs.Readiness.{are_given};
 ghost use Rattle.wdl_flow.specs.Flows.{Flows};
 ghost use Rattle.wdl_flow.specs.Views.{env_in, flowing_of, given_of, run_of, sight_of};
-ghost use Rattle.wdl_plain.specs.Readiness.{AreItemsReady, IsBodyReady, IsCalleeReady, IsFlowReady, IsStatementReady};
+ghost use Rattle.flow_soundness.specs.Readiness.{AreItemsReady, IsBodyReady, IsCalleeReady, IsFlowReady, IsStatementReady};
+ghost use Rattle.flow_soundness.specs.StatementFlow as statements;
 ghost use Rattle.wdl_plain.specs.Walk as spec;
 
 use crate::arguments::{args_met, may_begin};
@@ -59,7 +60,7 @@ fn statement_flow<'a, L: Ledger>(
     steps: &mut Steps<L>,
 ) -> Result<Flowing, PlainFault>
     requires ready { IsStatementReady (run_of ground.now).library reach.levels statement.now (sight_of sight.old) }
-    ensures flow { Flows (spec.statement_flow (run_of ground.now) reach.calls statement.now (sight_of sight.old)) result }
+    ensures flow { Flows (statements.statement_flow (run_of ground.now) reach.calls statement.now (sight_of sight.old)) result }
     ensures kept { IfOk result (λ f. sight_of sight.new ≡ sight_of sight.old) }
 {
     match statement {

@@ -4,13 +4,16 @@ ghost use Rattle.wdl_port.specs.declared.fault.LaunchFault.TheVariants.{NoMemory
 ghost use Rattle.wdl_port.specs.declared.fault.KeepFault.TheVariants.{NoMemory as KeepNoMemory};
 
 use std::alloc::{AllocError, AllocFailed};
+use thiserror::Error;
 use wdl_value::NoMemory;
 
 /// Why a shelf gave no file.
-#[derive(Clone, Copy, Debug, PartialEq, Eq)]
+#[derive(Clone, Copy, Debug, PartialEq, Eq, Error)]
 pub enum ReadFault {
     /// The file is not there or could not be read, and the shelf counted a fault.
+    #[error("the file could not be read")]
     Failed,
+    #[error("out of memory")]
     NoMemory,
 }
 
@@ -39,14 +42,17 @@ impl<T: Drop> From<AllocFailed<T>> for ReadFault {
 }
 
 /// A write failed: the sink counted a fault, and nothing was appended.
-#[derive(Clone, Copy, Debug, PartialEq, Eq)]
+#[derive(Clone, Copy, Debug, PartialEq, Eq, Error)]
+#[error("the text could not be written")]
 pub struct WriteFault;
 
 /// Why a launcher gave no answer.
-#[derive(Clone, Copy, Debug, PartialEq, Eq)]
+#[derive(Clone, Copy, Debug, PartialEq, Eq, Error)]
 pub enum LaunchFault {
     /// The launcher refuses the request.
+    #[error("the job could not be started")]
     Refused,
+    #[error("out of memory")]
     NoMemory,
 }
 
@@ -75,10 +81,12 @@ impl<T: Drop> From<AllocFailed<T>> for LaunchFault {
 }
 
 /// Why a call of a keeper failed.
-#[derive(Clone, Copy, Debug, PartialEq, Eq)]
+#[derive(Clone, Copy, Debug, PartialEq, Eq, Error)]
 pub enum KeepFault {
     /// The keeper counted a fault.
+    #[error("the journal could not be read or written")]
     Failed,
+    #[error("out of memory")]
     NoMemory,
 }
 

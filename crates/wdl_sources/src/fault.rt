@@ -2,6 +2,7 @@ ghost use Rattle.std.specs.Prelude.{◌≡◌};
 ghost use Rattle.wdl_sources.specs.declared.fault.ImportFault.TheVariants.{NoMemory as OutOfMemory};
 
 use std::alloc::{AllocError, AllocFailed};
+use thiserror::Error;
 use wdl_value::{NoMemory, Span, Text};
 
 /// Why a library was not gathered.
@@ -11,10 +12,13 @@ use wdl_value::{NoMemory, Span, Text};
 /// that is being read; 203 two imports of a document with one namespace; 204 a struct name that a document sees with another
 /// list of members; 205 a 65th document; 206 an alias for a struct that the imported document does not see; 207 an import
 /// without `as` of a file whose name without `.wdl` is no name.
-#[derive(Debug, Drop)]
+#[derive(Debug, Drop, Error)]
 pub enum ImportFault {
+    #[error("a document could not be read")]
     Read { path: Text },
+    #[error("error {code}")]
     Bad { code: u16, path: Text, span: Span },
+    #[error("out of memory")]
     NoMemory,
 }
 

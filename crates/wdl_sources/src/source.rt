@@ -6,6 +6,7 @@ ghost use Rattle.wdl_sources.specs.Reading as spec;
 ghost use Rattle.wdl_sources.specs.Walks.{FetchCounts, Fetches};
 
 use std::alloc::Global;
+use thiserror::Error;
 use wdl_ast::Document;
 use wdl_lex::{LexFault, lex};
 use wdl_parse_doc::parse;
@@ -44,11 +45,14 @@ pub fn document_of(alloc: Global, bytes: &[u8], number: u32) -> Result<Document,
 }
 
 /// Why there is no document at a path.
-#[derive(Clone, Copy, Debug, PartialEq, Eq)]
+#[derive(Clone, Copy, Debug, PartialEq, Eq, Error)]
 pub enum SourceFault {
     /// The shelf refuses the path, and counted a fault.
+    #[error("the document could not be read")]
     Failed,
+    #[error("error {code}")]
     Bad { code: u16, span: Span },
+    #[error("out of memory")]
     NoMemory,
 }
 

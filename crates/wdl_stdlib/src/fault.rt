@@ -2,12 +2,15 @@ ghost use Rattle.std.specs.Prelude.{◌≡◌};
 ghost use Rattle.wdl_stdlib.specs.declared.fault.EvalFault.TheVariants.{NoMemory as OutOfMemory};
 
 use std::alloc::{AllocError, AllocFailed};
+use thiserror::Error;
 use wdl_value::{EvalCode, NoMemory};
 
 /// Why an evaluation gives no value: one of the codes 501 to 516, or want of memory.
-#[derive(Clone, Copy, Debug, PartialEq, Eq)]
+#[derive(Clone, Copy, Debug, PartialEq, Eq, Error)]
 pub enum EvalFault {
+    #[error("the evaluation gives no value")]
     Code(EvalCode),
+    #[error("out of memory")]
     NoMemory,
 }
 

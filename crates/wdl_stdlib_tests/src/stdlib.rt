@@ -29,23 +29,31 @@ fn operators_have_the_values_of_the_table(rt: HostRuntime) -> Result<(), Fail> {
     for (op, cases) in [
         (
             Op::Mul,
-            "4294967296 2147483648=Overflow|-4294967296 2147483648=-9223372036854775808|-9223372036854775808 -1=Overflow|-9223372036854775807 -1=9223372036854775807|3 -2=-6|0 -9223372036854775808=0",
+            "4294967296 2147483648=Overflow|-4294967296 2147483648=-9223372036854775808|\
+             -9223372036854775808 -1=Overflow|-9223372036854775807 -1=9223372036854775807|3 -2=-6|\
+             0 -9223372036854775808=0",
         ),
         (
             Op::Div,
-            "-7 2=-3|7 -2=-3|7 2=3|-7 -2=3|0 7=0|1 0=ZeroDivisor|-9223372036854775808 -1=Overflow|-9223372036854775807 -1=9223372036854775807|-9223372036854775808 1=-9223372036854775808",
+            "-7 2=-3|7 -2=-3|7 2=3|-7 -2=3|0 7=0|1 0=ZeroDivisor|-9223372036854775808 -1=Overflow|\
+             -9223372036854775807 -1=9223372036854775807|\
+             -9223372036854775808 1=-9223372036854775808",
         ),
         (
             Op::Rem,
-            "-7 2=-1|7 -2=1|-7 -2=-1|6 3=0|1 0=ZeroDivisor|-9223372036854775808 -1=0|9223372036854775807 -9223372036854775808=9223372036854775807",
+            "-7 2=-1|7 -2=1|-7 -2=-1|6 3=0|1 0=ZeroDivisor|-9223372036854775808 -1=0|\
+             9223372036854775807 -9223372036854775808=9223372036854775807",
         ),
         (
             Op::Add,
-            "9223372036854775807 1=Overflow|9223372036854775807 0=9223372036854775807|-9223372036854775808 -1=Overflow|-9223372036854775807 -1=-9223372036854775808|'a 'b='ab|</x -1='/x-1|true </x='true/x|'a true='atrue",
+            "9223372036854775807 1=Overflow|9223372036854775807 0=9223372036854775807|\
+             -9223372036854775808 -1=Overflow|-9223372036854775807 -1=-9223372036854775808|\
+             'a 'b='ab|</x -1='/x-1|true </x='true/x|'a true='atrue",
         ),
         (
             Op::Sub,
-            "-9223372036854775808 1=Overflow|-1 9223372036854775807=-9223372036854775808|0 -9223372036854775808=Overflow|-1 -9223372036854775808=9223372036854775807",
+            "-9223372036854775808 1=Overflow|-1 9223372036854775807=-9223372036854775808|\
+             0 -9223372036854775808=Overflow|-1 -9223372036854775808=9223372036854775807",
         ),
         (
             Op::AddMaybe,
@@ -53,14 +61,16 @@ fn operators_have_the_values_of_the_table(rt: HostRuntime) -> Result<(), Fail> {
         ),
         (
             Op::Lt,
-            "1 2=true|2 2=false|-1 1=true|'a 'ab=true|'b 'ab=false|'Z 'a=true|false true=true|true true=false",
+            "1 2=true|2 2=false|-1 1=true|'a 'ab=true|'b 'ab=false|'Z 'a=true|false true=true|\
+             true true=false",
         ),
         (Op::Le, "2 2=true|3 2=false|true false=false"),
         (Op::Gt, "2 1=true|2 2=false|'b 'ab=true"),
         (Op::Ge, "1 2=false|2 2=true|'a 'a=true"),
         (
             Op::Eq,
-            "3 3=true|'a 'a=true|none none=true|none 1=false|[ 1 2 ] [ 2 1 ]=false|{ 'a 1 ; 'b 2 ; } { 'b 2 ; 'a 1 ; }=false|{ 'a 1 ; 'b 2 ; } { 'a 1 ; 'b 2 ; }=true",
+            "3 3=true|'a 'a=true|none none=true|none 1=false|[ 1 2 ] [ 2 1 ]=false|\
+             { 'a 1 ; 'b 2 ; } { 'b 2 ; 'a 1 ; }=false|{ 'a 1 ; 'b 2 ; } { 'a 1 ; 'b 2 ; }=true",
         ),
         (Op::Ne, "3 3=false|( 1 2 ) ( 1 3 )=true"),
         (Op::And, "true true=true|true false=false|false true=false"),
@@ -115,11 +125,13 @@ fn functions_of_numbers_and_lists_have_their_values(rt: HostRuntime) -> Result<(
         (Func::Length, "[ 4 5 ]=2|[ ]=0"),
         (
             Func::Range,
-            "3=[ 0 1 2 ]|0=[ ]|-1=NegativeRange|100001=TooLarge|9223372036854775807=TooLarge|-9223372036854775808=NegativeRange",
+            "3=[ 0 1 2 ]|0=[ ]|-1=NegativeRange|100001=TooLarge|9223372036854775807=TooLarge|\
+             -9223372036854775808=NegativeRange",
         ),
         (
             Func::Transpose,
-            "[ [ 1 2 ] [ 3 4 ] [ 5 6 ] ]=[ [ 1 3 5 ] [ 2 4 6 ] ]|[ [ 1 2 ] [ 3 ] ]=LengthsDiffer|[ [ ] [ 1 ] ]=LengthsDiffer|[ ]=[ ]",
+            "[ [ 1 2 ] [ 3 4 ] [ 5 6 ] ]=[ [ 1 3 5 ] [ 2 4 6 ] ]|[ [ 1 2 ] [ 3 ] ]=LengthsDiffer|\
+             [ [ ] [ 1 ] ]=LengthsDiffer|[ ]=[ ]",
         ),
         (
             Func::Cross,
@@ -127,7 +139,8 @@ fn functions_of_numbers_and_lists_have_their_values(rt: HostRuntime) -> Result<(
         ),
         (
             Func::Zip,
-            "[ 1 2 ] [ 'a 'b ]=[ ( 1 'a ) ( 2 'b ) ]|[ 1 2 ] [ 3 ]=LengthsDiffer|[ 1 ] [ 3 4 ]=LengthsDiffer|[ ] [ ]=[ ]",
+            "[ 1 2 ] [ 'a 'b ]=[ ( 1 'a ) ( 2 'b ) ]|[ 1 2 ] [ 3 ]=LengthsDiffer|\
+             [ 1 ] [ 3 4 ]=LengthsDiffer|[ ] [ ]=[ ]",
         ),
         (
             Func::Unzip,
@@ -156,12 +169,14 @@ fn functions_of_maps_and_texts_have_their_values(rt: HostRuntime) -> Result<(), 
         ),
         (
             Func::AsMap,
-            "[ ]={ }|[ ( 'b 1 ) ( 'a 2 ) ]={ 'b 1 ; 'a 2 ; }|[ ( 'a 1 ) ( 'b 2 ) ( 'a 3 ) ]=RepeatedKey|[ ( 1 1 ) ( -1 2 ) ( 1 3 ) ]=RepeatedKey",
+            "[ ]={ }|[ ( 'b 1 ) ( 'a 2 ) ]={ 'b 1 ; 'a 2 ; }|\
+             [ ( 'a 1 ) ( 'b 2 ) ( 'a 3 ) ]=RepeatedKey|[ ( 1 1 ) ( -1 2 ) ( 1 3 ) ]=RepeatedKey",
         ),
         (Func::Keys, "{ 'b 1 ; 'a 2 ; }=[ 'b 'a ]|{ }=[ ]"),
         (
             Func::CollectByKey,
-            "[ ]={ }|[ ( 'b 1 ) ( 'a 2 ) ( 'b 3 ) ]={ 'b [ 1 3 ] ; 'a [ 2 ] ; }|[ ( true 1 ) ( false 2 ) ( true 3 ) ]={ true [ 1 3 ] ; false [ 2 ] ; }",
+            "[ ]={ }|[ ( 'b 1 ) ( 'a 2 ) ( 'b 3 ) ]={ 'b [ 1 3 ] ; 'a [ 2 ] ; }|\
+             [ ( true 1 ) ( false 2 ) ( true 3 ) ]={ true [ 1 3 ] ; false [ 2 ] ; }",
         ),
         (
             Func::Prefix,
@@ -185,7 +200,8 @@ fn functions_of_maps_and_texts_have_their_values(rt: HostRuntime) -> Result<(), 
         ),
         (
             Func::Basename,
-            "'/x/y.bam='y.bam|'/x/='|'y='y|'/x/y.bam '.bam='y|'y.bam '.txt='y.bam|'/x/.bam '.bam='|'y.bam '='y.bam",
+            "'/x/y.bam='y.bam|'/x/='|'y='y|'/x/y.bam '.bam='y|'y.bam '.txt='y.bam|\
+             '/x/.bam '.bam='|'y.bam '='y.bam",
         ),
         (Func::Stdout, "=</d/say/_stdout"),
         (Func::Stderr, "=</d/say/_stderr"),
@@ -319,11 +335,14 @@ fn texts_of_files_are_read(rt: HostRuntime) -> Result<(), Fail> {
         ),
         (
             Func::ReadMap,
-            "b\t1\na\t2\n={ 'b '1 ; 'a '2 ; }|={ }|a\t1\na\t2\n=RepeatedKey|a\t1\na\t2\nc\n=NotTwoColumns|a\t1\t2\n=NotTwoColumns|\n=NotTwoColumns",
+            "b\t1\na\t2\n={ 'b '1 ; 'a '2 ; }|={ }|a\t1\na\t2\n=RepeatedKey|\
+             a\t1\na\t2\nc\n=NotTwoColumns|a\t1\t2\n=NotTwoColumns|\n=NotTwoColumns",
         ),
         (
             Func::ReadInt,
-            " \t-12\r\n=-12|+007=7|-9223372036854775808=-9223372036854775808|9223372036854775808=NotAnInteger|- 1=NotAnInteger|=NotAnInteger|+=NotAnInteger|1.0=NotAnInteger|1 2=NotAnInteger",
+            " \t-12\r\n=-12|+007=7|-9223372036854775808=-9223372036854775808|\
+             9223372036854775808=NotAnInteger|- 1=NotAnInteger|=NotAnInteger|+=NotAnInteger|\
+             1.0=NotAnInteger|1 2=NotAnInteger",
         ),
         (
             Func::ReadBoolean,
@@ -361,19 +380,24 @@ fn files_are_found_by_their_paths(rt: HostRuntime) -> Result<(), Fail> {
     for (f, cases) in [
         (
             Func::ReadString,
-            "</d/say/_stdout='out|<././_stdout='out|<_stderr='|<./a.b='x|</d/say/d/f='x|</d/say/./a.b='x|</d/say//a.b=FileMissing|</a.b=FileMissing|<c=FileMissing",
+            "</d/say/_stdout='out|<././_stdout='out|<_stderr='|<./a.b='x|</d/say/d/f='x|\
+             </d/say/./a.b='x|</d/say//a.b=FileMissing|</a.b=FileMissing|<c=FileMissing",
         ),
         (
             Func::ReadString,
-            "<.//a.b='x|<d//./f='x|<c/../a.b='x|<d/f/='x|</d/say/d/../_stdout='out|<d/../../say/a.b=FileMissing|<../a.b=FileMissing|<d/..=FileMissing|<.=FileMissing|<=FileMissing|<d/...=FileMissing",
+            "<.//a.b='x|<d//./f='x|<c/../a.b='x|<d/f/='x|</d/say/d/../_stdout='out|\
+             <d/../../say/a.b=FileMissing|<../a.b=FileMissing|<d/..=FileMissing|<.=FileMissing|\
+             <=FileMissing|<d/...=FileMissing",
         ),
         (
             Func::Glob,
-            "'*=[ </d/say/a.b </d/say/a.c </d/say/b ]|'*.a=[ </d/say/.a ]|'.*=[ </d/say/.a ]|'?.?=[ </d/say/a.b </d/say/a.c ]|'?a=[ ]|'a*c=[ </d/say/a.c ]",
+            "'*=[ </d/say/a.b </d/say/a.c </d/say/b ]|'*.a=[ </d/say/.a ]|'.*=[ </d/say/.a ]|\
+             '?.?=[ </d/say/a.b </d/say/a.c ]|'?a=[ ]|'a*c=[ </d/say/a.c ]",
         ),
         (
             Func::Glob,
-            "'*/*=[ </d/say/d/f ]|'d/*e=[ ]|'d/*.e=[ </d/say/d/.e ]|'d/.e=[ </d/say/d/.e ]|'_stdout=[ ]|'b=[ </d/say/b ]|'b/=[ ]|'=[ ]",
+            "'*/*=[ </d/say/d/f ]|'d/*e=[ ]|'d/*.e=[ </d/say/d/.e ]|'d/.e=[ </d/say/d/.e ]|\
+             '_stdout=[ ]|'b=[ </d/say/b ]|'b/=[ ]|'=[ ]",
         ),
     ] {
         assert!(rt; applies(alloc, f, Some(&answer), cases)?, "{f:?}");

@@ -34,6 +34,7 @@ fn copy_bind(alloc: Global, bind: &Bind) -> Result<Bind, NoMemory>
     Ok(Bind { key, value })
 }
 
+/// A copy of bindings, in their order.
 pub fn copy_binds(alloc: Global, binds: &[Bind]) -> Result<Env, NoMemory>
     ensures { IfOk result (λ e. e ≡ binds.now) }
 {

@@ -4,14 +4,17 @@ ghost use Rattle.wdl_task.specs.Tells.{Failed, IsNamed};
 ghost use Rattle.wdl_task.specs.declared.fault.CallFault.TheVariants.{NoMemory as OutOfMemory};
 
 use std::alloc::{AllocError, AllocFailed, Global};
+use thiserror::Error;
 use wdl_eval::EvalFault;
 use wdl_value::{EvalCode, NoMemory, Text, Why};
 
 /// Why a call gives nothing: the name of the input, declaration or output that has no value (or `returnCodes`,
 /// `maxRetries`, `command` or `status`) with the cause, or want of memory.
-#[derive(Debug, Drop)]
+#[derive(Debug, Drop, Error)]
 pub enum CallFault {
+    #[error("a declaration of the task has no value")]
     Bad { name: Text, why: Why },
+    #[error("out of memory")]
     NoMemory,
 }
 

@@ -1,4 +1,2 @@
-mod DepthLemmas
-mod FindLemmas
 mod PieceLemmas
 mod PlainTypes

@@ -1,4 +1,3 @@
-pub mod Depths
 pub mod Pieces
 pub mod Standings
 pub mod Types

@@ -6,7 +6,6 @@ mod forms;
 mod kind;
 mod member;
 mod placeholder;
-mod shallow;
 mod structs;
 mod typing;
 mod written;
@@ -17,6 +16,5 @@ pub use declarations::{
 pub use forms::is_type;
 pub use kind::is_bool;
 pub use placeholder::takes_some;
-pub use shallow::{name_is_shallow, shallow_structs};
 pub use structs::are_structs;
 pub use typing::{Context, type_in_place, type_of};

@@ -2,23 +2,13 @@
 
 ghost use Rattle.std.specs.Prelude.{◌≡◌, IfOk, option_and_then};
 ghost use Rattle.std.specs.Option.{option_copied};
-ghost use Rattle.wdl_value.specs.Fits as fits;
 ghost use Rattle.wdl_typed.specs.Typing as spec;
 
 use crate::kind::is_int;
 use std::alloc::Global;
+use wdl_depths::members_of;
 use wdl_names::Indexed;
 use wdl_value::{Member, Name, NoMemory, StructDef, Ty};
-
-/// The members of the first struct of that name.
-pub fn members_of<'a>(structs: &Indexed<'a, StructDef>, name: &Name) -> Option<&'a [Member]>
-    ensures { option_copied result ≡ fits.members_of structs.now name.now }
-{
-    match structs.find(name) {
-        Some(def) => Some(def.members.as_slice()),
-        None => None,
-    }
-}
 
 fn type_among<'a>(members: &'a [Member], name: &Name) -> Option<&'a Ty>
     ensures { option_copied result ≡ spec.type_among members.now name.now }

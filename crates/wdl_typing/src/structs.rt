@@ -3,11 +3,11 @@
 ghost use Rattle.std.specs.Prelude.{◌≡◌, ◌&&◌, IfOk};
 ghost use Rattle.wdl_typed.specs.KnownTypes as spec;
 ghost use Rattle.wdl_typed.specs.Lists as lists;
-ghost use Rattle.wdl_typing.specs.Depths.{shallow_level};
+ghost use Rattle.wdl_depths.specs.Depths.{shallow_level};
 
-use crate::shallow::shallow_structs;
 use crate::written::are_written;
 use std::alloc::Global;
+use wdl_depths::shallow_structs;
 use wdl_names::{Indexed, are_distinct};
 use wdl_value::{NoMemory, StructDef};
 

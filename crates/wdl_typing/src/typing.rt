@@ -10,10 +10,11 @@ use crate::forms::{
     neg_type, not_type, pair, row_type,
 };
 use crate::kind::writes;
-use crate::member::{at, member, members_of};
+use crate::member::{at, member};
 use crate::placeholder::takes_some;
 use sqlite_items::Items;
 use std::alloc::Global;
+use wdl_depths::members_of;
 use wdl_names::{Indexed, Names};
 use wdl_typed::{TExpr, TField, TPair, TPart};
 use wdl_value::{Func, Member, Name, NoMemory, StructDef, Ty};

@@ -11,13 +11,16 @@ use crate::value::{MapRow, Value};
 use crate::value_text::{bool_text, int_text};
 use sqlite_items::{Boxed, Items};
 use std::alloc::{AllocError, Global};
+use thiserror::Error;
 use wdl_base::NoMemory;
 
 /// Why a value has no cast.
-#[derive(Clone, Copy, Debug, PartialEq, Eq)]
+#[derive(Clone, Copy, Debug, PartialEq, Eq, Error)]
 pub enum CastFault {
     /// An empty list meets the type of arrays with an item or more.
+    #[error("an empty array where an item or more is required")]
     EmptyArray,
+    #[error("out of memory")]
     NoMemory,
 }
 

@@ -2,6 +2,5 @@ mod DistinctLemmas
 mod GivenLemmas
 mod InputLemmas
 mod ItemsLemmas
-mod LevelLemmas
 mod ListLemmas
 mod NumberLemmas

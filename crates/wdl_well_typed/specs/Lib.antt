@@ -4,6 +4,5 @@ pub mod Counts
 pub mod Flows
 pub mod Given
 pub mod Items
-pub mod Levels
 pub mod Numbers
 pub mod Tasks

@@ -11,9 +11,9 @@ use crate::bodies::body_gives;
 use crate::calls::Library;
 use crate::declared::{add_declared, items_differ};
 use crate::given::Scope;
-use crate::nesting::{Levels, MOST, body_nests};
 use crate::numbered::is_numbered;
 use std::alloc::Global;
+use wdl_depths::{Levels, MOST_BLOCKS, body_nests};
 use wdl_names::{Names, Words, add_all};
 use wdl_typed::FlowDef;
 use wdl_typing::{Standing, decls_are_typed, inputs_are_typed};
@@ -79,7 +79,7 @@ pub fn flow_is_typed(
     Ok(
         names_differ(alloc, flow)?
             && is_numbered(alloc, body)?
-            && body_nests(body, levels, MOST)
+            && body_nests(body, levels, MOST_BLOCKS)
             && lists_are_typed(alloc, flow, library)?,
     )
 }

@@ -8,9 +8,7 @@ mod declared;
 mod flows;
 mod given;
 mod library;
-mod nesting;
 mod numbered;
 mod tasks;
 
 pub use library::well_typed;
-pub use nesting::{Levels, MOST, levels_of, nests};

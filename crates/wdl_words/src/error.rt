@@ -3,15 +3,17 @@ ghost use Rattle.clap.specs.Words.{kind_of};
 ghost use Rattle.wdl_words.specs.Faults.{fault_for};
 ghost use Rattle.wdl_words.specs.declared.error.WordFault.TheVariants.{NoMemory as WordNoMemory};
 
-use clap::Error;
 use clap::error::ErrorKind;
 use std::alloc::AllocError;
+use thiserror::Error;
 
 /// Why words ask for nothing.
-#[derive(Clone, Copy, Debug, PartialEq, Eq)]
+#[derive(Clone, Copy, Debug, PartialEq, Eq, Error)]
 pub enum WordFault {
     /// They have no reading.
+    #[error("the words of the command line have no reading")]
     Usage,
+    #[error("out of memory")]
     NoMemory,
 }
 
@@ -31,10 +33,10 @@ impl From<wdl_value::NoMemory> for WordFault {
     }
 }
 
-impl From<Error> for WordFault {
+impl From<clap::Error> for WordFault {
     ghost from_gives = { λ error fault. fault ≡ fault_for (kind_of error) };
 
-    fn from(error: Error) -> WordFault {
+    fn from(error: clap::Error) -> WordFault {
         match error.kind() {
             ErrorKind::OutOfMemory => WordFault::NoMemory,
             _ => WordFault::Usage,

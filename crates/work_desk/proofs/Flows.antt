@@ -16,7 +16,6 @@ use Rattle.wdl_value.specs.Tables.{Row, answer_at, has_row, is_at, is_journal, t
 use Rattle.wdl_typed.specs.Flow.{Flowing, is_clean, is_empty, nothing, too_many}
 use Rattle.wdl_typed.specs.Bodies.{Library}
 use Rattle.wdl_typed.specs.Journal.{fed, fed_after, flow_over}
-use Rattle.wdl_plain.specs.Shown.{library_of}
 use Rattle.flow_laws.specs.Below.{IsBelow}
 use Rattle.flow_laws.specs.Jobs.{has_job, is_job_at, jobs_differ}
 use Rattle.flow_laws.specs.Laws.{IsAnswered}
@@ -26,6 +25,7 @@ use Rattle.flow_laws.proofs.FlowJobs.{flow_jobs_answered, flow_jobs_differ}
 use Rattle.flow_laws.proofs.JobLists.{has_the_job, job_at, job_found}
 use Rattle.flow_laws.proofs.Longer as longer
 use Rattle.flow_laws.proofs.SameRequests.{place_same}
+use Rattle.scatter_plan.specs.Plans.{library_in}
 use Rattle.ready_core.specs.Cores.{CoreState, Origin, all_taken, fed_at, flow_at, flow_of, has_fault, idle_at, is_taken, requests}
 use Rattle.ready_core.specs.Flows.{flow_after, flow_in}
 use Rattle.ready_core.specs.Rows.{TakenJob}
@@ -36,9 +36,9 @@ grows : (o : Origin) (journal more : List Entry) → IsBelow (flow_at o journal)
 unfolding flow_after
 grows o journal more = by_main o.checked.main
   where
-    by_main : (main : Option ℕ) → IsBelow (flow_in (library_of o.checked) main o.inputs o.site journal) (flow_in (library_of o.checked) main o.inputs o.site (journal ++ more))
+    by_main : (main : Option ℕ) → IsBelow (flow_in (library_in o.checked) main o.inputs o.site journal) (flow_in (library_in o.checked) main o.inputs o.site (journal ++ more))
     by_main None = longer.below_itself nothing
-    by_main (Some k) = journals_grow (library_of o.checked) o.checked.main o.checked.kept k o.inputs o.site journal more
+    by_main (Some k) = journals_grow (library_in o.checked) o.checked.main o.checked.kept k o.inputs o.site journal more
 
 -- a fault among the faults
 pub some_fault : (f : Flowing) (x : Fault) → Contains f.faults x → has_fault f ≡ true
@@ -195,7 +195,7 @@ unfolding flow_after
 all_settled c asked even sound few idle = by_main c.origin.checked.main refl
   where
     lib : Library
-    lib = library_of c.origin.checked
+    lib = library_in c.origin.checked
 
     by_main : (m : Option ℕ) → c.origin.checked.main ≡ m → is_clean (flow_in lib c.origin.checked.main c.origin.inputs c.origin.site c.journal) ≡ true
     by_main None e = ap (λ (m : Option ℕ). is_clean (flow_in lib m c.origin.inputs c.origin.site c.journal)) e

@@ -72,9 +72,12 @@ impl<P: Pact> Desk<P> {
         requires few { shares.old.put < 20000 }
         ensures { shares.new ≡ held (shares.old.put + 1) shares.old.collected }
     {
-        let mut state = self.state.lock(rt);
-        state.know(shares);
-        state.put(job, shares);
+        {
+            let mut state = self.state.lock(rt);
+            state.know(shares);
+            state.put(job, shares);
+        }
+        // The lock is free again, so the worker that wakes need not wait for it.
         self.jobs.notify_one();
     }
 

@@ -11,7 +11,6 @@ use Rattle.report_text.specs.declared.status.Status.TheVariants as status
 use Rattle.wdl_typed.specs.declared.checked.Checked.{Checked}
 use Rattle.wdl_typed.specs.declared.flow.FlowDef.{FlowDef}
 use Rattle.wdl_typed.specs.Flow.{too_many}
-use Rattle.wdl_words.specs.declared.wants.Wants.{Wants}
 use Rattle.wdl_json.specs.Inputs.{inputs_in, main_of}
 use Rattle.wdl_json.specs.declared.fault.InputFault.{InputFault}
 use Rattle.wdl_json.specs.declared.fault.InputFault.TheVariants.{Bad}
@@ -20,14 +19,16 @@ use Rattle.workflow_cli.specs.declared.asking.Command.{Command}
 use Rattle.workflow_cli.specs.declared.asking.Command.TheVariants as command
 use Rattle.workflow_cli.specs.declared.asking.Page.{Page}
 use Rattle.workflow_cli.specs.declared.asking.RunOptions.{RunOptions}
-use Rattle.workflow_cli.specs.Asking.{IsCheckOf, IsCommand, IsCwlOf, IsForInputs, IsForMain, IsFormOf, IsNotBuilt, IsPrintOf, IsRunOf, Words, asked, command_of}
+use Rattle.workflow_cli.specs.Asking.{IsBundleOf, IsCheckOf, IsCommand, IsCwlOf, IsForFlow, IsForInputs, IsForMain, IsPrintOf, IsRunOf, Words, asked}
+use Rattle.workflow_cli.specs.Bundling.{IsBundled, IsRuledOut, IsUnbundled}
 use Rattle.workflow_cli.specs.Causes.{CauseOf, IsFinished, Names}
-use Rattle.workflow_cli.specs.Complete.{CheckIsComplete, CwlIsComplete, DocumentIsComplete, FormIsComplete, InputsIsComplete, IsOr, IsSomeDocument, IsSomeExclusion, MainIsComplete, MustGive, MustHave, MustLack, NotBuiltIsComplete, PrintIsComplete, RunIsComplete, UsageIsComplete}
+use Rattle.workflow_cli.specs.Complete.{BundleIsComplete, CheckIsComplete, CwlIsComplete, DocumentIsComplete, FormIsComplete, InputsIsComplete, IsOr, IsSomeDocument, IsSomeExclusion, MainIsComplete, MustGive, MustHave, MustLack, PrintIsComplete, RunIsComplete, UsageIsComplete}
 use Rattle.workflow_cli.specs.Documents.{HasChecked, HasNoMain, IsRefused, Tells}
 use Rattle.workflow_cli.specs.Printing.{IsFormed}
 use Rattle.workflow_cli.specs.Running.{IsBadInputs, IsInputsText, IsStarted, Main, Trace, flow_of}
 use Rattle.workflow_cli.specs.Translating.{GivesAll, IsCwlText, IsInSubset, IsOutside, IsTranslated}
 use Rattle.workflow_cli.specs.Writing.{IsCut, Told}
+use Rattle.workflow_cli.proofs.Commands.{main_naming, named_inputs, naming, no_check, no_flow, no_print, no_run, one_file, one_inputs, print_names, readable, same_command}
 use Rattle.workflow_cli.proofs.Forms.{one_form}
 use Rattle.workflow_cli.proofs.Outcomes.{Outcome}
 use Rattle.workflow_cli.proofs.Works.{for_main}
@@ -38,95 +39,6 @@ none_within x c = omega (arith, c.1)
 
 some_same : {A : Type 0} {x y : A} → Some x ≡ Some y → x ≡ y
 some_same e = cc
-
--- ---- the words
-
--- words ask for one thing
-same_wants : (words : Words) (v w : Wants) → asked words ≡ Some v → asked words ≡ Some w → v ≡ w
-same_wants words v w e h = let p = sym e ∙ h in cc
-
-pub same_command : (words : Words) (c d : Command) → IsCommand words c → IsCommand words d → c ≡ d
-same_command words c d h k = let p = sym h.built ∙ ap command_of (same_wants words h.wants k.wants h.asked k.asked) ∙ k.built in cc
-
-no_check : (words : Words) (file other : List ℕ) (inputs : Option (List ℕ)) → IsCheckOf words file → IsForMain words other inputs → ⊥
-no_check words file other inputs h (inl k) = let e = same_command words (command.Check file) (command.Run other inputs k.0) h k.1 in cc
-no_check words file other inputs h (inr (inl k)) = let e = same_command words (command.Check file) (command.Cwl other inputs) h k in cc
-no_check words file other inputs h (inr (inr k)) = let e = same_command words (command.Check file) (command.Inputs other) h k.1 in cc
-
-no_run : (words : Words) (file other : List ℕ) (inputs others : Option (List ℕ)) (options : RunOptions) → IsCwlOf words file inputs → IsRunOf words other others options → ⊥
-no_run words file other inputs others options h k = let e = same_command words (command.Cwl file inputs) (command.Run other others options) h k in cc
-
-pub not_both : (words : Words) (c : Command) → IsCommand words c → IsNotBuilt words → ⊥
-not_both words c h k = let p = sym h.built ∙ ap command_of (same_wants words h.wants k.wants h.asked k.asked) ∙ k.missing in cc
-
-pub readable : (words : Words) (c : Command) → IsCommand words c → asked words ≡ None → ⊥
-readable words c h e = let p = sym h.asked ∙ e in cc
-
--- the file that a command names
-abbrev file_of : Command → List ℕ
-file_of (command.Run file inputs options) = file
-file_of (command.Check file) = file
-file_of (command.Cwl file inputs) = file
-file_of (command.Inputs file) = file
-file_of (command.Load number) = []
-file_of (command.Print p) = []
-
--- the inputs that it names
-abbrev inputs_of : Command → Option (List ℕ)
-inputs_of (command.Run file inputs options) = inputs
-inputs_of (command.Check file) = None
-inputs_of (command.Cwl file inputs) = inputs
-inputs_of (command.Inputs file) = None
-inputs_of (command.Load number) = None
-inputs_of (command.Print p) = None
-
--- a command of these words, which names this file and these inputs
-record IsNaming (words : Words) (file : List ℕ) (inputs : Option (List ℕ)) : Type 0 where
-  command : Command
-  is_command : IsCommand words command
-  names : file_of command ≡ file
-  reads : inputs_of command ≡ inputs
-
-main_naming : (words : Words) (file : List ℕ) (inputs : Option (List ℕ)) → IsForMain words file inputs → IsNaming words file inputs
-main_naming words file inputs (inl h) = record { command = command.Run file inputs h.0; is_command = h.1; names = refl; reads = refl }
-main_naming words file inputs (inr (inl h)) = record { command = command.Cwl file inputs; is_command = h; names = refl; reads = refl }
-main_naming words file inputs (inr (inr h)) = record { command = command.Inputs file; is_command = h.1; names = refl; reads = sym h.0 }
-
--- words that print a page name no file
-no_print : (words : Words) (page : Page) (file : List ℕ) (inputs : Option (List ℕ)) → IsPrintOf words page → IsForMain words file inputs → ⊥
-no_print words page file inputs h (inl k) = let e = same_command words (command.Print page) (command.Run file inputs k.0) h k.1 in cc
-no_print words page file inputs h (inr (inl k)) = let e = same_command words (command.Print page) (command.Cwl file inputs) h k in cc
-no_print words page file inputs h (inr (inr k)) = let e = same_command words (command.Print page) (command.Inputs file) h k.1 in cc
-
-print_names : (words : Words) (page : Page) (file : List ℕ) → IsPrintOf words page → Names words file → ⊥
-print_names words page file h (inl k) = let e = same_command words (command.Print page) (command.Check file) h k in cc
-print_names words page file h (inr k) = no_print words page file k.0 h k.1
-
--- the inputs of a document are no run and no translation
-no_form : (words : Words) (file other : List ℕ) (inputs : Option (List ℕ)) → IsFormOf words file → IsForInputs words other inputs → ⊥
-no_form words file other inputs h (inl k) = let e = same_command words (command.Inputs file) (command.Run other inputs k.0) h k.1 in cc
-no_form words file other inputs h (inr k) = let e = same_command words (command.Inputs file) (command.Cwl other inputs) h k.2 in cc
-
-naming : (words : Words) (file : List ℕ) → Names words file → (inputs : Option (List ℕ)) × IsNaming words file inputs
-naming words file (inl h) = (None, record { command = command.Check file; is_command = h; names = refl; reads = refl })
-naming words file (inr h) = (h.0, main_naming words file h.0 h.1)
-
-one_file : (words : Words) (f g : List ℕ) → Names words f → Names words g → f ≡ g
-one_file words f g h k =
-    let a = (naming words f h).1 in
-    let b = (naming words g k).1 in
-    sym a.names ∙ ap file_of (same_command words a.command b.command a.is_command b.is_command) ∙ b.names
-
-one_inputs : (words : Words) (f g : List ℕ) (i j : Option (List ℕ)) → IsForMain words f i → IsForMain words g j → i ≡ j
-one_inputs words f g i j h k =
-    let a = main_naming words f i h in
-    let b = main_naming words g j k in
-    sym a.reads ∙ ap inputs_of (same_command words a.command b.command a.is_command b.is_command) ∙ b.reads
-
--- a translation reads no inputs where it names none
-named_inputs : (words : Words) (file other : List ℕ) (inputs : Option (List ℕ)) → IsCwlOf words file None → IsForInputs words other inputs → ⊥
-named_inputs words file other inputs h (inl k) = no_run words file other None inputs k.0 h k.1
-named_inputs words file other inputs h (inr k) = let e = same_command words (command.Cwl file None) (command.Cwl other inputs) h k.2 in let p = k.1 in cc
 
 module _ (tells : Tells) (refused : List ℕ → Type 0) (rose : Type 0) (gives : Request → Answer → Type 0) (refuses : Request → Type 0) (words : Words) (t : Trace) where
   abbrev Said : Status → List (List ℕ) → Type 0
@@ -142,7 +54,6 @@ module _ (tells : Tells) (refused : List ℕ → Type 0) (rose : Type 0) (gives 
   data Saying (r : Status) : Type 0 where
     starved : r ≡ status.NoMemory → Saying r
     wordless : r ≡ status.Usage → asked words ≡ None → Saying r
-    unbuilt : r ≡ status.NotBuilt → IsNotBuilt words → Saying r
     unread : (file : List ℕ) → Names words file → rose → Saying r
     unchecked : (code : ℕ) (span : Span) (paths : List (List ℕ)) (file : List ℕ) → r ≡ status.Document code span → Names words file
         → IsRefused tells file code span paths → Saying r
@@ -150,6 +61,7 @@ module _ (tells : Tells) (refused : List ℕ → Type 0) (rose : Type 0) (gives 
         → r ≡ status.Document code span → IsForMain words file inputs → HasNoMain tells file code span paths → Saying r
     misfit : (code : ℕ) (name : Option (List ℕ)) → r ≡ status.Inputs code name → IsBadInputs tells words code name → Saying r
     outside : (rule : ℕ) (span : Span) (paths : List (List ℕ)) → r ≡ status.NotInSubset rule span → IsOutside tells words rule span paths → Saying r
+    unbundled : (rule : ℕ) (span : Span) (paths : List (List ℕ)) → r ≡ status.NotInSubset rule span → IsUnbundled tells words rule span paths → Saying r
     broken : (m : Main) → IsStarted tells words m → Broke m → Saying r
 
   inputs_command : (file : List ℕ) (inputs : Option (List ℕ)) → IsForInputs words file inputs → (c : Command) × IsCommand words c
@@ -166,11 +78,11 @@ module _ (tells : Tells) (refused : List ℕ → Type 0) (rose : Type 0) (gives 
   saying (status.Read path) paths (idle, inr h) = unread h.file (inr (Some path, for_main words h.file (Some path) h.asked)) h.counted
   saying status.Write paths h = absurd h
   saying status.NoMemory paths h = starved refl
-  saying (status.NotInSubset rule span) paths h = outside rule span paths refl h.1
+  saying (status.NotInSubset rule span) paths (idle, inl h) = outside rule span paths refl h
+  saying (status.NotInSubset rule span) paths (idle, inr h) = unbundled rule span paths refl h
   saying (status.Launch place) paths h = broken h.main h.run.started (inr (inl (h.job.request, h.is_job, h.refused)))
   saying status.Keep paths h = broken h.main h.started (inr (inr (inr h.counted)))
   saying status.TooMany paths h = broken h.main h.run.started (inr (inr (inl h.many)))
-  saying status.NotBuilt paths h = unbuilt refl h.1
 
   -- the work was done
   abbrev Did : List ℕ → Type 0
@@ -184,7 +96,8 @@ module _ (tells : Tells) (refused : List ℕ → Type 0) (rose : Type 0) (gives 
   did_command text (inr (idle, inl h)) = (command.Check h.file, h.asked)
   did_command text (inr (idle, inr (inl h))) = (command.Cwl h.file h.inputs, h.asked)
   did_command text (inr (idle, inr (inr (inl h)))) = (command.Inputs h.file, h.asked)
-  did_command text (inr (idle, inr (inr (inr h)))) = (command.Print h.page, h.asked)
+  did_command text (inr (idle, inr (inr (inr (inl h))))) = (command.Print h.page, h.asked)
+  did_command text (inr (idle, inr (inr (inr (inr h))))) = (command.Bundle h.file, h.asked)
 
   -- words that ask for nothing that is done
   abbrev Undone : Type 0
@@ -192,17 +105,17 @@ module _ (tells : Tells) (refused : List ℕ → Type 0) (rose : Type 0) (gives 
 
   -- what a cause says of such words
   abbrev SaidIdly : Status → Type 0
-  SaidIdly r = (r ≡ status.NoMemory) ⊎ ((r ≡ status.Usage) × (asked words ≡ None)) ⊎ ((r ≡ status.NotBuilt) × IsNotBuilt words)
+  SaidIdly r = (r ≡ status.NoMemory) ⊎ ((r ≡ status.Usage) × (asked words ≡ None))
 
   said_idly : Undone → (r : Status) → Saying r → SaidIdly r
   said_idly undone r (starved e) = inl e
-  said_idly undone r (wordless e h) = inr (inl (e, h))
-  said_idly undone r (unbuilt e h) = inr (inr (e, h))
+  said_idly undone r (wordless e h) = inr (e, h)
   said_idly undone r (unread file named rise) = let n = (naming words file named).1 in absurd (undone n.command n.is_command)
   said_idly undone r (unchecked code span paths file e named h) = let n = (naming words file named).1 in absurd (undone n.command n.is_command)
   said_idly undone r (mainless code span paths file inputs e asks h) = let n = main_naming words file inputs asks in absurd (undone n.command n.is_command)
   said_idly undone r (misfit code name e h) = let c = inputs_command h.file h.inputs h.asked in absurd (undone c.0 c.1)
   said_idly undone r (outside rule span paths e h) = absurd (undone (command.Cwl h.file h.inputs) h.asked)
+  said_idly undone r (unbundled rule span paths e h) = absurd (undone (command.Bundle h.file) h.asked)
   said_idly undone r (broken m h b) = let c = started_command m h in absurd (undone c.0 c.1)
 
   -- a document that the words name, its checked form and its main workflow
@@ -236,6 +149,21 @@ module _ (tells : Tells) (refused : List ℕ → Type 0) (rose : Type 0) (gives 
         flow = o.flow;
         main = o.source.main;
       }
+
+  abbrev for_bundle : (file : List ℕ) (c : Checked) (f : FlowDef) → IsBundleOf words file → HasChecked tells file c → main_of c.flows c.main ≡ Some f → IsSeen
+  for_bundle file c f asks has main = record { file = file; inputs = None; asked = inr (inr (refl, inr asks)); checked = c; has = has; flow = f; main = main }
+
+  abbrev unbundled_seen : (rule : ℕ) (span : Span) (paths : List (List ℕ)) → IsUnbundled tells words rule span paths → IsSeen
+  unbundled_seen rule span paths h =
+      let o = h.unbundled in
+      let l = o.source.located in
+      for_bundle h.file o.checked o.flow h.asked (record { lib = l.lib; has = l.has; is_typed = l.is_typed }) o.source.main
+
+  abbrev bundled_seen : (text : List ℕ) → IsBundled tells words text → IsSeen
+  bundled_seen text h =
+      let i = h.is_text in
+      let l = i.source.located in
+      for_bundle h.file i.checked i.flow h.asked (record { lib = l.lib; has = l.has; is_typed = l.is_typed }) i.source.main
 
   -- a translation, by its number and the inputs that it read
   record IsMade (file : List ℕ) (inputs : Option (List ℕ)) : Type 0 where
@@ -288,7 +216,7 @@ module _ (tells : Tells) (refused : List ℕ → Type 0) (rose : Type 0) (gives 
       record {
         file = h.file;
         inputs = None;
-        asked = inr (inr (refl, h.asked));
+        asked = inr (inr (refl, inl h.asked));
         checked = i.checked;
         has = record { lib = l.lib; has = l.has; is_typed = l.is_typed };
         flow = i.flow;
@@ -317,16 +245,7 @@ module _ (tells : Tells) (refused : List ℕ → Type 0) (rose : Type 0) (gives 
       where
         by_words : SaidIdly r → IsOr status.Usage r
         by_words (inl k) = inr k
-        by_words (inr (inl k)) = inl k.0
-        by_words (inr (inr k)) = let p = sym e ∙ k.1.asked in cc
-
-    pub not_built_complete : (r : Status) → Ends r → NotBuiltIsComplete words rose_err r
-    not_built_complete r o n cut = by_words (ends_idly (λ c k. not_both words c k n) cut r o)
-      where
-        by_words : SaidIdly r → IsOr status.NotBuilt r
-        by_words (inl k) = inr k
-        by_words (inr (inl k)) = let p = sym n.asked ∙ k.1 in cc
-        by_words (inr (inr k)) = inl k.0
+        by_words (inr k) = inl k.0
 
     cut_counted : Cut → rose_out ⊎ rose_err
     cut_counted (inl h) = inl h.cut.counted
@@ -380,15 +299,16 @@ module _ (tells : Tells) (refused : List ℕ → Type 0) (rose : Type 0) (gives 
         by_cases (inl (e, (text, inr (idle, inl h)))) = absurd (not_checked file h.file h.checked lack named (inl h.asked) h.has)
         by_cases (inl (e, (text, inr (idle, inr (inl h))))) = absurd (unseen (translated_seen text h))
         by_cases (inl (e, (text, inr (idle, inr (inr (inl h)))))) = absurd (unseen (form_seen text h))
-        by_cases (inl (e, (text, inr (idle, inr (inr (inr h)))))) = absurd (print_names words h.page file h.asked named)
+        by_cases (inl (e, (text, inr (idle, inr (inr (inr (inl h))))))) = absurd (print_names words h.page file h.asked named)
+        by_cases (inl (e, (text, inr (idle, inr (inr (inr (inr h))))))) = absurd (unseen (bundled_seen text h))
         by_cases (inr (starved e)) = inr e
         by_cases (inr (wordless e n)) = absurd (readable words own is_own n)
-        by_cases (inr (unbuilt e n)) = absurd (not_both words own is_own n)
         by_cases (inr (unread c k rise)) = absurd (no_rise rise)
         by_cases (inr (unchecked code span paths other e names h)) = inl (code, span, e)
         by_cases (inr (mainless code span paths other inputs e asks h)) = inl (code, span, e)
         by_cases (inr (misfit code name e h)) = absurd (unseen (misfit_seen code name h))
         by_cases (inr (outside rule span paths e h)) = absurd (unseen (outside_seen rule span paths h))
+        by_cases (inr (unbundled rule span paths e h)) = absurd (unseen (unbundled_seen rule span paths h))
         by_cases (inr (broken m h b)) = absurd (unseen (started_seen m h))
 
     -- ---- a check
@@ -403,13 +323,13 @@ module _ (tells : Tells) (refused : List ℕ → Type 0) (rose : Type 0) (gives 
         by_cases (inl d) = inl d.0
         by_cases (inr (starved e)) = inr e
         by_cases (inr (wordless e n)) = absurd (readable words (command.Check file) asks n)
-        by_cases (inr (unbuilt e n)) = absurd (not_both words (command.Check file) asks n)
         by_cases (inr (unread d k rise)) = absurd (no_rise rise)
         by_cases (inr (unchecked code span paths other e names h)) =
             absurd (not_refused file c must code span paths (subst (λ f. IsRefused tells f code span paths) (one_file words other file names (inl asks)) h))
         by_cases (inr (mainless code span paths other inputs e k h)) = absurd (no_check words file other inputs asks k)
         by_cases (inr (misfit code name e h)) = absurd (unseen (misfit_seen code name h))
         by_cases (inr (outside rule span paths e h)) = absurd (unseen (outside_seen rule span paths h))
+        by_cases (inr (unbundled rule span paths e h)) = absurd (unseen (unbundled_seen rule span paths h))
         by_cases (inr (broken m h b)) = absurd (unseen (started_seen m h))
 
     -- ---- a document that must have a checked form, for its main workflow
@@ -453,16 +373,17 @@ module _ (tells : Tells) (refused : List ℕ → Type 0) (rose : Type 0) (gives 
         main_said (inl (e, (text, inr (idle, inl h)))) = absurd (no_check words h.file file inputs h.asked asks)
         main_said (inl (e, (text, inr (idle, inr (inl h))))) = absurd (unseen (translated_seen text h))
         main_said (inl (e, (text, inr (idle, inr (inr (inl h)))))) = absurd (unseen (form_seen text h))
-        main_said (inl (e, (text, inr (idle, inr (inr (inr h)))))) = absurd (no_print words h.page file inputs h.asked asks)
+        main_said (inl (e, (text, inr (idle, inr (inr (inr (inl h))))))) = absurd (no_print words h.page file inputs h.asked asks)
+        main_said (inl (e, (text, inr (idle, inr (inr (inr (inr h))))))) = absurd (unseen (bundled_seen text h))
         main_said (inr (starved e)) = inr e
         main_said (inr (wordless e n)) = absurd (readable words own is_own n)
-        main_said (inr (unbuilt e n)) = absurd (not_both words own is_own n)
         main_said (inr (unread d k rise)) = absurd (no_rise rise)
         main_said (inr (unchecked code span paths other e names h)) = absurd (not_checked_yet code span paths other names h)
         main_said (inr (mainless code span paths other given e k h)) =
             inl (e ∙ ap (λ x. status.Document x span) h.is_code ∙ ap (status.Document 327) h.is_span)
         main_said (inr (misfit code name e h)) = absurd (unseen (misfit_seen code name h))
         main_said (inr (outside rule span paths e h)) = absurd (unseen (outside_seen rule span paths h))
+        main_said (inr (unbundled rule span paths e h)) = absurd (unseen (unbundled_seen rule span paths h))
         main_said (inr (broken m h b)) = absurd (unseen (started_seen m h))
 
       module _ (f : FlowDef) (main : main_of c.flows c.main ≡ Some f) where
@@ -510,17 +431,18 @@ module _ (tells : Tells) (refused : List ℕ → Type 0) (rose : Type 0) (gives 
       inputs_said (inl (e, (text, inl h))) = absurd (not_started h.main h.run.started)
       inputs_said (inl (e, (text, inr (idle, inl h)))) = absurd (no_check words h.file file inputs h.asked for_inputs)
       inputs_said (inl (e, (text, inr (idle, inr (inl h))))) = absurd (ungiven (translated_seen text h) (made_of text h).given h.asked)
-      inputs_said (inl (e, (text, inr (idle, inr (inr (inl h)))))) = absurd (no_form words h.file file inputs h.asked reads_in)
-      inputs_said (inl (e, (text, inr (idle, inr (inr (inr h)))))) = absurd (no_print words h.page file inputs h.asked for_inputs)
+      inputs_said (inl (e, (text, inr (idle, inr (inr (inl h)))))) = absurd (no_flow words h.file file inputs (inl h.asked) reads_in)
+      inputs_said (inl (e, (text, inr (idle, inr (inr (inr (inl h))))))) = absurd (no_print words h.page file inputs h.asked for_inputs)
+      inputs_said (inl (e, (text, inr (idle, inr (inr (inr (inr h))))))) = absurd (no_flow words h.file file inputs (inr h.asked) reads_in)
       inputs_said (inr (starved e)) = inr e
       inputs_said (inr (wordless e n)) = absurd (readable words (own file inputs c for_inputs must) (is_own file inputs c for_inputs must) n)
-      inputs_said (inr (unbuilt e n)) = absurd (not_both words (own file inputs c for_inputs must) (is_own file inputs c for_inputs must) n)
       inputs_said (inr (unread d k rise)) = absurd (no_rise rise)
       inputs_said (inr (unchecked at span paths other e names h)) = absurd (not_checked_yet file inputs c for_inputs must at span paths other names h)
       inputs_said (inr (mainless at span paths other given e k h)) = absurd (has_main file inputs c for_inputs must f main at span paths other given k h)
       inputs_said (inr (misfit at who e h)) =
           let p = sym h.refused ∙ fails (misfit_seen at who h) h.text h.is_text in let q : status.Inputs at who ≡ status.Inputs code name = cc in inl (e ∙ q)
       inputs_said (inr (outside rule span paths e h)) = absurd (ungiven (outside_seen rule span paths h) h.outside.given h.asked)
+      inputs_said (inr (unbundled rule span paths e h)) = absurd (no_flow words h.file file inputs (inr h.asked) reads_in)
       inputs_said (inr (broken m h b)) = absurd (not_started m h)
 
     pub main_complete : (r : Status) → Ends r → MainIsComplete tells words rose (rose_out ⊎ rose_err) r
@@ -567,50 +489,68 @@ module _ (tells : Tells) (refused : List ℕ → Type 0) (rose : Type 0) (gives 
       run_said (inl d) = inl d.0
       run_said (inr (starved e)) = inr e
       run_said (inr (wordless e n)) = absurd (readable words (command.Run file inputs m.options) asks_run n)
-      run_said (inr (unbuilt e n)) = absurd (not_both words (command.Run file inputs m.options) asks_run n)
       run_said (inr (unread d k rise)) = absurd (no_rise rise)
       run_said (inr (unchecked code span paths other e names h)) = absurd (not_checked_yet file inputs m.checked for_run must code span paths other names h)
       run_said (inr (mainless code span paths other given e k h)) = absurd (has_main file inputs m.checked for_run must m.flow main code span paths other given k h)
       run_said (inr (misfit code name e h)) = let p = sym h.refused ∙ succeeds (misfit_seen code name h) h.text h.is_text in cc
       run_said (inr (outside rule span paths e h)) = absurd (no_run words h.file file h.inputs inputs m.options h.asked asks_run)
+      run_said (inr (unbundled rule span paths e h)) = absurd (no_flow words h.file file inputs (inr h.asked) (inl (m.options, asks_run)))
       run_said (inr (broken n h b)) = absurd (not_broken (subst Broke (one_main n h) b))
 
     pub run_complete : (r : Status) → Ends r → RunIsComplete tells words refuses rose (rose_out ⊎ rose_err) t r
     run_complete r o file inputs m asks must main reads no_rise cut keeps launches none few =
         run_said file inputs m asks must main reads no_rise keeps launches none few r (settled cut r o)
 
-    -- ---- the inputs to fill in, and the program's own texts
+    -- ---- the inputs to fill in, and bundles
 
-    module _ (file : List ℕ) (c : Checked) (asks_form : IsFormOf words file) (must : MustHave tells file c) (f : FlowDef) (main : main_of c.flows c.main ≡ Some f)
+    module _ (file : List ℕ) (c : Checked) (asks_flow : IsForFlow words file) (must : MustHave tells file c) (f : FlowDef) (main : main_of c.flows c.main ≡ Some f)
         (no_rise : ¬ rose) (r : Status) where
-      abbrev for_form : IsForMain words file None
-      for_form = inr (inr (refl, asks_form))
+      abbrev for_flow : IsForMain words file None
+      for_flow = inr (inr (refl, asks_flow))
 
-      form_said : Settled r → IsOr status.Ok r
-      form_said (inl d) = inl d.0
-      form_said (inr (starved e)) = inr e
-      form_said (inr (wordless e n)) = absurd (readable words (command.Inputs file) asks_form n)
-      form_said (inr (unbuilt e n)) = absurd (not_both words (command.Inputs file) asks_form n)
-      form_said (inr (unread d k rise)) = absurd (no_rise rise)
-      form_said (inr (unchecked code span paths other e names h)) = absurd (not_checked_yet file None c for_form must code span paths other names h)
-      form_said (inr (mainless code span paths other given e k h)) = absurd (has_main file None c for_form must f main code span paths other given k h)
-      form_said (inr (misfit code name e h)) = absurd (no_form words file h.file h.inputs asks_form h.asked)
-      form_said (inr (outside rule span paths e h)) = let k = same_command words (command.Inputs file) (command.Cwl h.file h.inputs) asks_form h.asked in cc
-      form_said (inr (broken m h b)) = absurd (no_form words file h.asked.file h.asked.inputs asks_form (inl (m.options, h.asked.asked)))
+      -- a rule is broken
+      abbrev Ruled : Type 0
+      Ruled = (rule : ℕ) × (span : Span) × (paths : List (List ℕ)) × (r ≡ status.NotInSubset rule span) × IsRuledOut tells words rule span paths
+
+      flow_said : Settled r → IsOr status.Ok r ⊎ Ruled
+      flow_said (inl d) = inl (inl d.0)
+      flow_said (inr (starved e)) = inl (inr e)
+      flow_said (inr (wordless e n)) = absurd (readable words (own file None c for_flow must) (is_own file None c for_flow must) n)
+      flow_said (inr (unread d k rise)) = absurd (no_rise rise)
+      flow_said (inr (unchecked code span paths other e names h)) = absurd (not_checked_yet file None c for_flow must code span paths other names h)
+      flow_said (inr (mainless code span paths other given e k h)) = absurd (has_main file None c for_flow must f main code span paths other given k h)
+      flow_said (inr (misfit code name e h)) = absurd (no_flow words file h.file h.inputs asks_flow h.asked)
+      flow_said (inr (outside rule span paths e h)) = inr (rule, span, paths, e, inl h)
+      flow_said (inr (unbundled rule span paths e h)) = inr (rule, span, paths, e, inr h)
+      flow_said (inr (broken m h b)) = absurd (no_flow words file h.asked.file h.asked.inputs asks_flow (inl (m.options, h.asked.asked)))
 
     pub form_complete : (r : Status) → Ends r → FormIsComplete tells words rose (rose_out ⊎ rose_err) r
-    form_complete r o file c f asks must main no_rise cut = form_said file c asks must f main no_rise r (settled cut r o)
+    form_complete r o file c f asks must main no_rise cut = by_rule (flow_said file c (inl asks) must f main no_rise r (settled cut r o))
+      where
+        by_rule : IsOr status.Ok r ⊎ Ruled file c (inl asks) must f main no_rise r → IsOr status.Ok r
+        by_rule (inl k) = k
+        by_rule (inr (rule, span, paths, e, inl h)) = let k = same_command words (command.Inputs file) (command.Cwl h.file h.inputs) asks h.asked in cc
+        by_rule (inr (rule, span, paths, e, inr h)) = let k = same_command words (command.Inputs file) (command.Bundle h.file) asks h.asked in cc
+
+    pub bundle_complete : (r : Status) → Ends r → BundleIsComplete tells words rose (rose_out ⊎ rose_err) r
+    bundle_complete r o file c f asks must main no_rise cut = by_rule (flow_said file c (inr asks) must f main no_rise r (settled cut r o))
+      where
+        by_rule : IsOr status.Ok r ⊎ Ruled file c (inr asks) must f main no_rise r → IsOr status.Ok r ⊎ IsSomeExclusion r
+        by_rule (inl k) = inl k
+        by_rule (inr (rule, span, paths, e, h)) = inr (rule, span, e)
+
+    -- ---- the program's own texts
 
     module _ (page : Page) (asks_print : IsPrintOf words page) where
       print_said : (r : Status) → Saying r → r ≡ status.NoMemory
       print_said r (starved e) = e
       print_said r (wordless e n) = absurd (readable words (command.Print page) asks_print n)
-      print_said r (unbuilt e n) = absurd (not_both words (command.Print page) asks_print n)
       print_said r (unread file named rise) = absurd (print_names words page file asks_print named)
       print_said r (unchecked code span paths other e names h) = absurd (print_names words page other asks_print names)
       print_said r (mainless code span paths other given e k h) = absurd (no_print words page other given asks_print k)
       print_said r (misfit code name e h) = absurd (no_print words page h.file h.inputs asks_print (for_main words h.file h.inputs h.asked))
       print_said r (outside rule span paths e h) = absurd (no_print words page h.file h.inputs asks_print (inr (inl h.asked)))
+      print_said r (unbundled rule span paths e h) = absurd (no_print words page h.file None asks_print (inr (inr (refl, inr h.asked))))
       print_said r (broken m h b) = absurd (no_print words page h.asked.file h.asked.inputs asks_print (inl (m.options, h.asked.asked)))
 
     pub print_complete : (r : Status) → Ends r → PrintIsComplete words (rose_out ⊎ rose_err) r
@@ -652,10 +592,10 @@ module _ (tells : Tells) (refused : List ℕ → Type 0) (rose : Type 0) (gives 
       cwl_said (inl (e, (text, inr (idle, inl h)))) = absurd (no_check words h.file file inputs h.asked for_cwl)
       cwl_said (inl (e, (text, inr (idle, inr (inl h))))) = let m = made_of text h in inl (e, same_subset (translated_seen text h) m.number m.numbered m.in_subset)
       cwl_said (inl (e, (text, inr (idle, inr (inr (inl h)))))) = let k = same_command words (command.Inputs h.file) (command.Cwl file inputs) h.asked asks_cwl in cc
-      cwl_said (inl (e, (text, inr (idle, inr (inr (inr h)))))) = absurd (no_print words h.page file inputs h.asked for_cwl)
+      cwl_said (inl (e, (text, inr (idle, inr (inr (inr (inl h))))))) = absurd (no_print words h.page file inputs h.asked for_cwl)
+      cwl_said (inl (e, (text, inr (idle, inr (inr (inr (inr h))))))) = let k = same_command words (command.Bundle h.file) (command.Cwl file inputs) h.asked asks_cwl in cc
       cwl_said (inr (starved e)) = inr (inl e)
       cwl_said (inr (wordless e n)) = absurd (readable words (command.Cwl file inputs) asks_cwl n)
-      cwl_said (inr (unbuilt e n)) = absurd (not_both words (command.Cwl file inputs) asks_cwl n)
       cwl_said (inr (unread d k rise)) = absurd (no_rise rise)
       cwl_said (inr (unchecked code span paths other e names h)) = absurd (not_checked_yet file inputs c for_cwl must code span paths other names h)
       cwl_said (inr (mainless code span paths other given e k h)) = absurd (has_main file inputs c for_cwl must f main code span paths other given k h)
@@ -666,6 +606,7 @@ module _ (tells : Tells) (refused : List ℕ → Type 0) (rose : Type 0) (gives 
           let is_checked = same_checked file inputs c for_cwl must s in
           let is_number = same_number s o.number o.source.numbered in
           inr (inr ((rule, span, e), λ k. not_outside o.checked o.number rule span o.lowest (subst (λ n. IsInSubset o.checked n) (sym is_number) (subst (λ x. IsInSubset x number) (sym is_checked) k))))
+      cwl_said (inr (unbundled rule span paths e h)) = let k = same_command words (command.Bundle h.file) (command.Cwl file inputs) h.asked asks_cwl in cc
       cwl_said (inr (broken m h b)) = absurd (no_run words file h.asked.file inputs h.asked.inputs m.options asks_cwl h.asked.asked)
 
       within : Comes → IsInSubset c number → IsOr status.Ok r

@@ -22,8 +22,8 @@ use Rattle.workflow_cli.specs.Running.{IsRun, IsStarted, IsUnkept, KeepsRows, Ma
 use Rattle.workflow_cli.specs.Stages.{IsFailedAs, RunsMain, StopsAs, Turns}
 
 -- what is reported of a run that is asked for
-abbrev reported : Option Command → Report
-reported (Some (command.Run file inputs options)) = options.report
+abbrev reported : Command → Report
+reported (command.Run file inputs options) = options.report
 reported c = report.Outputs
 
 are_outputs : (w : Wants) → reported (command_of w) ≡ report.Outputs
@@ -38,7 +38,7 @@ are_outputs Version = refl
 
 -- of a run that the words ask for the outputs are reported
 reports_outputs : (words : Words) (file : List ℕ) (inputs : Option (List ℕ)) (options : RunOptions) → IsRunOf words file inputs options → options.report ≡ report.Outputs
-reports_outputs words file inputs options h = sym (ap reported h.built) ∙ are_outputs h.wants
+reports_outputs words file inputs options h = sym (ap reported h.is) ∙ are_outputs h.wants
 
 module _ (tells : Tells) (refused : List ℕ → Type 0) (rose : Type 0) (gives : Request → Answer → Type 0) (refuses : Request → Type 0) (words : Words) (t : Trace) where
   abbrev Comes : Work → Type 0
@@ -72,7 +72,6 @@ module _ (tells : Tells) (refused : List ℕ → Type 0) (rose : Type 0) (gives 
   after_fault m run (status.NotInSubset rule span) h = absurd h
   after_fault m run (status.Launch place) h = absurd h
   after_fault m run status.Keep h = absurd h
-  after_fault m run status.NotBuilt h = absurd h
 
   -- the status of a stop
   stop_said : (m : Main) (why : Stop) (run : Runs m (Some why)) (s : Status) → StopsAs (core_of m t run.left.taken run.left.out run.left.plan) why s → Said s

@@ -76,7 +76,6 @@ module _ (tells : Tells) (refused : List ℕ → Type 0) (rose : Type 0) (file :
   document_stops m (status.Launch place) paths h = absurd h
   document_stops m status.Keep paths h = absurd h
   document_stops m status.TooMany paths h = absurd h
-  document_stops m status.NotBuilt paths h = absurd h
 
   pub writes_document : (w : Work) → Mains → DocumentWork c all w → WritesDocument tells refused rose file w
   writes_document (work.Text text) m h =
@@ -107,7 +106,6 @@ module _ (tells : Tells) (refused : List ℕ → Type 0) (rose : Type 0) (file :
     object_stops (status.Launch place) paths h = absurd h
     object_stops status.Keep paths h = absurd h
     object_stops status.TooMany paths h = absurd h
-    object_stops status.NotBuilt paths h = absurd h
 
     pub writes_object : (w : Work) → ObjectWork c all given w → WritesObject tells refused rose file inputs w
     writes_object (work.Text text) h =

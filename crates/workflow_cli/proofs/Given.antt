@@ -25,7 +25,6 @@ module _ (tells : Tells) (refused : List ℕ → Type 0) (rose : Type 0) (inputs
   stops f main (status.Launch place) h = absurd h
   stops f main status.Keep h = absurd h
   stops f main status.TooMany h = absurd h
-  stops f main status.NotBuilt h = absurd h
 
   pub gives_in : (r : Result (List Bind) Status) → ((f : FlowDef) → main_of c.flows c.main ≡ Some f → GivesInputs c f text r)
       → ((f : FlowDef) → main_of c.flows c.main ≡ Some f → IfOk r (λ env. inputs_fit c.structs f.inputs env ≡ true)) → GivesIn tells refused rose inputs c r

@@ -84,7 +84,6 @@ module _ (path : List ℕ) (k m l : KeeperView) (same : m.kept ≡ k.kept) (late
   stops_before (status.NotInSubset rule span) h = absurd h
   stops_before (status.Launch place) h = absurd h
   stops_before status.TooMany h = absurd h
-  stops_before status.NotBuilt h = absurd h
 
   -- from before the keeper was started
   pub opens_before : (r : Result (List Entry) Status) → Opens path m l r → Opens path k l r

@@ -130,7 +130,6 @@ module _ (gives : Request → Answer → Type 0) (refuses : Request → Type 0) 
     unopened (status.NotInSubset rule span) idle h e = absurd h
     unopened (status.Launch place) idle h e = absurd h
     unopened status.TooMany idle h e = absurd h
-    unopened status.NotBuilt idle h e = absurd h
 
 -- a keeper that failed is started on no other path
 pub stopped_on : (path : List ℕ) (k l : KeeperView) (s : Status) → OpenStops path k l s → IsOn path l.path
@@ -146,4 +145,3 @@ stopped_on path k l status.Write h = absurd h
 stopped_on path k l (status.NotInSubset rule span) h = absurd h
 stopped_on path k l (status.Launch place) h = absurd h
 stopped_on path k l status.TooMany h = absurd h
-stopped_on path k l status.NotBuilt h = absurd h

@@ -1,6 +1,9 @@
 pub mod Plain
 mod ToldLemmas
 mod Works
+mod Commands
+mod Bundles
+mod Agreeing
 mod Outcomes
 mod Excluded
 mod Formed

@@ -30,7 +30,7 @@ use Rattle.workflow_cli.specs.Loading.{IsLoaded, IsLoadWritten, LoadsAs, RunsLoa
 use Rattle.workflow_cli.specs.Running.{IsIdle, Leaves, Main, Trace, core_of}
 use Rattle.workflow_cli.specs.Stages.{IsFailedAs, IsFitting, IsPrepared, PrepareStops, Prepares, RunsMain, StopsAs, Turns, main_with, stops}
 use Rattle.workflow_cli.specs.Writing.{Finishes, Reports, Told}
-use Rattle.workflow_cli.proofs.Completes.{not_both, readable, same_command}
+use Rattle.workflow_cli.proofs.Commands.{readable, same_command}
 
 -- ---- words that ask for no load
 
@@ -44,7 +44,8 @@ no_load words c h e l = false≢true (sym e ∙ ap loads (same_command words c (
 pub main_no_load : (words : Words) (file : List ℕ) (inputs : Option (List ℕ)) → IsForMain words file inputs → IsLoad words → ⊥
 main_no_load words file inputs (inl h) = no_load words (command.Run file inputs h.0) h.1 refl
 main_no_load words file inputs (inr (inl h)) = no_load words (command.Cwl file inputs) h refl
-main_no_load words file inputs (inr (inr h)) = no_load words (command.Inputs file) h.1 refl
+main_no_load words file inputs (inr (inr (none, inl h))) = no_load words (command.Inputs file) h refl
+main_no_load words file inputs (inr (inr (none, inr h))) = no_load words (command.Bundle file) h refl
 
 pub named_no_load : (words : Words) (file : List ℕ) → Names words file → IsLoad words → ⊥
 named_no_load words file (inl h) = no_load words (command.Check file) h refl
@@ -82,7 +83,6 @@ module _ (n : ℕ) (t : Trace) where
   asks_loads words asked idle status.NoMemory st e h =
       inl (0, 0, record { idle = idle; stop = st; is = refl; cause = subst (λ s. PrepareStops (load_tells n) (load_refused n) (Rose 0 0) load_file None s st.paths) (sym e) tt })
   asks_loads words asked idle status.Usage st e h = absurd (readable words (command.Load n) asked h)
-  asks_loads words asked idle status.NotBuilt st e h = absurd (not_both words (command.Load n) asked h)
   asks_loads words asked idle status.Ok st e h = absurd h
   asks_loads words asked idle (status.Failed fault) st e h = absurd h
   asks_loads words asked idle (status.Document code span) st e h = absurd h

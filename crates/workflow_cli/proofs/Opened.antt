@@ -13,7 +13,7 @@ use Rattle.workflow_cli.specs.Causes.{CauseOf, IsFinished, IsOfRun, IsStartedOn}
 use Rattle.workflow_cli.specs.Documents.{Tells}
 use Rattle.workflow_cli.specs.Running.{IsIdle, IsRun, IsStarted, KeepsRows, Main, SomeRun, Trace, core_of}
 use Rattle.workflow_cli.specs.Writing.{Told}
-use Rattle.workflow_cli.proofs.Completes.{same_command}
+use Rattle.workflow_cli.proofs.Commands.{same_command}
 use Rattle.workflow_cli.proofs.Outcomes.{Outcome}
 
 module _ (tells : Tells) (refused : List ℕ → Type 0) (rose : Type 0) (gives : Request → Answer → Type 0) (refuses : Request → Type 0) (words : Words) (t : Trace) where
@@ -37,7 +37,8 @@ module _ (tells : Tells) (refused : List ℕ → Type 0) (rose : Type 0) (gives 
     finished_on text (inr (idle, inl h)) = let e = same_command words (command.Check h.file) (command.Run j.file j.inputs j.options) h.asked j.asked in cc
     finished_on text (inr (idle, inr (inl h))) = let e = same_command words (command.Cwl h.file h.inputs) (command.Run j.file j.inputs j.options) h.asked j.asked in cc
     finished_on text (inr (idle, inr (inr (inl h)))) = let e = same_command words (command.Inputs h.file) (command.Run j.file j.inputs j.options) h.asked j.asked in cc
-    finished_on text (inr (idle, inr (inr (inr h)))) = let e = same_command words (command.Print h.page) (command.Run j.file j.inputs j.options) h.asked j.asked in cc
+    finished_on text (inr (idle, inr (inr (inr (inl h))))) = let e = same_command words (command.Print h.page) (command.Run j.file j.inputs j.options) h.asked j.asked in cc
+    finished_on text (inr (idle, inr (inr (inr (inr h))))) = let e = same_command words (command.Bundle h.file) (command.Run j.file j.inputs j.options) h.asked j.asked in cc
 
     said_on : (s : Status) (paths : List (List ℕ)) → IsOfRun s → CauseOf tells refused rose gives refuses words t s paths → On
     said_on (status.Failed fault) paths of h = run_on h.main (Some end.Failed) h.run
@@ -52,7 +53,6 @@ module _ (tells : Tells) (refused : List ℕ → Type 0) (rose : Type 0) (gives 
     said_on status.Write paths of h = absurd of
     said_on status.NoMemory paths of h = absurd of
     said_on (status.NotInSubset rule span) paths of h = absurd of
-    said_on status.NotBuilt paths of h = absurd of
 
     module _ (out out' err err' : Told) (rose_out rose_err : Type 0) where
       ended_on : (r : Status) → IsOfRun r → Outcome tells refused rose gives refuses words t out out' err err' rose_out rose_err r → On

@@ -84,7 +84,7 @@ module _ (tells : Tells) (refused : List ℕ → Type 0) (rose : Type 0) (gives 
 
   pub excluded : (r : Status) → Outcome r → (rule : ℕ) (span : Span) → r ≡ status.NotInSubset rule span → IsExcluded tells words gives refuses t out out' err err' rule span
   excluded r o rule span e =
-      let h = line_told r o (status.NotInSubset rule span) refl e in record { paths = h.paths; idle = h.cause.0; outside = h.cause.1; nothing = h.nothing; line = h.line }
+      let h = line_told r o (status.NotInSubset rule span) refl e in record { paths = h.paths; idle = h.cause.0; ruled_out = h.cause.1; nothing = h.nothing; line = h.line }
 
 module _ (out out' err err' : Told) (rose_out rose_err : Type 0) where
   lines_by : (r : Status) (paths : List (List ℕ)) → out' ≡ out → err' ≡ grown err (line_of r paths) → Lines r out out' err err'
@@ -100,7 +100,6 @@ module _ (out out' err err' : Told) (rose_out rose_err : Type 0) where
   lines_by (status.Launch place) paths n l = (n, l)
   lines_by status.Keep paths n l = (n, l)
   lines_by status.TooMany paths n l = (n, l)
-  lines_by status.NotBuilt paths n l = (n, l)
 
   told_by : (s r : Status) (paths : List (List ℕ)) → out' ≡ out → TellsLine s (line_of s paths) err err' rose_err r → Lines r out out' err err'
   told_by s r paths n (inl x) = subst (λ q. Lines q out out' err err') (sym x.0) (lines_by s paths n x.1)

@@ -25,7 +25,7 @@ checked_is : (tells : Tells) (file : List ℕ) (c : Checked) (number : ℕ) (f :
 checked_is tells file c number f paths m = sym (ap (is_checked (library_of c)) m.numbered) ∙ c.kept
 
 -- the number of the main workflow
-main_is : (tells : Tells) (file : List ℕ) (c : Checked) (number : ℕ) (f : FlowDef) (paths : List (List ℕ)) → HasMain tells file c number f paths → slice_get c.flows number ≡ Some f
+pub main_is : (tells : Tells) (file : List ℕ) (c : Checked) (number : ℕ) (f : FlowDef) (paths : List (List ℕ)) → HasMain tells file c number f paths → slice_get c.flows number ≡ Some f
 main_is tells file c number f paths m = sym (ap (main_of c.flows) m.numbered) ∙ m.main
 
 means_flow : (tells : Tells) (file : List ℕ) (c : Checked) (number : ℕ) (f : FlowDef) (paths : List (List ℕ)) → HasMain tells file c number f paths → IsInSubset c number → IsNamed c

@@ -1,15 +1,16 @@
 -- What a run starts with, over two calls of the shelf.
-use Rattle.std.proofs.Common.{◌≡◌, ◌≤◌, inl, inr, ℕ, List, Option, Some, None, IsSome, Bor, is_some, option_copied, arith, sym, subst, refl, true, false}
+use Rattle.std.proofs.Common.{◌≡◌, ◌≤◌, inl, inr, ℕ, List, Option, Some, None, Ok, IsSome, Bor, is_some, option_copied, arith, sym, subst, refl, true, false}
 use Rattle.std.proofs.lemmas.Bool.{false≢true}
 use Rattle.wdl_value.specs.declared.env.Bind.{Bind}
 use Rattle.report_text.specs.declared.status.Status.{Status}
 use Rattle.report_text.specs.declared.status.Status.TheVariants as status
 use Rattle.wdl_port.specs.Causes.{Rose}
 use Rattle.wdl_port.specs.Files.{IsFile}
+use Rattle.wdl_library.specs.declared.library.Library.{Library}
 use Rattle.wdl_typed.specs.declared.checked.Checked.{Checked}
 use Rattle.wdl_typed.specs.declared.flow.FlowDef.{FlowDef}
 use Rattle.wdl_json.specs.Inputs.{main_of}
-use Rattle.workflow_cli.specs.Documents.{CheckStops, HasChecked, HasLocated, MainStops, Tells}
+use Rattle.workflow_cli.specs.Documents.{GatherStops, HasChecked, HasLocated, MainInStops, MainStops, Rules, Tells, TypeStops}
 use Rattle.workflow_cli.specs.Running.{IsInputsText}
 use Rattle.workflow_cli.specs.Stages.{GiveInStops, HasGiven, IsMainlessStop, PrepareStops}
 
@@ -38,21 +39,20 @@ pub checked_in : (tells : Tells) (file : List ℕ) (c : Checked) (paths : List (
 checked_in tells file c paths h = record { lib = h.lib; has = h.has; is_typed = h.is_typed }
 
 module _ (tells : Tells) (refused : List ℕ → Type 0) (rose : Type 0) (file : List ℕ) where
-  -- no checked form
-  pub check_main : (s : Status) (paths : List (List ℕ)) → CheckStops tells file refused rose s paths → MainStops tells file refused rose s paths
-  check_main (status.Read path) paths h = h
-  check_main (status.Document code span) paths h = inl h
-  check_main status.NoMemory paths h = tt
-  check_main status.Ok paths h = absurd h
-  check_main (status.Failed fault) paths h = absurd h
-  check_main status.Usage paths h = absurd h
-  check_main (status.Inputs code name) paths h = absurd h
-  check_main status.Write paths h = absurd h
-  check_main (status.NotInSubset rule span) paths h = absurd h
-  check_main (status.Launch place) paths h = absurd h
-  check_main status.Keep paths h = absurd h
-  check_main status.TooMany paths h = absurd h
-  check_main status.NotBuilt paths h = absurd h
+  -- no library
+  pub gather_main : (s : Status) (paths : List (List ℕ)) → GatherStops tells file refused rose s paths → MainStops tells file refused rose s paths
+  gather_main (status.Read path) paths h = h
+  gather_main (status.Document code span) paths h = inl (inl h)
+  gather_main status.NoMemory paths h = tt
+  gather_main status.Ok paths h = absurd h
+  gather_main (status.Failed fault) paths h = absurd h
+  gather_main status.Usage paths h = absurd h
+  gather_main (status.Inputs code name) paths h = absurd h
+  gather_main status.Write paths h = absurd h
+  gather_main (status.NotInSubset rule span) paths h = absurd h
+  gather_main (status.Launch place) paths h = absurd h
+  gather_main status.Keep paths h = absurd h
+  gather_main status.TooMany paths h = absurd h
 
   -- no main workflow
   pub main_prepare : (inputs : Option (List ℕ)) (s : Status) (paths : List (List ℕ)) → MainStops tells file refused rose s paths → PrepareStops tells refused rose file inputs s paths
@@ -68,24 +68,37 @@ module _ (tells : Tells) (refused : List ℕ → Type 0) (rose : Type 0) (file :
   main_prepare inputs (status.Launch place) paths h = absurd h
   main_prepare inputs status.Keep paths h = absurd h
   main_prepare inputs status.TooMany paths h = absurd h
-  main_prepare inputs status.NotBuilt paths h = absurd h
 
-module _ (tells : Tells) (refused : List ℕ → Type 0) (rose : Type 0) (file : List ℕ) (c : Checked) (has : HasChecked tells file c) where
-  -- without a main workflow
-  pub mainless_stops : main_of c.flows c.main ≡ None → (s : Status) (paths : List (List ℕ)) → IsMainlessStop file s paths → MainStops tells file refused rose s paths
-  mainless_stops none (status.Document code span) paths h = inr (record { checked = c; has = has; none = none; is_code = h.0; is_span = h.1; named = h.2 })
-  mainless_stops none status.NoMemory paths h = tt
-  mainless_stops none status.Ok paths h = absurd h
-  mainless_stops none (status.Failed fault) paths h = absurd h
-  mainless_stops none status.Usage paths h = absurd h
-  mainless_stops none (status.Inputs code name) paths h = absurd h
-  mainless_stops none (status.Read path) paths h = absurd h
-  mainless_stops none status.Write paths h = absurd h
-  mainless_stops none (status.NotInSubset rule span) paths h = absurd h
-  mainless_stops none (status.Launch place) paths h = absurd h
-  mainless_stops none status.Keep paths h = absurd h
-  mainless_stops none status.TooMany paths h = absurd h
-  mainless_stops none status.NotBuilt paths h = absurd h
+module _ (lib : Library) (file : List ℕ) where
+  -- no checked form
+  pub type_main : (s : Status) (paths : List (List ℕ)) → TypeStops lib s paths → MainInStops lib file s paths
+  type_main (status.Document code span) paths h = inl h
+  type_main status.NoMemory paths h = tt
+  type_main status.Ok paths h = absurd h
+  type_main (status.Failed fault) paths h = absurd h
+  type_main status.Usage paths h = absurd h
+  type_main (status.Inputs code name) paths h = absurd h
+  type_main (status.Read path) paths h = absurd h
+  type_main status.Write paths h = absurd h
+  type_main (status.NotInSubset rule span) paths h = absurd h
+  type_main (status.Launch place) paths h = absurd h
+  type_main status.Keep paths h = absurd h
+  type_main status.TooMany paths h = absurd h
+
+  -- one without a main workflow
+  pub mainless_in : (c : Checked) → Rules lib (Ok c) → main_of c.flows c.main ≡ None → (s : Status) (paths : List (List ℕ)) → IsMainlessStop file s paths → MainInStops lib file s paths
+  mainless_in c typed none (status.Document code span) paths h = inr (record { checked = c; is_typed = typed; none = none; is_code = h.0; is_span = h.1; named = h.2 })
+  mainless_in c typed none status.NoMemory paths h = tt
+  mainless_in c typed none status.Ok paths h = absurd h
+  mainless_in c typed none (status.Failed fault) paths h = absurd h
+  mainless_in c typed none status.Usage paths h = absurd h
+  mainless_in c typed none (status.Inputs code name) paths h = absurd h
+  mainless_in c typed none (status.Read path) paths h = absurd h
+  mainless_in c typed none status.Write paths h = absurd h
+  mainless_in c typed none (status.NotInSubset rule span) paths h = absurd h
+  mainless_in c typed none (status.Launch place) paths h = absurd h
+  mainless_in c typed none status.Keep paths h = absurd h
+  mainless_in c typed none status.TooMany paths h = absurd h
 
 module _ (tells : Tells) (refused : List ℕ → Type 0) (rose : Type 0) (file : List ℕ) (inputs : Option (List ℕ)) (c : Checked) (has : HasChecked tells file c) where
   -- the shelf tells and refuses as before, and a count that rose later rose
@@ -112,4 +125,3 @@ module _ (tells : Tells) (refused : List ℕ → Type 0) (rose : Type 0) (file :
     stops_before f main refuses rises back up (status.Launch place) paths h = absurd h
     stops_before f main refuses rises back up status.Keep paths h = absurd h
     stops_before f main refuses rises back up status.TooMany paths h = absurd h
-    stops_before f main refuses rises back up status.NotBuilt paths h = absurd h

@@ -9,7 +9,8 @@ use Rattle.workflow_cli.specs.declared.asking.RunOptions.{RunOptions}
 use Rattle.workflow_cli.specs.declared.ended.Stop.{Stop}
 use Rattle.workflow_cli.specs.declared.ended.Work.{Work}
 use Rattle.workflow_cli.specs.declared.ended.Work.TheVariants as work
-use Rattle.workflow_cli.specs.Asking.{AskStops, IsCheckOf, IsCwlOf, IsForInputs, IsForMain, IsFormOf, IsPrintOf, IsRunOf, Words}
+use Rattle.workflow_cli.specs.Asking.{AskStops, IsBundleOf, IsCheckOf, IsCwlOf, IsForInputs, IsForMain, IsFormOf, IsPrintOf, IsRunOf, Words}
+use Rattle.workflow_cli.specs.Bundling.{BundleStops, WritesBundle}
 use Rattle.workflow_cli.specs.Causes.{Cause, CauseOf, IsWork, Names, UsesJournal}
 use Rattle.workflow_cli.specs.Documents.{CheckStops, MainStops, Tells}
 use Rattle.workflow_cli.specs.Printing.{Prints, WritesForm}
@@ -35,7 +36,6 @@ module _ (tells : Tells) (refused : List ℕ → Type 0) (rose : Type 0) (gives 
 
   asked_stops : IsIdle t → (s : Status) (paths : List (List ℕ)) → AskStops words s → Said s paths
   asked_stops idle status.Usage paths h = (idle, h)
-  asked_stops idle status.NotBuilt paths h = (idle, h)
   asked_stops idle status.NoMemory paths h = tt
   asked_stops idle status.Ok paths h = absurd h
   asked_stops idle (status.Failed fault) paths h = absurd h
@@ -65,7 +65,6 @@ module _ (tells : Tells) (refused : List ℕ → Type 0) (rose : Type 0) (gives 
   check_stops idle file named (status.Launch place) paths h = absurd h
   check_stops idle file named status.Keep paths h = absurd h
   check_stops idle file named status.TooMany paths h = absurd h
-  check_stops idle file named status.NotBuilt paths h = absurd h
 
   -- a check
   pub check_is_work : IsIdle t → (file : List ℕ) → IsCheckOf words file → (w : Work) → Accepts tells refused rose file w → IsWork tells refused rose gives refuses words t w
@@ -90,7 +89,6 @@ module _ (tells : Tells) (refused : List ℕ → Type 0) (rose : Type 0) (gives 
   main_stops idle file inputs main (status.Launch place) paths h = absurd h
   main_stops idle file inputs main status.Keep paths h = absurd h
   main_stops idle file inputs main status.TooMany paths h = absurd h
-  main_stops idle file inputs main status.NotBuilt paths h = absurd h
 
   prepare_stops : IsIdle t → (file : List ℕ) (inputs : Option (List ℕ)) → IsForInputs words file inputs → (s : Status) (paths : List (List ℕ))
       → PrepareStops tells refused rose file inputs s paths → Said s paths
@@ -123,7 +121,6 @@ module _ (tells : Tells) (refused : List ℕ → Type 0) (rose : Type 0) (gives 
   prepare_stops idle file inputs asks (status.Launch place) paths h = absurd h
   prepare_stops idle file inputs asks status.Keep paths h = absurd h
   prepare_stops idle file inputs asks status.TooMany paths h = absurd h
-  prepare_stops idle file inputs asks status.NotBuilt paths h = absurd h
 
   -- ---- the CWL document and the input object
 
@@ -133,7 +130,7 @@ module _ (tells : Tells) (refused : List ℕ → Type 0) (rose : Type 0) (gives 
       document_said = main_stops idle file None (inr (inl asked))
 
       document_stops : (s : Status) (paths : List (List ℕ)) → DocumentStops tells refused rose file s paths → Said s paths
-      document_stops (status.NotInSubset rule span) paths h = (idle, record { file = file; inputs = None; asked = asked; outside = h })
+      document_stops (status.NotInSubset rule span) paths h = (idle, inl (record { file = file; inputs = None; asked = asked; outside = h }))
       document_stops (status.Read path) paths h = document_said (status.Read path) paths h
       document_stops (status.Document code span) paths h = document_said (status.Document code span) paths h
       document_stops status.NoMemory paths h = tt
@@ -145,7 +142,6 @@ module _ (tells : Tells) (refused : List ℕ → Type 0) (rose : Type 0) (gives 
       document_stops (status.Launch place) paths h = absurd h
       document_stops status.Keep paths h = absurd h
       document_stops status.TooMany paths h = absurd h
-      document_stops status.NotBuilt paths h = absurd h
 
       document_is_work : (w : Work) → WritesDocument tells refused rose file w → IsWork tells refused rose gives refuses words t w
       document_is_work (work.Text text) h = record { run = inl idle; cause = inr (idle, inr (inl (record { file = file; inputs = None; asked = asked; is_text = h }))) }
@@ -156,7 +152,7 @@ module _ (tells : Tells) (refused : List ℕ → Type 0) (rose : Type 0) (gives 
       object_said = prepare_stops idle file (Some path) (inr (path, refl, asked))
 
       object_stops : (s : Status) (paths : List (List ℕ)) → ObjectStops tells refused rose file (Some path) s paths → Said s paths
-      object_stops (status.NotInSubset rule span) paths h = (idle, record { file = file; inputs = Some path; asked = asked; outside = h })
+      object_stops (status.NotInSubset rule span) paths h = (idle, inl (record { file = file; inputs = Some path; asked = asked; outside = h }))
       object_stops (status.Read p) paths h = object_said (status.Read p) paths h
       object_stops (status.Document code span) paths h = object_said (status.Document code span) paths h
       object_stops (status.Inputs code name) paths h = object_said (status.Inputs code name) paths h
@@ -168,7 +164,6 @@ module _ (tells : Tells) (refused : List ℕ → Type 0) (rose : Type 0) (gives 
       object_stops (status.Launch place) paths h = absurd h
       object_stops status.Keep paths h = absurd h
       object_stops status.TooMany paths h = absurd h
-      object_stops status.NotBuilt paths h = absurd h
 
       object_is_work : (w : Work) → WritesObject tells refused rose file (Some path) w → IsWork tells refused rose gives refuses words t w
       object_is_work (work.Text text) h = record { run = inl idle; cause = inr (idle, inr (inl (record { file = file; inputs = Some path; asked = asked; is_text = h }))) }
@@ -184,11 +179,35 @@ module _ (tells : Tells) (refused : List ℕ → Type 0) (rose : Type 0) (gives 
   pub form_is_work : IsIdle t → (file : List ℕ) → IsFormOf words file → (w : Work) → WritesForm tells refused rose file w → IsWork tells refused rose gives refuses words t w
   form_is_work idle file asked (work.Text text) h =
       record { run = inl idle; cause = inr (idle, inr (inr (inl (record { file = file; asked = asked; is_text = h })))) }
-  form_is_work idle file asked (work.Stop stop) h = record { run = inl idle; cause = main_stops idle file None (inr (inr (refl, asked))) stop.status stop.paths h }
+  form_is_work idle file asked (work.Stop stop) h = record { run = inl idle; cause = main_stops idle file None (inr (inr (refl, inl asked))) stop.status stop.paths h }
 
   pub print_is_work : IsIdle t → (page : Page) → IsPrintOf words page → (w : Work) → Prints page w → IsWork tells refused rose gives refuses words t w
-  print_is_work idle page asked (work.Text text) h = record { run = inl idle; cause = inr (idle, inr (inr (inr (record { page = page; asked = asked; says = h })))) }
+  print_is_work idle page asked (work.Text text) h = record { run = inl idle; cause = inr (idle, inr (inr (inr (inl (record { page = page; asked = asked; says = h }))))) }
   print_is_work idle page asked (work.Stop stop) h = asks_is_work idle status.NoMemory stop h tt
+
+  -- ---- a bundle
+
+  module _ (idle : IsIdle t) (file : List ℕ) (asked : IsBundleOf words file) where
+    bundle_said : (s : Status) (paths : List (List ℕ)) → MainStops tells file refused rose s paths → Said s paths
+    bundle_said = main_stops idle file None (inr (inr (refl, inr asked)))
+
+    bundle_stops : (s : Status) (paths : List (List ℕ)) → BundleStops tells refused rose file s paths → Said s paths
+    bundle_stops (status.NotInSubset rule span) paths h = (idle, inr (record { file = file; asked = asked; unbundled = h }))
+    bundle_stops (status.Read path) paths h = bundle_said (status.Read path) paths h
+    bundle_stops (status.Document code span) paths h = bundle_said (status.Document code span) paths h
+    bundle_stops status.NoMemory paths h = tt
+    bundle_stops status.Ok paths h = absurd h
+    bundle_stops (status.Failed fault) paths h = absurd h
+    bundle_stops status.Usage paths h = absurd h
+    bundle_stops (status.Inputs code name) paths h = absurd h
+    bundle_stops status.Write paths h = absurd h
+    bundle_stops (status.Launch place) paths h = absurd h
+    bundle_stops status.Keep paths h = absurd h
+    bundle_stops status.TooMany paths h = absurd h
+
+    pub bundle_is_work : (w : Work) → WritesBundle tells refused rose file w → IsWork tells refused rose gives refuses words t w
+    bundle_is_work (work.Text text) h = record { run = inl idle; cause = inr (idle, inr (inr (inr (inr (record { file = file; asked = asked; is_text = h }))))) }
+    bundle_is_work (work.Stop stop) h = record { run = inl idle; cause = bundle_stops stop.status stop.paths h }
 
   -- ---- a run
 

@@ -1,4 +1,4 @@
--- What the words ask for, and what today's program does of it.
+-- What the words ask for, and what the program does then.
 use Rattle.std.specs.Prelude.{◌≡◌, ◌≤◌, ◌⊎◌, ℕ, List, length, Option, Some, None, Result, Ok, Err, map, string_bytes, String, ⊤}
 use Rattle.std.specs.declared.alloc.Global.{Global}
 use Rattle.report_text.specs.declared.status.Status.{Status}
@@ -20,28 +20,22 @@ Words = List (String Global)
 unfoldable pub asked : Words → Option Wants
 asked words = wants (map string_bytes words)
 
--- what today's program does of it: all but `bundle`
-abbrev pub command_of : Wants → Option Command
-command_of (Run file inputs workers root journal) = Some (command.Run file inputs (record { workers = workers; root = root; journal = journal; report = report.Outputs }))
-command_of (Check file) = Some (command.Check file)
-command_of (Cwl file inputs) = Some (command.Cwl file inputs)
-command_of (Inputs file) = Some (command.Inputs file)
-command_of (Help about) = Some (command.Print (page.Help about))
-command_of Version = Some (command.Print page.Version)
-command_of (Load number) = Some (command.Load number)
-command_of (Bundle file) = None
-
--- the words ask for what is not built yet
-pub record IsNotBuilt (words : Words) : Type 0 where
-  pub wants : Wants
-  pub asked : asked words ≡ Some wants
-  pub missing : command_of wants ≡ None
+-- what is done then
+abbrev pub command_of : Wants → Command
+command_of (Run file inputs workers root journal) = command.Run file inputs (record { workers = workers; root = root; journal = journal; report = report.Outputs })
+command_of (Check file) = command.Check file
+command_of (Cwl file inputs) = command.Cwl file inputs
+command_of (Inputs file) = command.Inputs file
+command_of (Bundle file) = command.Bundle file
+command_of (Help about) = command.Print (page.Help about)
+command_of Version = command.Print page.Version
+command_of (Load number) = command.Load number
 
 -- the words ask for this
 pub record IsCommand (words : Words) (c : Command) : Type 0 where
   pub wants : Wants
   pub asked : asked words ≡ Some wants
-  pub built : command_of wants ≡ Some c
+  pub is : command_of wants ≡ c
 
 -- a run of the document at this path, with the inputs of that one, and these options
 abbrev pub IsRunOf : Words → List ℕ → Option (List ℕ) → RunOptions → Type 0
@@ -59,6 +53,10 @@ IsCwlOf words file inputs = IsCommand words (command.Cwl file inputs)
 abbrev pub IsFormOf : Words → List ℕ → Type 0
 IsFormOf words file = IsCommand words (command.Inputs file)
 
+-- the main workflow of the document at this path as one document
+abbrev pub IsBundleOf : Words → List ℕ → Type 0
+IsBundleOf words file = IsCommand words (command.Bundle file)
+
 -- a workflow of so many calls, which is made and run
 abbrev pub IsLoadOf : Words → ℕ → Type 0
 IsLoadOf words number = IsCommand words (command.Load number)
@@ -71,10 +69,14 @@ IsLoad words = (number : ℕ) × IsLoadOf words number
 abbrev pub IsPrintOf : Words → Page → Type 0
 IsPrintOf words page = IsCommand words (command.Print page)
 
--- a run or a translation of the document at this path, or the inputs that it has, for which it has a main workflow
+-- the inputs that the document at this path has, or its bundle
+abbrev pub IsForFlow : Words → List ℕ → Type 0
+IsForFlow words file = IsFormOf words file ⊎ IsBundleOf words file
+
+-- a run or a translation of the document at this path, the inputs that it has, or its bundle, for which it has a main workflow
 abbrev pub IsForMain : Words → List ℕ → Option (List ℕ) → Type 0
 IsForMain words file inputs =
-    ((options : RunOptions) × IsRunOf words file inputs options) ⊎ (IsCwlOf words file inputs ⊎ ((inputs ≡ None) × IsFormOf words file))
+    ((options : RunOptions) × IsRunOf words file inputs options) ⊎ (IsCwlOf words file inputs ⊎ ((inputs ≡ None) × IsForFlow words file))
 
 -- the inputs at that path are read for it, and `{}` where none is named
 abbrev pub IsForInputs : Words → List ℕ → Option (List ℕ) → Type 0
@@ -97,7 +99,6 @@ IsWithin _ = ⊤
 -- why nothing is done
 abbrev pub AskStops : Words → Status → Type 0
 AskStops words status.Usage = asked words ≡ None
-AskStops words status.NotBuilt = IsNotBuilt words
 AskStops words status.NoMemory = ⊤
 AskStops words s = ⊥
 
@@ -107,11 +108,6 @@ Asks words (Err s) = AskStops words s
 
 -- ---- the reading
 
-abbrev pub HasNoReading : Words → Status → Type 0
-HasNoReading words status.Usage = asked words ≡ None
-HasNoReading words status.NoMemory = ⊤
-HasNoReading words s = ⊥
-
 abbrev pub HasReading : Words → Result Wants Status → Type 0
 HasReading words (Ok w) = asked words ≡ Some w
-HasReading words (Err s) = HasNoReading words s
+HasReading words (Err s) = AskStops words s

@@ -9,10 +9,11 @@ use Rattle.report_text.specs.declared.status.Status.TheVariants as status
 use Rattle.wdl_typed.specs.declared.checked.Checked.{Checked}
 use Rattle.workflow_cli.specs.declared.ended.Work.{Work}
 use Rattle.workflow_cli.specs.declared.ended.Work.TheVariants as work
-use Rattle.workflow_cli.specs.Asking.{IsCheckOf, IsForMain, IsJournal, IsNotBuilt, Words, asked}
+use Rattle.workflow_cli.specs.Asking.{IsCheckOf, IsForMain, IsJournal, Words, asked}
+use Rattle.workflow_cli.specs.Bundling.{IsBundled, IsRuledOut}
 use Rattle.workflow_cli.specs.Documents.{HasChecked, HasNoMain, IsRefused, IsUnreadDocument, Tells}
 use Rattle.workflow_cli.specs.Printing.{IsFormed, IsPrinted}
-use Rattle.workflow_cli.specs.Translating.{IsOutside, IsTranslated}
+use Rattle.workflow_cli.specs.Translating.{IsTranslated}
 use Rattle.workflow_cli.specs.Running.{IsBadInputs, IsDone, IsFailed, IsIdle, IsOn, IsTooMany, IsUnkept, IsUnlaunched, IsUnreadInputs, SomeRun, Trace}
 
 -- the words name the document at this path
@@ -34,7 +35,7 @@ module _ (tells : Tells) (words : Words) where
     pub named : Names words file
     pub refused : IsRefused tells file code span paths
 
-  -- the document that is to be run or translated, or whose inputs are asked for, has no main workflow
+  -- the document that is to be run, translated or bundled, or whose inputs are asked for, has no main workflow
   pub record IsMainless (code : ℕ) (span : Span) (paths : List (List ℕ)) : Type 0 where
     pub file : List ℕ
     pub inputs : Option (List ℕ)
@@ -57,7 +58,7 @@ module _ (tells : Tells) (words : Words) where
 abbrev pub IsFinished : Tells → Words → (Request → Answer → Type 0) → (Request → Type 0) → Trace → List ℕ → Type 0
 IsFinished tells words gives refuses t text =
     IsDone tells words gives refuses t text
-    ⊎ (IsIdle t × (IsAccepted tells words text ⊎ (IsTranslated tells words text ⊎ (IsFormed tells words text ⊎ IsPrinted words text))))
+    ⊎ (IsIdle t × (IsAccepted tells words text ⊎ (IsTranslated tells words text ⊎ (IsFormed tells words text ⊎ (IsPrinted words text ⊎ IsBundled tells words text)))))
 
 module _ (tells : Tells) (refused : List ℕ → Type 0) (rose : Type 0) (gives : Request → Answer → Type 0) (refuses : Request → Type 0) (words : Words) (t : Trace) where
   -- the status, and the paths of the documents that its line may name
@@ -70,11 +71,10 @@ module _ (tells : Tells) (refused : List ℕ → Type 0) (rose : Type 0) (gives 
   CauseOf (status.Read path) paths = IsIdle t × IsUnread tells words refused rose path
   CauseOf status.Write paths = ⊥
   CauseOf status.NoMemory paths = ⊤
-  CauseOf (status.NotInSubset rule span) paths = IsIdle t × IsOutside tells words rule span paths
+  CauseOf (status.NotInSubset rule span) paths = IsIdle t × IsRuledOut tells words rule span paths
   CauseOf (status.Launch place) paths = IsUnlaunched tells words gives refuses t place
   CauseOf status.Keep paths = IsUnkept tells words gives refuses t
   CauseOf status.TooMany paths = IsTooMany tells words gives refuses t
-  CauseOf status.NotBuilt paths = IsIdle t × IsNotBuilt words
 
   -- the work of a command, before anything is written
   abbrev pub Cause : Work → Type 0

@@ -16,7 +16,7 @@ use Rattle.wdl_imports.specs.Libraries.{IsLibrary}
 use Rattle.wdl_check_doc.specs.Checked as check
 use Rattle.wdl_json.specs.Inputs.{inputs_in, main_of}
 use Rattle.workflow_cli.specs.declared.asking.Page.{Page}
-use Rattle.workflow_cli.specs.Asking.{IsCheckOf, IsCwlOf, IsForInputs, IsForMain, IsFormOf, IsNotBuilt, IsPrintOf, IsRunOf, Words, asked}
+use Rattle.workflow_cli.specs.Asking.{IsBundleOf, IsCheckOf, IsCwlOf, IsForInputs, IsForMain, IsFormOf, IsPrintOf, IsRunOf, Words, asked}
 use Rattle.wdl_json.specs.declared.fault.InputFault.TheVariants.{Bad}
 use Rattle.workflow_cli.specs.Causes.{Names}
 use Rattle.workflow_cli.specs.Documents.{Tells}
@@ -29,10 +29,6 @@ IsOr s r = (r ≡ s) ⊎ (r ≡ status.NoMemory)
 -- words without a reading give Usage, where its line can be written
 abbrev pub UsageIsComplete : Words → Type 0 → Status → Type 0
 UsageIsComplete words cut r = asked words ≡ None → ¬ cut → IsOr status.Usage r
-
--- words that ask for what is not built give NotBuilt, where its line can be written
-abbrev pub NotBuiltIsComplete : Words → Type 0 → Status → Type 0
-NotBuiltIsComplete words cut r = IsNotBuilt words → ¬ cut → IsOr status.NotBuilt r
 
 -- these bytes have a library, and each library of theirs has this checked form
 pub record AreChecked (files : Files) (root : List ℕ) (c : Checked) : Type 0 where
@@ -72,8 +68,8 @@ abbrev pub DocumentIsComplete : Tells → Words → Type 0 → Type 0 → Status
 DocumentIsComplete tells words unread cut r =
     (file : List ℕ) → Names words file → MustLack tells file → ¬ unread → ¬ cut → IsSomeDocument r ⊎ (r ≡ status.NoMemory)
 
--- a run or a translation of a document that has a checked form without a main workflow, or its inputs, give Document with the code 327, where
--- no count rises
+-- a run, a translation or a bundle of a document that has a checked form without a main workflow, or its inputs, give Document with the
+-- code 327, where no count rises
 abbrev pub MainIsComplete : Tells → Words → Type 0 → Type 0 → Status → Type 0
 MainIsComplete tells words unread cut r =
     (file : List ℕ) (inputs : Option (List ℕ)) (c : Checked) → IsForMain words file inputs → MustHave tells file c
@@ -103,6 +99,13 @@ CwlIsComplete tells words unread cut r =
     → IsCwlOf words file inputs → MustHave tells file c → c.main ≡ Some number → main_of c.flows c.main ≡ Some f
     → MustGive tells inputs c f → ¬ unread → ¬ cut
     → (IsInSubset c number → IsOr status.Ok r) × (¬ (IsInSubset c number) → IsSomeExclusion r ⊎ (r ≡ status.NoMemory))
+
+-- A bundle of a document that has a checked form with a main workflow gives Ok, or NotInSubset with a rule that is broken, where no count
+-- rises.
+abbrev pub BundleIsComplete : Tells → Words → Type 0 → Type 0 → Status → Type 0
+BundleIsComplete tells words unread cut r =
+    (file : List ℕ) (c : Checked) (f : FlowDef) → IsBundleOf words file → MustHave tells file c → main_of c.flows c.main ≡ Some f
+    → ¬ unread → ¬ cut → IsOr status.Ok r ⊎ IsSomeExclusion r
 
 -- A run gives Ok where no count rises, also not that of the keeper, the document has a checked form with a main workflow, the inputs
 -- break no rule, the launcher refuses no job of the flow over the journal, and that flow has no fault and is not too many.

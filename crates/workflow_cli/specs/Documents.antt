@@ -101,10 +101,6 @@ module _ (tells : Tells) (root : List ℕ) where
   Checks refused rose (Ok c) = HasChecked c
   Checks refused rose (Err stop) = CheckStops refused rose stop.status stop.paths
 
-  abbrev pub Locates : (List ℕ → Type 0) → Type 0 → Result Located Stop → Type 0
-  Locates refused rose (Ok l) = HasLocated l.checked l.paths
-  Locates refused rose (Err stop) = CheckStops refused rose stop.status stop.paths
-
   abbrev pub MainStops : (List ℕ → Type 0) → Type 0 → Status → List (List ℕ) → Type 0
   MainStops refused rose (status.Read path) paths = IsUnreadDocument refused rose path
   MainStops refused rose (status.Document code span) paths = IsRefused code span paths ⊎ HasNoMain code span paths
@@ -116,6 +112,15 @@ module _ (tells : Tells) (root : List ℕ) where
   LocatesMain refused rose (Err stop) = MainStops refused rose stop.status stop.paths
 
 -- ---- one library
+
+-- the rules give a checked form without a main workflow; the first document is at this path
+pub record LacksMain (lib : Library) (root : List ℕ) (code : ℕ) (span : Span) (paths : List (List ℕ)) : Type 0 where
+  pub checked : Checked
+  pub is_typed : Rules lib (Ok checked)
+  pub none : main_of checked.flows checked.main ≡ None
+  pub is_code : code ≡ 327
+  pub is_span : span ≡ record { doc = 0; start = 0; end = 0 }
+  pub named : paths ≡ root ∷ []
 
 abbrev pub TypeStops : Library → Status → List (List ℕ) → Type 0
 TypeStops lib (status.Document code span) paths = Rules lib (Err (Bad code span)) × (paths ≡ paths_of lib)
@@ -129,6 +134,22 @@ Types lib (Err stop) = TypeStops lib stop.status stop.paths
 abbrev pub LocatesIn : Library → Result Located Stop → Type 0
 LocatesIn lib (Ok l) = Rules lib (Ok l.checked) × (l.paths ≡ paths_of lib)
 LocatesIn lib (Err stop) = TypeStops lib stop.status stop.paths
+
+abbrev pub MainInStops : Library → List ℕ → Status → List (List ℕ) → Type 0
+MainInStops lib root (status.Document code span) paths = (Rules lib (Err (Bad code span)) × (paths ≡ paths_of lib)) ⊎ LacksMain lib root code span paths
+MainInStops lib root status.NoMemory paths = ⊤
+MainInStops lib root s paths = ⊥
+
+-- these are the checked form and the paths of the library, and it has this main workflow
+pub record HasMainIn (lib : Library) (c : Checked) (paths : List (List ℕ)) : Type 0 where
+  pub is_typed : Rules lib (Ok c)
+  pub named : paths ≡ paths_of lib
+  pub flow : FlowDef
+  pub main : main_of c.flows c.main ≡ Some flow
+
+abbrev pub LocatesMainIn : Library → List ℕ → Result Located Stop → Type 0
+LocatesMainIn lib root (Ok l) = HasMainIn lib l.checked l.paths
+LocatesMainIn lib root (Err stop) = MainInStops lib root stop.status stop.paths
 
 -- ---- the stop of a broken rule
 

@@ -6,6 +6,7 @@ pub mod Counting
 pub mod Reporting
 pub mod Stages
 pub mod Translating
+pub mod Bundling
 pub mod Printing
 pub mod Meaning
 pub mod Writing

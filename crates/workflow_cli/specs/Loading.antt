@@ -6,7 +6,6 @@ use Rattle.wdl_value.specs.declared.env.Bind.{Bind}
 use Rattle.report_text.specs.declared.status.Status.{Status}
 use Rattle.report_text.specs.declared.status.Status.TheVariants as status
 use Rattle.wdl_port.specs.Causes.{Rose}
-use Rattle.wdl_port.specs.Memory.{CanFail, bytes_at}
 use Rattle.wdl_port.specs.Table.{Gives, Refuses}
 use Rattle.wdl_port.specs.Told.{grown}
 use Rattle.wdl_port.specs.declared.memory_shelf.PathFile.{PathFile}
@@ -22,6 +21,7 @@ use Rattle.workflow_cli.specs.declared.asking.RunOptions.{RunOptions}
 use Rattle.workflow_cli.specs.declared.ended.Stop.{Stop}
 use Rattle.workflow_cli.specs.declared.ended.Work.{Work}
 use Rattle.workflow_cli.specs.declared.prepare.Prepared.{Prepared}
+use Rattle.workflow_cli.specs.Bundling.{alone, alone_refused, only_file}
 use Rattle.workflow_cli.specs.Documents.{HasChecked, Tells}
 use Rattle.workflow_cli.specs.Reporting.{load_line}
 use Rattle.workflow_cli.specs.Running.{IsIdle, Leaves, Main, Trace, flow_of, origin_of}
@@ -35,13 +35,13 @@ load_file = codes "load.wdl"
 
 -- the document of n calls, and no other file
 abbrev pub load_files : ℕ → List PathFile
-load_files n = (record { path = load_file; bytes = load_text n }) ∷ []
+load_files n = only_file load_file (load_text n)
 
 abbrev pub load_tells : ℕ → Tells
-load_tells n p = bytes_at (load_files n) p
+load_tells n = alone load_file (load_text n)
 
 abbrev pub load_refused : ℕ → List ℕ → Type 0
-load_refused n p = CanFail (load_files n) [] p
+load_refused n = alone_refused load_file (load_text n)
 
 -- what a launcher gives that has these rows, and what it refuses
 abbrev pub table_gives : List TableRow → Request → Answer → Type 0

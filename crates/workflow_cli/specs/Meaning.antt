@@ -6,8 +6,9 @@ use Rattle.wdl_value.specs.declared.env.Bind.{Bind}
 use Rattle.wdl_value.specs.Tables.{Row}
 use Rattle.wdl_typed.specs.declared.checked.Checked.{Checked}
 use Rattle.wdl_typed.specs.declared.flow.FlowDef.{FlowDef}
-use Rattle.wdl_typed.specs.Flow.{whole}
+use Rattle.wdl_typed.specs.Flow.{Flowing, outputs_of, whole}
 use Rattle.wdl_typed.specs.Journal.{inputs_fit}
+use Rattle.wdl_json.specs.Inputs.{main_of}
 use Rattle.cwl_model.specs.declared.process.Process.{Process}
 use Rattle.json_values.specs.Ordered.{is_ordered}
 use Rattle.cwl_model.specs.Means.{Named, means}
@@ -16,7 +17,9 @@ use Rattle.cwl_emit.specs.Reading.{cwl_of}
 use Rattle.cwl_formed.specs.Objects.{inputs_of, object_in}
 use Rattle.cwl_laws.specs.Simulation.{IsMeant, object_of}
 use Rattle.cwl_laws.specs.Tools.{AreStatuses}
-use Rattle.workflow_cli.specs.Documents.{Tells}
+use Rattle.wdl_same.specs.Laws.{takes}
+use Rattle.workflow_cli.specs.Bundling.{IsBundleText, alone}
+use Rattle.workflow_cli.specs.Documents.{HasChecked, Tells}
 use Rattle.workflow_cli.specs.Translating.{IsDocumentOf, IsObjectOf, library_of}
 
 -- the text of a JSON value that reads as the process, and a newline
@@ -63,3 +66,29 @@ abbrev pub ObjectsRead : Type 0
 ObjectsRead =
     (tells : Tells) (file : List ℕ) (inputs : Option (List ℕ)) (text : List ℕ) (o : IsObjectOf tells file inputs text)
     → IsObjectText (image (library_of o.checked) o.number) (object_of o.given) text
+
+-- ---- bundles
+
+-- the flow of the workflow of that number of a checked form, for these inputs
+abbrev pub flow_in : Checked → ℕ → List Bind → List ℕ → List Row → Flowing
+flow_in c number given site table = whole (record { library = library_of c; site = site; table = table }) number given
+
+-- The text alone has a checked form whose main workflow has the name of this one, and takes inputs of the same names, types and defaults, so
+-- that the same given inputs fit. For all inputs, every site and every table of answers, the flows of both have the same known names, jobs,
+-- faults and waits, and what are outputs of the one are those of the other.
+pub record HasTwin (file text : List ℕ) (c : Checked) (number : ℕ) (f : FlowDef) : Type 0 where
+  pub form : Checked
+  pub has : HasChecked (alone file text) file form
+  pub other : ℕ
+  pub numbered : form.main ≡ Some other
+  pub flow : FlowDef
+  pub main : main_of form.flows form.main ≡ Some flow
+  pub name : flow.name ≡ f.name
+  pub inputs : takes flow ≡ takes f
+  pub fit : (given : List Bind) → inputs_fit form.structs flow.inputs given ≡ inputs_fit c.structs f.inputs given
+  pub same : (given : List Bind) (site : List ℕ) (table : List Row) → flow_in form other given site table ≡ flow_in c number given site table
+  pub outputs : (flowing : Flowing) → outputs_of flowing flow ≡ outputs_of flowing f
+
+-- The bundle that is written does what the documents do.
+abbrev pub BundlesAgree : Type 0
+BundlesAgree = (tells : Tells) (file text : List ℕ) (b : IsBundleText tells file text) → HasTwin file text b.checked b.number b.flow

@@ -13,7 +13,7 @@ use Rattle.workflow_cli.specs.Asking.{Words}
 use Rattle.workflow_cli.specs.Documents.{Tells}
 use Rattle.workflow_cli.specs.Running.{IsIdle, Trace}
 use Rattle.workflow_cli.specs.Causes.{CauseOf, IsBadDocument, IsFinished}
-use Rattle.workflow_cli.specs.Translating.{IsOutside}
+use Rattle.workflow_cli.specs.Bundling.{IsRuledOut}
 
 -- what a sink tells that it holds
 abbrev pub Told : Type 0
@@ -77,7 +77,7 @@ module _ (tells : Tells) (words : Words) (gives : Request → Answer → Type 0)
   pub record IsExcluded (rule : ℕ) (span : Span) : Type 0 where
     pub paths : List (List ℕ)
     pub idle : IsIdle t
-    pub outside : IsOutside tells words rule span paths
+    pub ruled_out : IsRuledOut tells words rule span paths
     pub nothing : out' ≡ out
     pub line : err' ≡ grown err (line_of (status.NotInSubset rule span) paths)
 

@@ -1,6 +1,6 @@
 //! The words of the command line.
 
-ghost use Rattle.std.specs.Prelude.{◌≡◌, [], IfOk, IfErr, IfSome};
+ghost use Rattle.std.specs.Prelude.{◌≡◌, [], IfOk, IfErr};
 ghost use Rattle.report_text.specs.Lines.{HasPath};
 ghost use Rattle.wdl_words.specs.Words.{IsWithinLimits};
 ghost use Rattle.workflow_cli.specs.Asking as spec;
@@ -67,6 +67,11 @@ pub enum Command {
         /// The document's path.
         file: Text,
     },
+    /// Writes the main workflow of a document and its imports as one document.
+    Bundle {
+        /// The document's path.
+        file: Text,
+    },
     /// Makes a workflow of so many calls, 1 to 10,000, and runs it.
     Load {
         number: u32,
@@ -77,11 +82,11 @@ pub enum Command {
     },
 }
 
-/// What is done of what the words ask for, where it is built.
-fn command_of(wants: Wants) -> Option<Command>
+/// What is done where the words ask for this.
+fn command_of(wants: Wants) -> Command
     requires limits { IsWithinLimits wants }
     ensures value { result ≡ spec.command_of wants }
-    ensures limits { IfSome result spec.IsWithin }
+    ensures limits { spec.IsWithin result }
 {
     match wants {
         Wants::Run {
@@ -90,7 +95,7 @@ fn command_of(wants: Wants) -> Option<Command>
             workers,
             root,
             journal,
-        } => Some(Command::Run {
+        } => Command::Run {
             file,
             inputs,
             options: RunOptions {
@@ -99,18 +104,18 @@ fn command_of(wants: Wants) -> Option<Command>
                 journal,
                 report: Report::Outputs,
             },
-        }),
-        Wants::Check { file } => Some(Command::Check { file }),
-        Wants::Cwl { file, inputs } => Some(Command::Cwl { file, inputs }),
-        Wants::Inputs { file } => Some(Command::Inputs { file }),
-        Wants::Help { about } => Some(Command::Print {
+        },
+        Wants::Check { file } => Command::Check { file },
+        Wants::Cwl { file, inputs } => Command::Cwl { file, inputs },
+        Wants::Inputs { file } => Command::Inputs { file },
+        Wants::Bundle { file } => Command::Bundle { file },
+        Wants::Help { about } => Command::Print {
             page: Page::Help(about),
-        }),
-        Wants::Version => Some(Command::Print {
+        },
+        Wants::Version => Command::Print {
             page: Page::Version,
-        }),
-        Wants::Load { number } => Some(Command::Load { number }),
-        Wants::Bundle { file: _ } => None,
+        },
+        Wants::Load { number } => Command::Load { number },
     }
 }
 
@@ -127,18 +132,14 @@ fn wants_of(alloc: Global, words: &[String]) -> Result<Wants, Status>
     }
 }
 
-/// What the words ask for: `Usage` where they have no reading, and `NotBuilt` for what is not built yet.
+/// What the words ask for: `Usage` where they have no reading.
 pub fn asked(alloc: Global, words: &[String]) -> Result<Command, Status>
     ensures value { Asks words.now result }
     ensures limits { IfOk result spec.IsWithin }
     ensures paths { IfErr result (λ s. HasPath s []) }
 {
-    let wants = match wants_of(alloc, words) {
-        Ok(wants) => wants,
-        Err(status) => return Err(status),
-    };
-    match command_of(wants) {
-        Some(command) => Ok(command),
-        None => Err(Status::NotBuilt),
+    match wants_of(alloc, words) {
+        Ok(wants) => Ok(command_of(wants)),
+        Err(status) => Err(status),
     }
 }

@@ -5,7 +5,7 @@ ghost use Rattle.report_text.specs.Lines.{HasPath};
 ghost use Rattle.wdl_port.specs.Causes.{Rose};
 ghost use Rattle.workflow_cli.specs.Counting.{StopCounts};
 ghost use Rattle.workflow_cli.specs.Documents as spec;
-ghost use Rattle.workflow_cli.specs.Documents.{Checks, Gathers, Locates, LocatesIn, Types, paths_of};
+ghost use Rattle.workflow_cli.specs.Documents.{Checks, Gathers, LocatesIn, Types, paths_of};
 
 use crate::ended::Stop;
 use crate::note::note_on;
@@ -69,7 +69,11 @@ fn refused(alloc: Global, code: u16, path: Text, span: Span, note: Option<String
 }
 
 /// The library of the document at a path.
-fn gathered<F: Shelf + Recall>(alloc: Global, file: &Text, shelf: &mut F) -> Result<Library, Stop>
+pub fn gathered<F: Shelf + Recall>(
+    alloc: Global,
+    file: &Text,
+    shelf: &mut F,
+) -> Result<Library, Stop>
     ensures outcome { Gathers (F.tells shelf.old) file.now (F.refuses shelf.old) (Rose (F.faults shelf.old) (F.faults shelf.new)) result }
     ensures counted { StopCounts result (F.faults shelf.old) (F.faults shelf.new) }
     ensures paths { IfErr result (λ s. HasPath s.status s.paths) }
@@ -130,7 +134,7 @@ fn typed<F: Recall>(alloc: Global, library: &Library, shelf: &F) -> Result<Check
 }
 
 /// The checked form of a library, with the paths of its documents.
-fn located_in<F: Recall>(alloc: Global, library: &Library, shelf: &F) -> Result<Located, Stop>
+pub fn located_in<F: Recall>(alloc: Global, library: &Library, shelf: &F) -> Result<Located, Stop>
     ensures outcome { LocatesIn library.now result }
     ensures paths { IfErr result (λ s. HasPath s.status s.paths) }
 {
@@ -141,25 +145,6 @@ fn located_in<F: Recall>(alloc: Global, library: &Library, shelf: &F) -> Result<
     match library_paths(alloc, library) {
         Ok(paths) => Ok(Located { checked, paths }),
         Err(_) => Err(stop(alloc, Status::NoMemory)),
-    }
-}
-
-/// The checked form of the document at a path, and the paths of the documents that it imports.
-pub fn located_of<F: Shelf + Recall>(
-    alloc: Global,
-    file: &Text,
-    shelf: &mut F,
-) -> Result<Located, Stop>
-    ensures outcome { Locates (F.tells shelf.old) file.now (F.refuses shelf.old) (Rose (F.faults shelf.old) (F.faults shelf.new)) result }
-    ensures counted { StopCounts result (F.faults shelf.old) (F.faults shelf.new) }
-    ensures paths { IfErr result (λ s. HasPath s.status s.paths) }
-    ensures later { F.faults shelf.old ≤ F.faults shelf.new }
-    ensures same_files { (p : List ℕ) → F.tells shelf.new p ≡ F.tells shelf.old p }
-    ensures same_refusals { (p : List ℕ) → F.refuses shelf.new p ↔ F.refuses shelf.old p }
-{
-    match gathered(alloc, file, shelf) {
-        Ok(library) => located_in(alloc, &library, &*shelf),
-        Err(stop) => Err(stop),
     }
 }
 

@@ -10,7 +10,7 @@ ghost use Rattle.workflow_cli.specs.Writing.{HasPaths};
 
 use crate::checking::{Located, stop};
 use crate::ended::{Stop, Work};
-use crate::note::note_on;
+use crate::exclusion::outside;
 use crate::prepare::{Prepared, main_of, start_of};
 use crate::recall::Recall;
 use cwl_emit::{object_text, process_text};
@@ -21,37 +21,7 @@ use report_text::Status;
 use std::alloc::Global;
 use wdl_port::Shelf;
 use wdl_typed::Checked;
-use wdl_value::{Env, Items, NoMemory, Span, Text};
-
-/// The paths, and empty ones behind them up to that number.
-fn padded(alloc: Global, paths: Items<Text>, number: u32) -> Result<Items<Text>, NoMemory>
-    ensures value { IfOk result (λ all. spec.ArePaths paths number all) }
-{
-    let mut all = paths;
-    'fill: while all.len() <= number as usize {
-        all.push(Text::empty(alloc))?;
-    }
-    Ok(all)
-}
-
-/// The stop of a rule of the subset that is broken.
-fn outside<F: Recall>(alloc: Global, rule: u16, span: Span, paths: Items<Text>, shelf: &F) -> Stop
-    ensures value { spec.IsOutsideStop rule span paths result.status result.paths }
-    ensures paths { HasPath result.status result.paths }
-{
-    let note = match paths.get(span.doc as usize) {
-        Some(path) => note_on(alloc, shelf, path, rule, span, None),
-        None => None,
-    };
-    match padded(alloc, paths, span.doc) {
-        Ok(paths) => Stop {
-            status: Status::NotInSubset(rule, span),
-            paths,
-            note,
-        },
-        Err(_) => stop(alloc, Status::NoMemory),
-    }
-}
+use wdl_value::{Env, Items, NoMemory, Text};
 
 /// The checked form as one of the subset.
 fn subset_of<F: Recall>(

@@ -1,6 +1,6 @@
-//! What the documents mean that are written: a law of the definitions, which says nothing of code.
+//! What the documents mean that are written: laws of the definitions, which say nothing of code.
 
-ghost use Rattle.workflow_cli.specs.Meaning.{DocumentsMean, DocumentsRead, ObjectsMean, ObjectsRead};
+ghost use Rattle.workflow_cli.specs.Meaning.{BundlesAgree, DocumentsMean, DocumentsRead, ObjectsMean, ObjectsRead};
 
 /// The CWL document that `cwl` writes is the text of a JSON value that reads as the process of the
 /// main workflow, and a newline. The process means what the workflow does (CWL v1.2, Workflow;
@@ -15,4 +15,12 @@ pub fn documents_mean()
     ensures documents { DocumentsMean }
     ensures objects { ObjectsMean }
     ensures objects_read { ObjectsRead }
+{}
+
+/// The document that `bundle` writes, read and checked alone, has a main workflow of the same name,
+/// which takes exactly the inputs that the main workflow of the documents takes. For all inputs,
+/// every site and every table of answers, the flows of the two (OpenWDL 1.1, "Workflow Definition")
+/// have the same outputs, known names, jobs, faults and waits.
+pub fn bundles_agree()
+    ensures law { BundlesAgree }
 {}

@@ -11,6 +11,7 @@ ghost use Rattle.workflow_cli.specs.Running.{work_trace};
 ghost use Rattle.workflow_cli.specs.Stages.{IsFitting, main_with};
 ghost use Rattle.workflow_cli.specs.Writing.{HasPaths};
 
+use crate::alone::shelf_of;
 use crate::asking::{Report, RunOptions};
 use crate::checking::stop;
 use crate::ended::{Stop, Work, Worked};
@@ -25,7 +26,7 @@ use std::sync::ledger::Ledger;
 use std::thread::Threads;
 use std::time::Clock;
 use wdl_load::{load_table, load_text};
-use wdl_port::{MemoryShelf, MemorySink, PathFile, TableLauncher};
+use wdl_port::{MemoryShelf, MemorySink, TableLauncher};
 use wdl_value::{Items, NoMemory, Steps, Text};
 
 /// The path of the document on its shelf.
@@ -52,12 +53,8 @@ fn source_of(alloc: Global, number: u32) -> Result<Source, NoMemory>
     ensures fails { IfOk result (λ s. s.shelf.shelf.fails ≡ []) }
 {
     let file = Text::from_plain(alloc, FILE)?;
-    let path = file.copy(alloc)?;
     let text = load_text(alloc, number)?;
-    let bytes = Items::from_slice(alloc, text.as_str().as_bytes())?;
-    let mut files = Items::new(alloc);
-    files.push(PathFile { path, bytes })?;
-    let shelf = RecallingShelf::new(alloc, MemoryShelf::new(files, Items::new(alloc)));
+    let shelf = shelf_of(alloc, &file, &text)?;
     Ok(Source { file, shelf })
 }
 

@@ -6,16 +6,17 @@ ghost use Rattle.report_text.specs.Lines.{HasPath};
 ghost use Rattle.wdl_port.specs.Causes.{Rose};
 ghost use Rattle.workflow_cli.specs.Counting.{ReadCounts, StopCounts};
 ghost use Rattle.wdl_json.specs.Inputs.{main_of as main_in};
-ghost use Rattle.workflow_cli.specs.Documents.{LocatesMain};
+ghost use Rattle.workflow_cli.specs.Documents.{LocatesMain, LocatesMainIn};
 ghost use Rattle.workflow_cli.specs.Stages as spec;
 
-use crate::checking::{Located, located_of, stop};
+use crate::checking::{Located, gathered, located_in, stop};
 use crate::ended::Stop;
 use crate::inputs::{given_of, inputs_text};
 use crate::note::{note_on, note_on_inputs};
 use crate::recall::Recall;
 use report_text::Status;
 use std::alloc::Global;
+use wdl_library::Library;
 use wdl_port::Shelf;
 use wdl_typed::{Checked, FlowDef};
 use wdl_value::{Env, Items, NoMemory, Span, Text};
@@ -65,6 +66,26 @@ fn mainless<F: Recall>(alloc: Global, file: &Text, shelf: &F) -> Stop
     }
 }
 
+/// The checked form of a library, which has a main workflow. Its first document is the one at the path.
+pub fn main_in<F: Recall>(
+    alloc: Global,
+    library: &Library,
+    file: &Text,
+    shelf: &F,
+) -> Result<Located, Stop>
+    ensures outcome { LocatesMainIn library.now file.now result }
+    ensures paths { IfErr result (λ s. HasPath s.status s.paths) }
+{
+    let located = match located_in(alloc, library, shelf) {
+        Ok(located) => located,
+        Err(unchecked) => return Err(unchecked),
+    };
+    if main_flow(&located.checked).is_none() {
+        return Err(mainless(alloc, file, shelf));
+    }
+    Ok(located)
+}
+
 /// The checked form of the document at a path, which has a main workflow.
 pub fn main_of<F: Shelf + Recall>(
     alloc: Global,
@@ -78,14 +99,10 @@ pub fn main_of<F: Shelf + Recall>(
     ensures same_files { (p : List ℕ) → F.tells shelf.new p ≡ F.tells shelf.old p }
     ensures same_refusals { (p : List ℕ) → F.refuses shelf.new p ↔ F.refuses shelf.old p }
 {
-    let located = match located_of(alloc, file, shelf) {
-        Ok(located) => located,
-        Err(unchecked) => return Err(unchecked),
-    };
-    if main_flow(&located.checked).is_none() {
-        return Err(mainless(alloc, file, &*shelf));
+    match gathered(alloc, file, shelf) {
+        Ok(library) => main_in(alloc, &library, file, &*shelf),
+        Err(unread) => Err(unread),
     }
-    Ok(located)
 }
 
 /// The inputs of the main workflow.

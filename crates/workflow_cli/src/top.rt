@@ -4,13 +4,13 @@ ghost use Rattle.wdl_base.specs.declared.fault.Fault.{Fault as FaultOf};
 ghost use Rattle.wdl_base.specs.declared.place.Segment.{Segment as SegmentOf};
 ghost use Rattle.wdl_base.specs.declared.span.Span.{Span as SpanOf};
 ghost use Rattle.report_text.specs.declared.status.Status.TheVariants as status;
-ghost use Rattle.workflow_cli.specs.Asking.{IsLoad, IsLoadOf, IsNotBuilt, asked};
+ghost use Rattle.workflow_cli.specs.Asking.{IsLoad, IsLoadOf, asked};
 ghost use Rattle.workflow_cli.specs.Causes.{IsStartedOn, IsUnread, UsesJournal};
 ghost use Rattle.workflow_cli.specs.Counting.{StatusCounts};
 ghost use Rattle.workflow_cli.specs.Loading.{IsLoadWritten, LoadEnds};
 ghost use Rattle.workflow_cli.specs.Running.{IsBadInputs, IsFailed, IsIdle, IsTooMany, IsUnkept, IsUnlaunched, SomeRun, trace_by};
 ghost use Rattle.workflow_cli.specs.Writing.{IsCut, IsExcluded, IsReported, IsWritten, Lines};
-ghost use Rattle.workflow_cli.specs.Complete.{CheckIsComplete, CwlIsComplete, DocumentIsComplete, FormIsComplete, InputsIsComplete, MainIsComplete, NotBuiltIsComplete, PrintIsComplete, RunIsComplete, UsageIsComplete};
+ghost use Rattle.workflow_cli.specs.Complete.{BundleIsComplete, CheckIsComplete, CwlIsComplete, DocumentIsComplete, FormIsComplete, InputsIsComplete, MainIsComplete, PrintIsComplete, RunIsComplete, UsageIsComplete};
 
 use crate::ended::{Ended, Worked};
 use crate::finish::finish;
@@ -34,13 +34,14 @@ use wdl_value::Steps;
 /// a newline, and `cwl --inputs INPUTS FILE` the CWL input object of these inputs and a newline, where no rule of the subset is
 /// broken. `load N` makes a workflow of N calls, runs it by 4 workers with answers of its own, and writes `calls N jobs J last V`
 /// and a newline, where J is the length of the journal and V the output; it calls neither the shelf nor the launcher nor the
-/// keeper. `inputs FILE` writes the inputs of the main workflow as a JSON object to fill in and a newline; `help` and `version`,
-/// which have other spellings, a text of the program and a newline. With another status its line is written to `err`.
+/// keeper. `inputs FILE` writes the inputs of the main workflow as a JSON object to fill in and a newline. `bundle FILE` writes one
+/// document that has the main workflow, the tasks that it calls and the structs, and no import, where that workflow calls no
+/// workflow and the text has at most 1,048,576 bytes; the text was read and checked alone, and its main workflow is the same but for
+/// the names of its tasks. `help` and `version`, which have other spellings, write a text of the program and a newline. With
+/// another status its line is written to `err`.
 ///
 /// `notes` gets what a person is told of a run as it goes on, and of why a command does no more. Nothing is promised of it here, and
 /// nothing depends on whether a write to it fails. `style` says how the lines of a run look.
-///
-/// Not built yet is `bundle`.
 pub fn workflow<
     F: Shelf + Recall,
     O: Sink,
@@ -97,8 +98,6 @@ pub fn workflow<
         → IsUnkept (F.tells shelf.old) words.now (L.gives launcher.now) (L.refuses launcher.now) (trace_by K.kept K.path K.faults result steps.old steps.new keeper.old keeper.new) }
     ensures too_many { ¬ (IsLoad words.now) → result.status ≡ status.TooMany
         → IsTooMany (F.tells shelf.old) words.now (L.gives launcher.now) (L.refuses launcher.now) (trace_by K.kept K.path K.faults result steps.old steps.new keeper.old keeper.new) }
-    ensures not_built { ¬ (IsLoad words.now) → result.status ≡ status.NotBuilt
-        → IsIdle (trace_by K.kept K.path K.faults result steps.old steps.new keeper.old keeper.new) × IsNotBuilt words.now }
     // `load N` with Ok writes its line and nothing else: the journal is fed for the checked form of its document, each answer is one
     // of its table, and the flow over it is clean.
     ensures load_ok { (n : ℕ) → IsLoadOf words.now n → result.status ≡ status.Ok
@@ -118,7 +117,6 @@ pub fn workflow<
     ensures started { IsStartedOn words.now result.status result.journal (K.path keeper.new) }
     // The other way round: which status comes, unless memory ends.
     ensures usage_complete { UsageIsComplete words.now (Rose (E.faults err.old) (E.faults err.new)) result.status }
-    ensures not_built_complete { NotBuiltIsComplete words.now (Rose (E.faults err.old) (E.faults err.new)) result.status }
     ensures document_complete { DocumentIsComplete (F.tells shelf.old) words.now (Rose (F.faults shelf.old) (F.faults shelf.new))
         (Rose (O.faults out.old) (O.faults out.new) ⊎ Rose (E.faults err.old) (E.faults err.new)) result.status }
     ensures main_complete { MainIsComplete (F.tells shelf.old) words.now (Rose (F.faults shelf.old) (F.faults shelf.new))
@@ -128,6 +126,8 @@ pub fn workflow<
     ensures check_complete { CheckIsComplete (F.tells shelf.old) words.now (Rose (F.faults shelf.old) (F.faults shelf.new))
         (Rose (O.faults out.old) (O.faults out.new) ⊎ Rose (E.faults err.old) (E.faults err.new)) result.status }
     ensures cwl_complete { CwlIsComplete (F.tells shelf.old) words.now (Rose (F.faults shelf.old) (F.faults shelf.new))
+        (Rose (O.faults out.old) (O.faults out.new) ⊎ Rose (E.faults err.old) (E.faults err.new)) result.status }
+    ensures bundle_complete { BundleIsComplete (F.tells shelf.old) words.now (Rose (F.faults shelf.old) (F.faults shelf.new))
         (Rose (O.faults out.old) (O.faults out.new) ⊎ Rose (E.faults err.old) (E.faults err.new)) result.status }
     ensures form_complete { FormIsComplete (F.tells shelf.old) words.now (Rose (F.faults shelf.old) (F.faults shelf.new))
         (Rose (O.faults out.old) (O.faults out.new) ⊎ Rose (E.faults err.old) (E.faults err.new)) result.status }

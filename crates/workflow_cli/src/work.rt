@@ -10,6 +10,7 @@ ghost use Rattle.workflow_cli.specs.Stages.{Accepts};
 ghost use Rattle.workflow_cli.specs.Writing.{HasPaths};
 
 use crate::asking::{Command, asked};
+use crate::bundling::bundled;
 use crate::checking::{checked_of, stop};
 use crate::cwl::cwl;
 use crate::ended::{Work, Worked};
@@ -86,6 +87,7 @@ pub fn work<
         Ok(Command::Check { file }) => idle(alloc, accepted(alloc, &file, shelf)),
         Ok(Command::Cwl { file, inputs }) => idle(alloc, cwl(alloc, &file, &inputs, shelf)),
         Ok(Command::Inputs { file }) => idle(alloc, form(alloc, &file, shelf)),
+        Ok(Command::Bundle { file }) => idle(alloc, bundled(alloc, &file, shelf)),
         Ok(Command::Load { number }) => load(rt, alloc, number, style, steps),
         Ok(Command::Print { page }) => idle(alloc, printed(alloc, page)),
         Err(status) => idle(alloc, Work::Stop(stop(alloc, status))),

@@ -12,7 +12,8 @@ $ run --workers 1 w.wdl
 > /tmp/wdl-run/say echo hi
 
 say
-text workflow w { call say as b { input: s = a.r } call say as a { input: s = "x" } output { String r = b.r } }
+text workflow w { call say as b { input: s = a.r } call say as a { input: s = "x" }
+text  output { String r = b.r } }
 file w.wdl
 answer a 0 0 y
 answer b 0 0 z
@@ -23,7 +24,8 @@ $ run --workers 1 --root /tmp/here w.wdl
 > /tmp/here/b echo y
 
 say
-text workflow w { call say { input: s = "a" } call say as b { input: s = say.r } output { String x = b.r String y = say.r } }
+text workflow w { call say { input: s = "a" } call say as b { input: s = say.r }
+text  output { String x = b.r String y = say.r } }
 file w.wdl
 answer say 0 0 A
 answer b 0 0 B
@@ -46,20 +48,23 @@ $ run --workers 1 w.wdl
 
 /// Calls in blocks.
 const BLOCKS: &str = r#"say
-text workflow w { scatter (i in [3, 1, 2]) { call say { input: s = i } } output { Array[String] r = say.r } }
+text workflow w { scatter (i in [3, 1, 2]) { call say { input: s = i } }
+text  output { Array[String] r = say.r } }
 file w.wdl
 answer scatter-0/0/say 0 0 3
 answer scatter-0/1/say 0 0 1
 answer scatter-0/2/say 0 0 2
 $ run --workers 1 w.wdl
-> 0 3 +scatter-0/0/say -scatter-0/0/say +scatter-0/1/say -scatter-0/1/say +scatter-0/2/say -scatter-0/2/say
+>. 0 3 +scatter-0/0/say -scatter-0/0/say +scatter-0/1/say -scatter-0/1/say
+>  +scatter-0/2/say -scatter-0/2/say
 > {"w.r":["3","1","2"]}
 > /tmp/wdl-run/scatter-0/0/say echo 3
 > /tmp/wdl-run/scatter-0/1/say echo 1
 > /tmp/wdl-run/scatter-0/2/say echo 2
 
 say
-text workflow w { input { Array[String] xs } scatter (x in xs) { call say { input: s = x } } output { Array[String] r = say.r } }
+text workflow w { input { Array[String] xs } scatter (x in xs) { call say { input: s = x } }
+text  output { Array[String] r = say.r } }
 file w.wdl
 inputs {"w.xs":[]}
 $ run --workers 1 --inputs i.json w.wdl
@@ -67,8 +72,8 @@ $ run --workers 1 --inputs i.json w.wdl
 > {"w.r":[]}
 
 say
-text workflow w { input { Boolean c Array[String] xs } if (c) { scatter (x in xs) { call say { input: s = x } } } 
-text output { Array[String]? r = say.r } }
+text workflow w { input { Boolean c Array[String] xs } if (c) { scatter (x in xs) {
+text  call say { input: s = x } } } output { Array[String]? r = say.r } }
 file w.wdl
 inputs {"w.c":false,"w.xs":["a"]}
 $ run --workers 1 --inputs i.json w.wdl
@@ -76,8 +81,8 @@ $ run --workers 1 --inputs i.json w.wdl
 > {"w.r":null}
 
 say
-text workflow w { input { Boolean c Array[String] xs } if (c) { scatter (x in xs) { call say { input: s = x } } } 
-text output { Array[String]? r = say.r } }
+text workflow w { input { Boolean c Array[String] xs } if (c) { scatter (x in xs) {
+text  call say { input: s = x } } } output { Array[String]? r = say.r } }
 file w.wdl
 inputs {"w.c":true,"w.xs":["a"]}
 answer if-0/scatter-0/0/say 0 0 a
@@ -87,8 +92,8 @@ $ run --workers 1 --inputs i.json w.wdl
 > /tmp/wdl-run/if-0/scatter-0/0/say echo a
 
 say
-text workflow w { input { Array[Pair[Boolean, String]] ps } 
-text scatter (p in ps) { if (p.left) { call say { input: s = p.right } } } output { Array[String?] r = say.r } }
+text workflow w { input { Array[Pair[Boolean, String]] ps } scatter (p in ps) { if (p.left) {
+text  call say { input: s = p.right } } } output { Array[String?] r = say.r } }
 file w.wdl
 inputs {"w.ps":[{"left":true,"right":"a"},{"left":false,"right":"b"},{"left":true,"right":"c"}]}
 answer scatter-0/0/if-0/say 0 0 a
@@ -100,10 +105,12 @@ $ run --workers 1 --inputs i.json w.wdl
 > /tmp/wdl-run/scatter-0/2/if-0/say echo c"#;
 
 /// Files that a command leaves, and files that are laid before it.
-const FILES: &str =
-    r#"version task make { input { String s } String t = u + "!" String u = s command <<<echo ~{t} > o.txt>>> 
-text output { File o = "./x//../o.txt" String r = read_string("o.txt/.") File? z = "x/../../make/o.txt" } } 
-text workflow w { call make { input: s = "hi" } output { File o = make.o String r = make.r File? z = make.z } }
+const FILES: &str = r#"version task make { input { String s } String t = u + "!" String u = s
+text  command <<<echo ~{t} > o.txt>>>
+text  output { File o = "./x//../o.txt" String r = read_string("o.txt/.")
+text  File? z = "x/../../make/o.txt" } }
+text  workflow w { call make { input: s = "hi" }
+text  output { File o = make.o String r = make.r File? z = make.z } }
 file w.wdl
 left o.txt hi!
 answer make 0 0
@@ -112,9 +119,11 @@ $ run --workers 1 w.wdl
 > {"w.o":"/tmp/wdl-run/make/o.txt","w.r":"hi!","w.z":null}
 > /tmp/wdl-run/make echo hi! > o.txt
 
-version task make { input { String s } String t = u + "!" String u = s command <<<echo ~{t} > o.txt>>> 
-text output { File o = "o.txt" String r = read_string("o.txt") File? z = "no.txt" } } 
-text workflow w { call make { input: s = "hi" } output { File o = make.o String r = make.r File? z = make.z } }
+version task make { input { String s } String t = u + "!" String u = s
+text  command <<<echo ~{t} > o.txt>>>
+text  output { File o = "o.txt" String r = read_string("o.txt") File? z = "no.txt" } }
+text  workflow w { call make { input: s = "hi" }
+text  output { File o = make.o String r = make.r File? z = make.z } }
 file w.wdl
 answer make 0 0
 $ run --workers 1 w.wdl
@@ -122,8 +131,9 @@ $ run --workers 1 w.wdl
 > ! failed make o: 511 FileMissing
 > /tmp/wdl-run/make echo hi! > o.txt
 
-version task many { input { Array[String] xs } command <<<wc -l < ~{write_lines(xs)}>>> output { Int n = read_int(stdout()) } } 
-text workflow w { call many { input: xs = ["a", "b"] } output { Int n = many.n } }
+version task many { input { Array[String] xs }
+text  command <<<wc -l < ~{write_lines(xs)}>>> output { Int n = read_int(stdout()) } }
+text  workflow w { call many { input: xs = ["a", "b"] } output { Int n = many.n } }
 file w.wdl
 answer many 0 0 2
 $ run --workers 1 w.wdl
@@ -133,8 +143,9 @@ $ run --workers 1 w.wdl
 > b
 > ]
 
-version task many { input { Array[String] xs } command <<<wc -l < ~{write_lines(xs)}>>> output { Int n = read_int(stdout()) } } 
-text workflow w { input { String x } call many { input: xs = [x] } output { Int n = many.n } }
+version task many { input { Array[String] xs }
+text  command <<<wc -l < ~{write_lines(xs)}>>> output { Int n = read_int(stdout()) } }
+text  workflow w { input { String x } call many { input: xs = [x] } output { Int n = many.n } }
 file w.wdl
 text {"w.x":"
 times 70000 a

@@ -3,20 +3,22 @@ use workflow_cases::first_mistake;
 
 /// Answers that end a run with a fault, and answers that do not.
 const ANSWERS: &str = r#"say
-text workflow w { call say as top { input: s = "t" } call say as left { input: s = top.r } call say as right { input: s = top.r } 
-text call say as bottom { input: s = left.r + right.r } }
+text workflow w { call say as top { input: s = "t" } call say as left { input: s = top.r }
+text  call say as right { input: s = top.r } call say as bottom { input: s = left.r + right.r } }
 file w.wdl
 answer top 0 0 t
 answer left 0 0 l
 answer right 0 3
 $ run --workers 1 w.wdl
-> 1 2 +top -top +right -right
+> 1 3 +top -top +left -left +right -right
 > ! failed right: status 3
 > /tmp/wdl-run/top echo t
+> /tmp/wdl-run/left echo t
 > /tmp/wdl-run/right echo t
 
 say
-text workflow w { call say { input: s = "a" } call say as b { input: s = say.r } output { String x = b.r String y = say.r } }
+text workflow w { call say { input: s = "a" } call say as b { input: s = say.r }
+text  output { String x = b.r String y = say.r } }
 file w.wdl
 answer say 0 3
 $ run --workers 1 w.wdl

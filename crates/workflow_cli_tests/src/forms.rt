@@ -18,8 +18,10 @@ $ inputs w.wdl
 
 version struct Sample { String id }
 file sample.wdl
-version import "sample.wdl" alias Sample as Row workflow lanes { input { Int total = first + 1 Array[Row]+ samples Int first = 3 Int? cap 
-text Map[String, Pair[Int, File?]] table = {} Array[String] names = ["a\"b", "c"] File genome = "/data/g.fa" Int least = -5 String label = "~{first}x" } }
+version import "sample.wdl" alias Sample as Row
+text  workflow lanes { input { Int total = first + 1 Array[Row]+ samples Int first = 3 Int? cap
+text  Map[String, Pair[Int, File?]] table = {} Array[String] names = ["a\"b", "c"]
+text  File genome = "/data/g.fa" Int least = -5 String label = "~{first}x" } }
 file lanes.wdl
 $ inputs lanes.wdl
 > 0 0

@@ -106,9 +106,9 @@ pub fn case_of(alloc: Global, document: &[u8], more: &str) -> Result<Case, Fail>
 }
 
 /// What is seen of a run but for its first line begins so.
-const WRITTEN: &str =
-    "{\"lanes.by_id\":{\"a\":18,\"b\":18,\"c\":18,\"d\":18},\"lanes.totals\":[18,18,18,18]}\n\
-                       /tmp/wdl-run/scatter-0/0/scatter-0/0/count wc -l < /data/a1.txt | head -n 100 # a\n";
+const WRITTEN: &str = "\
+    {\"lanes.by_id\":{\"a\":18,\"b\":18,\"c\":18,\"d\":18},\"lanes.totals\":[18,18,18,18]}\n\
+    /tmp/wdl-run/scatter-0/0/scatter-0/0/count wc -l < /data/a1.txt | head -n 100 # a\n";
 
 #[test]
 fn forty_jobs_give_the_totals(rt: HostRuntime) -> Result<(), Fail> {

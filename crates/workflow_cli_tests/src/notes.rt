@@ -50,7 +50,8 @@ $ check w.wdl
 notes 10000
 > 3 0
 > ! w.wdl:37..52: 304 BadOperands
-> # w.wdl:2:26: error 304 BadOperands: `"é€" && true`: the operator does not take values of these types
+>. # w.wdl:2:26: error 304 BadOperands: `"é€" && true`
+> : the operator does not take values of these types
 > # workflow w { Boolean k = "é€" && true }
 > #                          ^^^^^^^^^^^^
 
@@ -59,18 +60,22 @@ $ check w.wdl
 notes 10000
 > 3 0
 > ! w.wdl:0..0: 112 WrongVersion
-> # w.wdl:1:1: error 112 WrongVersion: the document does not begin with `version 1.1`, the only version that is read
+>. # w.wdl:1:1: error 112 WrongVersion
+> : the document does not begin with `version 1.1`, the only version that is read
 > # 
 > # ^
 
-version task t { input { Int n } Int x = 1 command <<<echo ~{n}>>> output { File o = stdout() } } workflow w { input { Int n } call t { input: n } output { File o = t.o } }
+version task t { input { Int n } Int x = 1 command <<<echo ~{n}>>> output { File o = stdout() } }
+text  workflow w { input { Int n } call t { input: n } output { File o = t.o } }
 file w.wdl
 $ cwl w.wdl
 notes 10000
 > 8 0
 > ! not in the subset: 608 at w.wdl:37..46
-> # w.wdl:2:26: error 608: a task that is written as CWL has no private declarations; compute it in the command
-> # task t { input { Int n } Int x = 1 command <<<echo ~{n}>>> output { File o = stdout() } } workflow w { input { Int n } call t { input: n } output { File o = t.o } }
+>. # w.wdl:2:26: error 608: a task that is written as CWL has no private declarations
+> ; compute it in the command
+>. # task t { input { Int n } Int x = 1 command <<<echo ~{n}>>> output { File o = stdout() } }
+>  workflow w { input { Int n } call t { input: n } output { File o = t.o } }
 > #                          ^^^^^^^^^
 
 version workflow w { Array[Int] k = [
@@ -84,8 +89,14 @@ notes 10000
 > 3 0
 > ! w.wdl:311..312: 301 UnknownName
 > # w.wdl:2:300: error 301 UnknownName: the name `y` is not known here
-> # .., 1, 1, 1, 1, 1, 1, 1, 1, 1, 1, 1, 1, 1, 1, 1, 1, 1, 1, 1, 1, 1, 1, 1, 1, 1, 1, 1, 1, 1, 1, 1, 1, 1, 1, 1, 1, 1, 1, 1, 1, 1, 1, 1, 1, 1, 1, 1, 1, 1, 1, 1, 1, 1, 1, 1, 1, 1, 1, 1, 1, 1, 1, 1, 1, 1, 1, y, 2, 2, 2, 2, 2, 2, 2, 2, 2, 2, 2, 2, 2, 2, 2, 2, 2, 2, 2, 2, 2, 2, 2, 2, 2, 2, 2, 2, 2, 2, 2, 2, 2, 2, 2, 2, 2, 2, 2, 2, 2, 2, 2, 2, 2, 2, 2, 2, 2, 2, 2, 2, 2, 2, 2, 2, 2, 2, 2, 2, 2, 2, 2, 2, 2, 2,..
-> #                                                                                                                                                                                                           ^
+>. # ..
+>* 66 , 1
+>. , y
+>* 66 , 2
+> ,..
+>. #
+>* 203  
+> ^
 
 version
 line workflow w {
@@ -131,7 +142,9 @@ $ check w.wdl
 notes 10000
 > 3 0
 > ! a.wdl:19..20: 204 StructsDiffer
-> # a.wdl:2:8: error 204 StructsDiffer: struct `S` has other members than the struct of this name that is imported or declared before; give one another name, as by `alias S as Other` behind its import
+>. # a.wdl:2:8: error 204 StructsDiffer
+>. : struct `S` has other members than the struct of this name that is imported or declared before
+> ; give one another name, as by `alias S as Other` behind its import
 > # struct S { Int x }
 > #        ^
 
@@ -153,7 +166,8 @@ $ check w.wdl
 notes 10000
 > 3 0
 > ! w.wdl:12..37: 201 SchemeRefused
-> # w.wdl:2:1: error 201 SchemeRefused: an import over a network is not supported; keep a copy of the document beside this one
+>. # w.wdl:2:1: error 201 SchemeRefused: an import over a network is not supported
+> ; keep a copy of the document beside this one
 > # import "http://a.b/a.wdl"
 > # ^^^^^^^^^^^^^^^^^^^^^^^^^
 
@@ -165,7 +179,8 @@ $ check w.wdl
 notes 10000
 > 3 0
 > ! w.wdl:27..41: 203 SameNamespace
-> # w.wdl:2:16: error 203 SameNamespace: another import of this document has the same name; give one of them another by `as`
+>. # w.wdl:2:16: error 203 SameNamespace: another import of this document has the same name
+> ; give one of them another by `as`
 > # import "a.wdl" import "a.wdl" as a
 > #                ^^^^^^^^^^^^^^
 
@@ -177,7 +192,8 @@ $ check w.wdl
 notes 10000
 > 3 0
 > ! w.wdl:45..48: 322 UnknownTask
-> # w.wdl:2:34: error 322 UnknownTask: the document `a.wdl` has no task or workflow `t`; it has `x` and `y`
+>. # w.wdl:2:34: error 322 UnknownTask: the document `a.wdl` has no task or workflow `t`
+> ; it has `x` and `y`
 > # import "a.wdl" workflow w { call a.t }
 > #                                  ^^^"#;
 

@@ -9,15 +9,15 @@ use workflow_cases::{Case, Outcome, read_case, run_case};
 
 /// Three calls, each of which says what the one before it said.
 const CHAIN: &str = r#"say
-text workflow w { call say as a { input: s = "x" } call say as b { input: s = a.r } call say as c { input: s = b.r } 
-text output { String r = c.r } }
+text workflow w { call say as a { input: s = "x" } call say as b { input: s = a.r }
+text  call say as c { input: s = b.r } output { String r = c.r } }
 file w.wdl
 $ run --workers 1 --journal j w.wdl"#;
 
 /// The same with another text for the first call.
 const OTHER: &str = r#"say
-text workflow w { call say as a { input: s = "y" } call say as b { input: s = a.r } call say as c { input: s = b.r } 
-text output { String r = c.r } }
+text workflow w { call say as a { input: s = "y" } call say as b { input: s = a.r }
+text  call say as c { input: s = b.r } output { String r = c.r } }
 file w.wdl
 $ run --workers 1 --journal j w.wdl"#;
 
@@ -88,8 +88,8 @@ fn a_row_without_a_success_is_replaced(rt: HostRuntime) -> Result<(), Fail> {
 
 /// Two calls that need a first one, of which one fails, and one that needs both.
 const CROSS: &str = r#"say
-text workflow w { call say as top { input: s = "t" } call say as left { input: s = top.r } call say as right { input: s = top.r } 
-text call say as bottom { input: s = left.r + right.r } }
+text workflow w { call say as top { input: s = "t" } call say as left { input: s = top.r }
+text  call say as right { input: s = top.r } call say as bottom { input: s = left.r + right.r } }
 file w.wdl
 answer top 0 0 t
 answer left 0 3

@@ -9,79 +9,153 @@ use std::time::Clock;
 use workflow_cases::{read_case, shown};
 
 /// Faults of tokens and grammar. A version stands before each document.
-const TEXTS: &str =
-    r#"workflow w { Int x = «08» } | 102 StrayCharacter | `08` is no number: no digit, letter or `_` stands right behind a number, and a decimal number has no leading zero
-workflow w { Int x = «§» } | 102 StrayCharacter | `§` is no part of the language
-workflow w { Int x = «9223372036854775808» } | 106 NumberTooLarge | the number `9223372036854775808` is too large: expected at most 9223372036854775807
-workflow w { Int «in» = 1 } | 110 Unexpected | `in` is not expected here; it is a reserved word, which cannot be a name
-workflow w { Int «=» 1 } | 110 Unexpected | `=` is not expected here
-workflow w { scatter (i in xs) { «}» | 110 Unexpected | `}` is not expected here, or the document ends too early behind it
-workflow w { «Float» x = 1 } | 120 FloatUsed | `Float`: Float is not supported; compute it in a command, and hand it on as a String
-workflow w { String s = «"»abc | 103 OpenString | this string has no closing quote on its line; write a newline in it as `\n`
-task t { command «<<<»echo | 104 OpenCommand | this command is not closed: expected `>>>`, or `}` where it began with `{`
-workflow w { String s = "«\»q" } | 105 BadEscape | this escape is not known; write a backslash as `\\`
-workflow w { Int k = «1.5» } | 120 FloatUsed | `1.5`: Float is not supported; compute it in a command, and hand it on as a String
-workflow w { «Object» o = 1 } | 121 ObjectUsed | `Object`: Object is not supported; declare a struct
-workflow w { String s = «sub»("a", "b", "c") } | 122 SubUsed | the function `sub` is not supported; use `sed` in a command
-workflow w { Array[Int] s = «read_json»("a") } | 123 LeftOut | the function `read_json` is not supported; use one for lines, tables or maps, as `read_map`
-workflow w { Array[Array[Array[Array[Array[Array[Array[Array[«Array»[Int]]]]]]]]] x = [] } | 111 TooDeep | this is nested too deeply: expected at most 64 levels of an expression or a meta value, and 8 of a type
-task t { command <<<>>> } task «t» { command <<<>>> } | 321 Duplicate | the name `t` is given twice; it stands in line 2 too
-task t { command <<<>>> output { Int x = 1 } } workflow w { call t output { Int y = «t.z» } } | 301 UnknownName | `t.z` is no output of `t`; it has `x`
-task t { command <<<>>> runtime { returnCodes: «"a"» } } | 311 BadRuntime | `"a"` is no such value: `returnCodes` is an Int, an array of Int or `"*"`, and `maxRetries` an Int
-workflow w { call «none» } | 322 UnknownTask | this document has no task `none`; it has none
-task three { input { Int a Int b Int c } command <<<>>> } workflow w { «call three» } | 323 InputMissing | this call of `three` leaves out what it requires: `a`, `b` and `c`
-task many { input { Int i0 = 0 Int i1 = 1 Int i2 = 2 Int i3 = 3 Int i4 = 4 Int i5 = 5 Int i6 = 6 Int i7 = 7 Int i8 = 8 Int i9 = 9 Int i10 = 10 Int i11 = 11 Int i12 = 12 } command <<<>>> } workflow w { call many { input: «x» = 1 } } | 324 InputUnknown | `x` is no input of `many`; it has `i0`, `i1`, `i2`, `i3`, `i4`, `i5`, `i6`, `i7`, `i8`, `i9`, `i10`, `i11` and more
-task none { command <<<>>> } workflow w { call none { input: «x» = 1 } } | 324 InputUnknown | `x` is no input of `none`; it has none
-struct P { Int x } struct R { Int y } workflow w { «Q» q = None } | 329 UnknownType | `Q` is no type: the structs that this document sees are `P` and `R`
-struct «A» { B b } struct B { A a }  | 330 StructCircle | `A` holds itself, or structs hold one another on more than 32 levels"#;
+const TEXTS: &str = "\
+    workflow w { Int x = «08» } | 102 StrayCharacter \
+        | `08` is no number: no digit, letter or `_` stands right behind a number, and a decimal \
+        number has no leading zero\n\
+    workflow w { Int x = «§» } | 102 StrayCharacter | `§` is no part of the language\n\
+    workflow w { Int x = «9223372036854775808» } | 106 NumberTooLarge \
+        | the number `9223372036854775808` is too large: expected at most 9223372036854775807\n\
+    workflow w { Int «in» = 1 } | 110 Unexpected \
+        | `in` is not expected here; it is a reserved word, which cannot be a name\n\
+    workflow w { Int «=» 1 } | 110 Unexpected | `=` is not expected here\n\
+    workflow w { scatter (i in xs) { «}» | 110 Unexpected \
+        | `}` is not expected here, or the document ends too early behind it\n\
+    workflow w { «Float» x = 1 } | 120 FloatUsed \
+        | `Float`: Float is not supported; compute it in a command, and hand it on as a String\n\
+    workflow w { String s = «\"»abc | 103 OpenString \
+        | this string has no closing quote on its line; write a newline in it as `\\n`\n\
+    task t { command «<<<»echo | 104 OpenCommand \
+        | this command is not closed: expected `>>>`, or `}` where it began with `{`\n\
+    workflow w { String s = \"«\\»q\" } | 105 BadEscape \
+        | this escape is not known; write a backslash as `\\\\`\n\
+    workflow w { Int k = «1.5» } | 120 FloatUsed \
+        | `1.5`: Float is not supported; compute it in a command, and hand it on as a String\n\
+    workflow w { «Object» o = 1 } | 121 ObjectUsed \
+        | `Object`: Object is not supported; declare a struct\n\
+    workflow w { String s = «sub»(\"a\", \"b\", \"c\") } | 122 SubUsed \
+        | the function `sub` is not supported; use `sed` in a command\n\
+    workflow w { Array[Int] s = «read_json»(\"a\") } | 123 LeftOut \
+        | the function `read_json` is not supported; use one for lines, tables or maps, as \
+        `read_map`\n\
+    workflow w { Array[Array[Array[Array[Array[Array[Array[Array[«Array»[Int]]]]]]]]] x = [] } \
+        | 111 TooDeep \
+        | this is nested too deeply: expected at most 64 levels of an expression or a meta \
+        value, and 8 of a type\n\
+    task t { command <<<>>> } task «t» { command <<<>>> } | 321 Duplicate \
+        | the name `t` is given twice; it stands in line 2 too\n\
+    task t { command <<<>>> output { Int x = 1 } } \
+        workflow w { call t output { Int y = «t.z» } } \
+        | 301 UnknownName | `t.z` is no output of `t`; it has `x`\n\
+    task t { command <<<>>> runtime { returnCodes: «\"a\"» } } | 311 BadRuntime \
+        | `\"a\"` is no such value: `returnCodes` is an Int, an array of Int or `\"*\"`, and \
+        `maxRetries` an Int\n\
+    workflow w { call «none» } | 322 UnknownTask \
+        | this document has no task `none`; it has none\n\
+    task three { input { Int a Int b Int c } command <<<>>> } workflow w { «call three» } \
+        | 323 InputMissing | this call of `three` leaves out what it requires: `a`, `b` and `c`\n\
+    task many { input { Int i0 = 0 Int i1 = 1 Int i2 = 2 Int i3 = 3 Int i4 = 4 Int i5 = 5 \
+        Int i6 = 6 Int i7 = 7 Int i8 = 8 Int i9 = 9 Int i10 = 10 Int i11 = 11 Int i12 = 12 } \
+        command <<<>>> } workflow w { call many { input: «x» = 1 } } \
+        | 324 InputUnknown \
+        | `x` is no input of `many`; it has `i0`, `i1`, `i2`, `i3`, `i4`, `i5`, `i6`, `i7`, \
+        `i8`, `i9`, `i10`, `i11` and more\n\
+    task none { command <<<>>> } workflow w { call none { input: «x» = 1 } } \
+        | 324 InputUnknown | `x` is no input of `none`; it has none\n\
+    struct P { Int x } struct R { Int y } workflow w { «Q» q = None } | 329 UnknownType \
+        | `Q` is no type: the structs that this document sees are `P` and `R`\n\
+    struct «A» { B b } struct B { A a }  | 330 StructCircle \
+        | `A` holds itself, or structs hold one another on more than 32 levels";
 
 const VERSION: &str = "version 1.1\n";
 
 /// Faults of scope and types. A struct, a task and the beginning of a workflow stand before each document.
-const CHECKS: &str = r#"Int k = «y» | 301 UnknownName | the name `y` is not known here
-call count { input: words = ["a"] } Int k = «count.nn» | 301 UnknownName | `count.nn` is no output of `count`; it has `n` and `text`
-Int k = «count» | 301 UnknownName | `count` is a task or a workflow, and no value; call it, and name an output of the call
-input { Int a = «b» } Int b = 1 | 301 UnknownName | `b` cannot be seen here: the default of an input sees inputs alone
-scatter (i in [1]) { Int j = i } Int k = «i» | 301 UnknownName | `i` cannot be seen here: the item of a scatter is seen in its block alone
-Int k = «frob»(1) | 302 UnknownFunction | `frob` is no function that this language has
-Array[Int] xs = [1] Int k = «xs» | 303 NoCoercion | `k`: expected `Int`, found `xs` of type `Array[Int]`
-scatter (i in [1]) { if (true) { Int j = i } } Int k = «j» | 303 NoCoercion | `k`: expected `Int`, found `j` of type `Array[Int?]`
-call count { input: words = ["a"] } Map[String, Pair[Int, File]]? k = «count.n» | 303 NoCoercion | `k`: expected `Map[String, Pair[Int, File]]?`, found `count.n` of type `Int`
-call count { input: words = «1» } | 303 NoCoercion | `words`: expected `Array[String]+`, found `1`
-Int k = if «1» then 2 else 3 | 304 BadOperands | expected a Boolean behind `if`, found `1`
-Int k = «1 + true» | 304 BadOperands | `1 + true`: the operator does not take values of these types
-Int k = «length(1)» | 305 BadArguments | `length(1)`: expected `length(Array[X])`
-P p = P { x: 1 } Int k = p.«z» | 306 NoMember | `z` is no member of struct `P`; it has `x` and `y`
-Int k = (1, 2).«middle» | 306 NoMember | `middle` is no member of this value: a pair has `left` and `right`, and a struct its own
-call count { input: words = ["a"] } Int k = «count» | 307 NotCallable | `count` is a call, and no value; name an output of it: it has `n` and `text`
-Array[Int] xs = [1] String s = "~{«xs»}" | 308 ArrayInPlaceholder | expected Boolean, Int, String or File in a placeholder, an array of these behind `sep`, a Boolean behind `true` and `false`, or one of these or an optional behind `default`, found `xs` of type `Array[Int]`
-Array[Int] xs = «[1, "a"]» | 310 MembersDiffer | the items of this list have no common type: `[1, "a"]`
-P p = «P» { y: 1 } | 310 MembersDiffer | this `P` lacks a member that it requires; it has `x` and `y`
-P p = P { x: 1, «z»: 2 } | 310 MembersDiffer | `z` is no member of the struct, or is given twice
-Int a = 1 Int «a» = 2 | 321 Duplicate | the name `a` is given twice; it stands in line 2 too
-call «nope» | 322 UnknownTask | this document has no task `nope`; it has `count`
-call «w» | 322 UnknownTask | `w` is the workflow of this document: only that of an imported one can be called
-call «a.nope» | 322 UnknownTask | no import has the name `a`
-«call count» | 323 InputMissing | this call of `count` leaves out what it requires: `words`
-call count { input: «c» = 1 } | 324 InputUnknown | `c` is no input of `count`; it has `words` and `limit`
-scatter (i in «3») { } | 326 NotAnArray | expected an array to scatter over, found `3`
-«Q» q = None | 329 UnknownType | `Q` is no type: the structs that this document sees are `P`
-«Map[Int?, Int]» m = {} | 329 UnknownType | `Map[Int?, Int]`: the keys of a map are Boolean, Int, String or File
-output { Int a = 1 } Int b = «a» | 301 UnknownName | `a` cannot be seen here: an output is seen by outputs alone
-Int k = «read_int»("x") | 309 ReadOutsideOutputs | `read_int` can be called in the outputs of a task alone; let a task read the file
-Int k = length(«write_lines»([])) | 312 WriteMisplaced | `write_lines` can be called as the whole value of a private declaration of a task, or of a placeholder of its command, alone
-if (true) { Int a = 1 } Int k = «a» | 303 NoCoercion | `k`: expected `Int`, found `a` of type `Int?`
-scatter (i in [1]) { call count { input: words = ["a"] } } Int k = «count.n» | 303 NoCoercion | `k`: expected `Int`, found `count.n` of type `Array[Int]`
-Int a = 1 Int k = a.«b» | 306 NoMember | `b`: a value of type `Int` has no members
-Pair[Int, Int] p = (1, 2) Int k = p.«middle» | 306 NoMember | `middle` is no member of a pair; it has `left` and `right`
-Map[String, Int] xs = «{"a": 2, true: 3}» | 310 MembersDiffer | the keys or the values of this map have no common type: `{"a": 2, true: 3}`
-Int k = «if true then 1 else "a"» | 310 MembersDiffer | the branches of this `if` have no common type: `if true then 1 else "a"`
-«Int a = b» Int b = a | 320 Circular | `Int a = b` depends on itself, or on others that depend on it; a block depends on all that its body does
-if («1») { } | 325 ConditionNotBoolean | expected a Boolean as the condition of `if`, found `1`"#;
+const CHECKS: &str = "\
+    Int k = «y» | 301 UnknownName | the name `y` is not known here\n\
+    call count { input: words = [\"a\"] } Int k = «count.nn» | 301 UnknownName \
+        | `count.nn` is no output of `count`; it has `n` and `text`\n\
+    Int k = «count» | 301 UnknownName \
+        | `count` is a task or a workflow, and no value; call it, and name an output of the \
+        call\n\
+    input { Int a = «b» } Int b = 1 | 301 UnknownName \
+        | `b` cannot be seen here: the default of an input sees inputs alone\n\
+    scatter (i in [1]) { Int j = i } Int k = «i» | 301 UnknownName \
+        | `i` cannot be seen here: the item of a scatter is seen in its block alone\n\
+    Int k = «frob»(1) | 302 UnknownFunction | `frob` is no function that this language has\n\
+    Array[Int] xs = [1] Int k = «xs» | 303 NoCoercion \
+        | `k`: expected `Int`, found `xs` of type `Array[Int]`\n\
+    scatter (i in [1]) { if (true) { Int j = i } } Int k = «j» | 303 NoCoercion \
+        | `k`: expected `Int`, found `j` of type `Array[Int?]`\n\
+    call count { input: words = [\"a\"] } Map[String, Pair[Int, File]]? k = «count.n» \
+        | 303 NoCoercion \
+        | `k`: expected `Map[String, Pair[Int, File]]?`, found `count.n` of type `Int`\n\
+    call count { input: words = «1» } | 303 NoCoercion \
+        | `words`: expected `Array[String]+`, found `1`\n\
+    Int k = if «1» then 2 else 3 | 304 BadOperands \
+        | expected a Boolean behind `if`, found `1`\n\
+    Int k = «1 + true» | 304 BadOperands \
+        | `1 + true`: the operator does not take values of these types\n\
+    Int k = «length(1)» | 305 BadArguments | `length(1)`: expected `length(Array[X])`\n\
+    P p = P { x: 1 } Int k = p.«z» | 306 NoMember \
+        | `z` is no member of struct `P`; it has `x` and `y`\n\
+    Int k = (1, 2).«middle» | 306 NoMember \
+        | `middle` is no member of this value: a pair has `left` and `right`, and a struct its \
+        own\n\
+    call count { input: words = [\"a\"] } Int k = «count» | 307 NotCallable \
+        | `count` is a call, and no value; name an output of it: it has `n` and `text`\n\
+    Array[Int] xs = [1] String s = \"~{«xs»}\" | 308 ArrayInPlaceholder \
+        | expected Boolean, Int, String or File in a placeholder, an array of these behind \
+        `sep`, a Boolean behind `true` and `false`, or one of these or an optional behind \
+        `default`, found `xs` of type `Array[Int]`\n\
+    Array[Int] xs = «[1, \"a\"]» | 310 MembersDiffer \
+        | the items of this list have no common type: `[1, \"a\"]`\n\
+    P p = «P» { y: 1 } | 310 MembersDiffer \
+        | this `P` lacks a member that it requires; it has `x` and `y`\n\
+    P p = P { x: 1, «z»: 2 } | 310 MembersDiffer \
+        | `z` is no member of the struct, or is given twice\n\
+    Int a = 1 Int «a» = 2 | 321 Duplicate \
+        | the name `a` is given twice; it stands in line 2 too\n\
+    call «nope» | 322 UnknownTask | this document has no task `nope`; it has `count`\n\
+    call «w» | 322 UnknownTask \
+        | `w` is the workflow of this document: only that of an imported one can be called\n\
+    call «a.nope» | 322 UnknownTask | no import has the name `a`\n\
+    «call count» | 323 InputMissing \
+        | this call of `count` leaves out what it requires: `words`\n\
+    call count { input: «c» = 1 } | 324 InputUnknown \
+        | `c` is no input of `count`; it has `words` and `limit`\n\
+    scatter (i in «3») { } | 326 NotAnArray | expected an array to scatter over, found `3`\n\
+    «Q» q = None | 329 UnknownType \
+        | `Q` is no type: the structs that this document sees are `P`\n\
+    «Map[Int?, Int]» m = {} | 329 UnknownType \
+        | `Map[Int?, Int]`: the keys of a map are Boolean, Int, String or File\n\
+    output { Int a = 1 } Int b = «a» | 301 UnknownName \
+        | `a` cannot be seen here: an output is seen by outputs alone\n\
+    Int k = «read_int»(\"x\") | 309 ReadOutsideOutputs \
+        | `read_int` can be called in the outputs of a task alone; let a task read the file\n\
+    Int k = length(«write_lines»([])) | 312 WriteMisplaced \
+        | `write_lines` can be called as the whole value of a private declaration of a task, or \
+        of a placeholder of its command, alone\n\
+    if (true) { Int a = 1 } Int k = «a» | 303 NoCoercion \
+        | `k`: expected `Int`, found `a` of type `Int?`\n\
+    scatter (i in [1]) { call count { input: words = [\"a\"] } } Int k = «count.n» \
+        | 303 NoCoercion | `k`: expected `Int`, found `count.n` of type `Array[Int]`\n\
+    Int a = 1 Int k = a.«b» | 306 NoMember | `b`: a value of type `Int` has no members\n\
+    Pair[Int, Int] p = (1, 2) Int k = p.«middle» | 306 NoMember \
+        | `middle` is no member of a pair; it has `left` and `right`\n\
+    Map[String, Int] xs = «{\"a\": 2, true: 3}» | 310 MembersDiffer \
+        | the keys or the values of this map have no common type: `{\"a\": 2, true: 3}`\n\
+    Int k = «if true then 1 else \"a\"» | 310 MembersDiffer \
+        | the branches of this `if` have no common type: `if true then 1 else \"a\"`\n\
+    «Int a = b» Int b = a | 320 Circular \
+        | `Int a = b` depends on itself, or on others that depend on it; a block depends on all \
+        that its body does\n\
+    if («1») { } | 325 ConditionNotBoolean \
+        | expected a Boolean as the condition of `if`, found `1`";
 
-const WORKFLOW: &str =
-    r#"version 1.1 struct P { Int x Int? y } task count { input { Array[String]+ words Int limit = 3 } command <<<>>> output { Int n = 1 String text = "a" } } workflow w {
-"#;
+const WORKFLOW: &str = "\
+    version 1.1 struct P { Int x Int? y } \
+    task count { input { Array[String]+ words Int limit = 3 } command <<<>>> \
+    output { Int n = 1 String text = \"a\" } } workflow w {\n";
 
 /// The parts of a row.
 #[derive(Clone, Copy)]

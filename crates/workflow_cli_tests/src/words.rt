@@ -5,12 +5,11 @@ use std::time::Clock;
 use workflow_cases::first_mistake;
 
 /// Words without a reading.
-const UNREADABLE: &str =
-    "|run|walk w.wdl|run --workers 0 w.wdl|run --workers 65 w.wdl|run --root tmp w.wdl|run w.wdl w.wdl|\
-run --inputs w.wdl|check|inputs|inputs w.wdl w.wdl|help w.wdl|help version|run --help w.wdl|cwl|cwl --inputs w.wdl|cwl --root /a w.wdl|load 0|load 10001|run --root /a --root /b w.wdl";
-
-/// Words that ask for what is not built.
-const NOT_BUILT: &str = "bundle w.wdl|bundle lost.wdl";
+const UNREADABLE: &str = "\
+    |run|walk w.wdl|run --workers 0 w.wdl|run --workers 65 w.wdl|run --root tmp w.wdl|\
+    run w.wdl w.wdl|run --inputs w.wdl|check|inputs|inputs w.wdl w.wdl|help w.wdl|help version|\
+    run --help w.wdl|cwl|cwl --inputs w.wdl|cwl --root /a w.wdl|load 0|load 10001|\
+    bundle|bundle w.wdl w.wdl|run --root /a --root /b w.wdl";
 
 /// What is wrong with the first of these words, between bars, of which the call shows anything else.
 fn first_wrong<R: Threads + Wait + Clock + Sync + AllocGlobal>(
@@ -34,15 +33,9 @@ fn first_wrong<R: Threads + Wait + Clock + Sync + AllocGlobal>(
 #[test]
 fn words_without_a_reading_have_status_2(rt: HostRuntime) -> Result<(), Fail> {
     let expected = "> 2 0\n> ! usage: wdl run [--inputs FILE] [--workers N] [--root DIR] \
-                    [--journal FILE] FILE | check FILE | inputs FILE | cwl [--inputs FILE] FILE | load N";
+                    [--journal FILE] FILE | check FILE | inputs FILE \
+                    | cwl [--inputs FILE] FILE | load N | bundle FILE";
     assert_eq!(rt; first_wrong(&rt, UNREADABLE, expected)?.as_str(), "");
-    Ok(())
-}
-
-#[test]
-fn what_is_not_built_has_status_12(rt: HostRuntime) -> Result<(), Fail> {
-    let expected = "> 12 0\n> ! not built yet";
-    assert_eq!(rt; first_wrong(&rt, NOT_BUILT, expected)?.as_str(), "");
     Ok(())
 }
 

@@ -2,7 +2,7 @@ use Rattle.std.proofs.Common.{◌++◌, ap, ◌∙◌}
 use Rattle.wdl_typed.specs.Bodies.{library}
 use Rattle.wdl_typed.specs.Declarations.{inputs_bound}
 use Rattle.cwl_image.specs.Subset.{declared_by, each_broken, input_broken, walk_body}
-use Rattle.cwl_subset.specs.Lowest.{lower, lowest}
+use Rattle.cwl_rules.specs.Lowest.{lower, lowest}
 use Rattle.cwl_subset.specs.Walks.{flow_outputs_broken, summed}
 use Rattle.cwl_subset.proofs.PartLemmas.{flow_lowest}
 use Rattle.cwl_subset.proofs.flow.flow_broken.Goals as goal

@@ -4,7 +4,7 @@ use Rattle.wdl_typed.specs.declared.flow.FlowDef.{FlowDef}
 use Rattle.wdl_typed.specs.Bodies.{library}
 use Rattle.cwl_image.specs.declared.broken.Broken.{Broken}
 use Rattle.cwl_image.specs.Subset.{flow_broken}
-use Rattle.cwl_subset.specs.Lowest.{lowest}
+use Rattle.cwl_rules.specs.Lowest.{lowest}
 use Rattle.cwl_subset.specs.Tables.{own_table}
 use Rattle.cwl_subset.proofs.flow.flows_broken.Goals as goal
 

@@ -1,5 +1,5 @@
 use Rattle.std.proofs.Common.{◌≡◌, drop}
-use Rattle.cwl_subset.specs.Lowest.{lower}
+use Rattle.cwl_rules.specs.Lowest.{lower}
 use Rattle.cwl_subset.specs.Tables.{called_entry, target_entry}
 use Rattle.cwl_subset.proofs.tables.+called.Given as goal
 

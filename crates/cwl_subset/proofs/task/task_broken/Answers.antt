@@ -1,8 +1,8 @@
 use Rattle.std.proofs.Common.{ap, ◌∙◌}
 use Rattle.cwl_image.specs.Subset.{each_broken, input_broken}
-use Rattle.cwl_subset.specs.declared.declaration.Role.TheVariants as role
-use Rattle.cwl_subset.specs.Lowest.{lower, lowest}
-use Rattle.cwl_subset.specs.Roles.{decl_broken}
+use Rattle.cwl_rules.specs.declared.declaration.Role.TheVariants as role
+use Rattle.cwl_rules.specs.Lowest.{lower, lowest}
+use Rattle.cwl_rules.specs.Roles.{decl_broken}
 use Rattle.cwl_subset.proofs.PartLemmas.{task_lowest}
 use Rattle.cwl_subset.proofs.task.task_broken.Goals as goal
 

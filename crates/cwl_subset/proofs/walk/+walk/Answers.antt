@@ -1,9 +1,9 @@
 use Rattle.std.proofs.Common.{◌≡◌, ◌+◌, ◌++◌, IfOk, drop, ap, subst, sym, ◌∙◌}
 use Rattle.cwl_image.specs.Subset.{block_broken, walk_body}
 use Rattle.cwl_subset.specs.declared.walk.Walked.{Walked}
-use Rattle.cwl_subset.specs.Lowest.{lowest}
+use Rattle.cwl_rules.specs.Lowest.{lowest}
 use Rattle.cwl_subset.specs.Walks.{conditional, library_of, scattered, summed}
-use Rattle.cwl_subset.proofs.ListLemmas.{drop_item}
+use Rattle.cwl_rules.proofs.ListLemmas.{drop_item}
 use Rattle.cwl_subset.proofs.WalkLemmas.{if_inside, scatter_some, walk_goes}
 use Rattle.cwl_subset.proofs.walk.+walk.Goals as goal
 

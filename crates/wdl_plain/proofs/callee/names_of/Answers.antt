@@ -4,7 +4,7 @@ use Rattle.wdl_value.specs.declared.env.Bind.{Bind}
 use Rattle.wdl_typed.specs.Flow.{env_of}
 use Rattle.wdl_flow.specs.declared.known.Known.{Known}
 use Rattle.wdl_flow.specs.Views.{env_in, known_of, knowns_of}
-use Rattle.wdl_plain.proofs.Fitting.{env_both}
+use Rattle.flow_soundness.proofs.Fitting.{env_both}
 use Rattle.wdl_plain.proofs.Loops.{cut}
 use Rattle.wdl_plain.proofs.callee.names_of.Goals as goal
 

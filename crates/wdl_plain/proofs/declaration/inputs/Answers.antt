@@ -4,7 +4,7 @@ use Rattle.wdl_typed.specs.declared.task.TInput.{TInput}
 use Rattle.wdl_typed.specs.Declarations.{plain_key}
 use Rattle.wdl_typed.specs.Flow as flow
 use Rattle.wdl_typed.specs.Scope.{lookup}
-use Rattle.wdl_plain.specs.Readiness.{AreInputsReady}
+use Rattle.flow_soundness.specs.Readiness.{AreInputsReady}
 use Rattle.wdl_flow.specs.Views.{env_in, flowing_of, sight_of}
 use Rattle.wdl_plain.proofs.Few.{few_input}
 use Rattle.wdl_plain.proofs.Loops.{cut, runs_on, sum_is_many}

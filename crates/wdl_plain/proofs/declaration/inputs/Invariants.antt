@@ -3,7 +3,7 @@ use Rattle.wdl_typed.specs.declared.task.TInput.{TInput}
 use Rattle.wdl_typed.specs.Declarations.{plain_key}
 use Rattle.wdl_typed.specs.Flow as flow
 use Rattle.wdl_typed.specs.Scope.{lookup}
-use Rattle.wdl_plain.specs.Readiness.{AreInputsReady}
+use Rattle.flow_soundness.specs.Readiness.{AreInputsReady}
 use Rattle.wdl_flow.specs.Views.{env_in, flowing_of, sight_of}
 use Rattle.wdl_flow.proofs.Turns.{Going}
 use Rattle.wdl_plain.proofs.declaration.inputs.Given as goal

@@ -1,7 +1,7 @@
 use Rattle.std.proofs.Common.{◌+◌, List, drop, map, refl, sym, ap, ◌∙◌, subst}
 use Rattle.wdl_typed.specs.declared.task.TDecl.{TDecl}
 use Rattle.wdl_typed.specs.Flow as flow
-use Rattle.wdl_plain.specs.Readiness.{AreDeclsReady}
+use Rattle.flow_soundness.specs.Readiness.{AreDeclsReady}
 use Rattle.wdl_flow.specs.Views.{flowing_of, sight_of}
 use Rattle.wdl_plain.proofs.Few.{few_decl}
 use Rattle.wdl_plain.proofs.Loops.{cut, runs_on, sum_is_many}

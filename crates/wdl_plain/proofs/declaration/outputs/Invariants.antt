@@ -1,7 +1,7 @@
 use Rattle.std.proofs.Common.{drop, map}
 use Rattle.wdl_typed.specs.declared.task.TDecl.{TDecl}
 use Rattle.wdl_typed.specs.Flow as flow
-use Rattle.wdl_plain.specs.Readiness.{AreDeclsReady}
+use Rattle.flow_soundness.specs.Readiness.{AreDeclsReady}
 use Rattle.wdl_flow.specs.Views.{flowing_of, sight_of}
 use Rattle.wdl_flow.proofs.Turns.{Going}
 use Rattle.wdl_plain.proofs.declaration.outputs.Given as goal

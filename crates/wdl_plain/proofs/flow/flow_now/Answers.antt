@@ -7,7 +7,7 @@ use Rattle.wdl_flow.specs.Views.{env_in}
 use Rattle.wdl_plain.specs.Shown.{library_of}
 use Rattle.wdl_plain.proofs.Shows.{is_shown, over_is, refuses, shows}
 use Rattle.wdl_plain.proofs.Statements.{as_flow}
-use Rattle.wdl_plain.proofs.WholeFlow.{main_ready}
+use Rattle.flow_soundness.proofs.WholeFlow.{main_ready}
 use Rattle.wdl_plain.proofs.flow.flow_now.Goals as goal
 
 pub flow_of-requires : goal.flow_of-requires

@@ -14,14 +14,15 @@ use Rattle.wdl_typed.specs.declared.expr.TExpr.{TExpr}
 use Rattle.wdl_typed.specs.declared.expr.TField.{TField}
 use Rattle.wdl_typed.specs.Flow as flow
 use Rattle.wdl_flow.specs.Views.{env_in, flowing_of, given_of, run_of, sight_of}
-use Rattle.wdl_plain.specs.Readiness.{AreArgsReady, AreDeclsReady, AreInputsReady, AreItemsReady, IsBodyReady, IsCalleeReady, IsStatementReady}
+use Rattle.flow_soundness.specs.Readiness.{AreArgsReady, AreDeclsReady, AreInputsReady, AreItemsReady, IsBodyReady, IsCalleeReady, IsStatementReady}
+use Rattle.flow_soundness.specs.StatementFlow.{statement_flow}
 use Rattle.wdl_plain.specs.Walk as spec
-use Rattle.wdl_plain.proofs.BlockReady.{if_body_ready, if_cond_ready, if_inside, scatter_items_ready, scatter_over_ready}
+use Rattle.flow_soundness.proofs.BlockReady.{if_body_ready, if_cond_ready, if_inside, scatter_items_ready, scatter_over_ready}
 use Rattle.wdl_plain.proofs.Few.{few_decl}
-use Rattle.wdl_plain.proofs.FlowReady.{flow_body_ready, flow_inputs_ready, flow_outputs_ready}
+use Rattle.flow_soundness.proofs.FlowReady.{flow_body_ready, flow_inputs_ready, flow_outputs_ready}
 use Rattle.wdl_plain.proofs.Items.{gathered_more, item_is_many, items_are_many}
 use Rattle.wdl_plain.proofs.Loops.{cut, part_is_many, runs_on, sum_is_many}
-use Rattle.wdl_plain.proofs.Ready.{call_args_ready, callee_is_ready, decl_is_ready, first_ready, rest_ready}
+use Rattle.flow_soundness.proofs.Ready.{call_args_ready, callee_is_ready, decl_is_ready, first_ready, rest_ready}
 use Rattle.wdl_plain.proofs.Statements.{as_flow, both_past, failed_as, flow_below, gives_decl, handed_on, if_as, if_false, if_waits, made_is, made_past, none_of, ran_is, ready_as, scatter_as, scatter_waits, scattered_none, sees_both, taken_is, taken_past, told_is, told_past}
 use Rattle.wdl_plain.proofs.walk.+walk.Goals as goal
 
@@ -265,7 +266,7 @@ pub body_flow-returns-in_err-more-clause-flow : goal.body_flow-returns-in_err-mo
 body_flow-returns-in_err-more-clause-flow g t c =
     let r = run_of c.args.ground.now in
     handed_on _ c.from_residual-in_err-more.result c.in_err-more.field-0.0 c.from_residual-in_err-more.ensures (λ is.
-    part_is_many (spec.statement_flow r c.args.reach.calls) (runs r c.args.reach.calls) (λ x xs. refl) c.args.body.now c.loop-statement.statement-index c.statement-item.result
+    part_is_many (statement_flow r c.args.reach.calls) (runs r c.args.reach.calls) (λ x xs. refl) c.args.body.now c.loop-statement.statement-index c.statement-item.result
     (flowing_of c.loop-statement.total) (spec.body_flow r c.args.reach.calls c.args.body.now (sight_of c.args.sight.now)) (sight_of c.loop-statement.sight) (sight_of c.args.sight.now)
     c.loop-statement-test.true c.statement-item.is (c.in_err-more.ensures.flow is) c.loop-statement.invariant.0)
 
@@ -273,7 +274,7 @@ pub body_flow-returns-in_err-total-2-clause-flow : goal.body_flow-returns-in_err
 body_flow-returns-in_err-total-2-clause-flow g t c =
     let r = run_of c.args.ground.now in
     handed_on _ c.from_residual-in_err-total-2.result c.in_err-total-2.field-0.0 c.from_residual-in_err-total-2.ensures (λ is.
-    sum_is_many (spec.statement_flow r c.args.reach.calls) (runs r c.args.reach.calls) (λ x xs. refl) c.args.body.now c.loop-statement.statement-index c.statement-item.result
+    sum_is_many (statement_flow r c.args.reach.calls) (runs r c.args.reach.calls) (λ x xs. refl) c.args.body.now c.loop-statement.statement-index c.statement-item.result
     (flowing_of c.loop-statement.total) (flowing_of c.in_ok-more.more) (spec.body_flow r c.args.reach.calls c.args.body.now (sight_of c.args.sight.now)) (sight_of c.loop-statement.sight) (sight_of c.args.sight.now)
     c.loop-statement-test.true c.statement-item.is c.in_ok-more.ensures.flow.0 (c.in_err-total-2.ensures is) c.loop-statement.invariant.0)
 
@@ -286,7 +287,7 @@ body_flow-loop-statement-preserved g t c =
     let body = subst (λ (ss : List Statement). IsBodyReady r.library c.args.reach.levels ss s) (cut c.args.body.now c.loop-statement.statement-index st c.loop-statement-test.true c.statement-item.is) c.loop-statement.invariant.1 in
     let seen : sight_of c.enter.new.self ≡ flow.seeing s (flowing_of c.in_ok-more.more) =
     c.in_ok-enter.ensures ∙ ap (λ (z : flow.Sight). flow.seeing z (flowing_of c.in_ok-more.more)) c.in_ok-more.ensures.kept in (
-      runs_on (spec.statement_flow r c.args.reach.calls) (runs r c.args.reach.calls) (λ x xs. refl) c.args.body.now c.loop-statement.statement-index st
+      runs_on (statement_flow r c.args.reach.calls) (runs r c.args.reach.calls) (λ x xs. refl) c.args.body.now c.loop-statement.statement-index st
           (flowing_of c.loop-statement.total) (flowing_of c.in_ok-more.more) (flowing_of c.in_ok-total-2.total) (spec.body_flow r c.args.reach.calls c.args.body.now (sight_of c.args.sight.now))
           s (sight_of c.enter.new.self) (sight_of c.args.sight.now) c.loop-statement-test.true c.statement-item.is c.in_ok-more.ensures.flow.0 seen
           c.in_ok-total-2.ensures.0 c.in_ok-total-2.ensures.1 c.loop-statement.invariant.0,

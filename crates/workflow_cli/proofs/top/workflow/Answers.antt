@@ -4,7 +4,7 @@ use Rattle.workflow_cli.specs.declared.asking.Command.TheVariants as command
 use Rattle.workflow_cli.proofs.Outcomes as told
 use Rattle.workflow_cli.proofs.Outcomes.{outcome}
 use Rattle.workflow_cli.proofs.Completes as complete
-use Rattle.workflow_cli.proofs.Completes.{not_both, readable}
+use Rattle.workflow_cli.proofs.Commands.{readable}
 use Rattle.workflow_cli.proofs.Loaded.{load_written, main_no_load, named_no_load, no_load}
 use Rattle.workflow_cli.proofs.Works.{for_main}
 use Rattle.workflow_cli.proofs.Opened.{started_on}
@@ -38,9 +38,6 @@ returns-clause-launch g c away p e = (told.line_told _ _ _ _ _ _ _ _ _ _ _ _ _ _
 pub returns-clause-too_many : goal.returns-clause-too_many
 returns-clause-too_many g c away e = (told.line_told _ _ _ _ _ _ _ _ _ _ _ _ _ _ (outcome _ _ _ _ _ _ _ _ _ _ _ _ _ c.work-work.result.work _ (c.work-work.ensures.cause away).cause c.finish-status.ensures.value) status.TooMany refl e).cause
 
-pub returns-clause-not_built : goal.returns-clause-not_built
-returns-clause-not_built g c away e = (told.line_told _ _ _ _ _ _ _ _ _ _ _ _ _ _ (outcome _ _ _ _ _ _ _ _ _ _ _ _ _ c.work-work.result.work _ (c.work-work.ensures.cause away).cause c.finish-status.ensures.value) status.NotBuilt refl e).cause
-
 pub returns-clause-keep : goal.returns-clause-keep
 returns-clause-keep g c away e = (told.line_told _ _ _ _ _ _ _ _ _ _ _ _ _ _ (outcome _ _ _ _ _ _ _ _ _ _ _ _ _ c.work-work.result.work _ (c.work-work.ensures.cause away).cause c.finish-status.ensures.value) status.Keep refl e).cause
 
@@ -54,9 +51,6 @@ returns-clause-lines g c = told.lines _ _ _ _ _ _ c.work-work.result.work _ c.fi
 
 pub returns-clause-usage_complete : goal.returns-clause-usage_complete
 returns-clause-usage_complete g c e = complete.usage_complete _ _ _ _ _ _ _ _ _ _ _ _ _ _ (outcome _ _ _ _ _ _ _ _ _ _ _ _ _ c.work-work.result.work _ (c.work-work.ensures.cause (λ l. readable c.args.words.now (command.Load l.0) l.1 e)).cause c.finish-status.ensures.value) e
-
-pub returns-clause-not_built_complete : goal.returns-clause-not_built_complete
-returns-clause-not_built_complete g c h = complete.not_built_complete _ _ _ _ _ _ _ _ _ _ _ _ _ _ (outcome _ _ _ _ _ _ _ _ _ _ _ _ _ c.work-work.result.work _ (c.work-work.ensures.cause (λ l. not_both c.args.words.now (command.Load l.0) l.1 h)).cause c.finish-status.ensures.value) h
 
 pub returns-clause-check_complete : goal.returns-clause-check_complete
 returns-clause-check_complete g c file form asks = complete.check_complete _ _ _ _ _ _ _ _ _ _ _ _ _ _ (outcome _ _ _ _ _ _ _ _ _ _ _ _ _ c.work-work.result.work _ (c.work-work.ensures.cause (no_load c.args.words.now (command.Check file) asks refl)).cause c.finish-status.ensures.value) file form asks
@@ -84,6 +78,9 @@ returns-clause-counted g c = finishes _ _ _ _ _ _ _ _ c.work-work.result.work _ 
 
 pub returns-clause-form_complete : goal.returns-clause-form_complete
 returns-clause-form_complete g c file form f asks = complete.form_complete _ _ _ _ _ _ _ _ _ _ _ _ _ _ (outcome _ _ _ _ _ _ _ _ _ _ _ _ _ c.work-work.result.work _ (c.work-work.ensures.cause (no_load c.args.words.now (command.Inputs file) asks refl)).cause c.finish-status.ensures.value) file form f asks
+
+pub returns-clause-bundle_complete : goal.returns-clause-bundle_complete
+returns-clause-bundle_complete g c file form f asks = complete.bundle_complete _ _ _ _ _ _ _ _ _ _ _ _ _ _ (outcome _ _ _ _ _ _ _ _ _ _ _ _ _ c.work-work.result.work _ (c.work-work.ensures.cause (no_load c.args.words.now (command.Bundle file) asks refl)).cause c.finish-status.ensures.value) file form f asks
 
 pub returns-clause-print_complete : goal.returns-clause-print_complete
 returns-clause-print_complete g c page asks = complete.print_complete _ _ _ _ _ _ _ _ _ _ _ _ _ _ (outcome _ _ _ _ _ _ _ _ _ _ _ _ _ c.work-work.result.work _ (c.work-work.ensures.cause (no_load c.args.words.now (command.Print page) asks refl)).cause c.finish-status.ensures.value) page asks

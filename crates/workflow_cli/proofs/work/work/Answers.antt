@@ -1,7 +1,7 @@
 use Rattle.std.proofs.Common.{refl}
 use Rattle.workflow_cli.proofs.Counts.{works}
 use Rattle.workflow_cli.proofs.Loaded.{no_load}
-use Rattle.workflow_cli.proofs.Works.{check_is_work, cwl_is_work, form_is_work, print_is_work, run_is_work, uses_journal}
+use Rattle.workflow_cli.proofs.Works.{bundle_is_work, check_is_work, cwl_is_work, form_is_work, print_is_work, run_is_work, uses_journal}
 use Rattle.workflow_cli.proofs.work.work.Goals as goal
 
 pub returns-in-Ok-Run-clause-cause : goal.returns-in-Ok-Run-clause-cause
@@ -27,6 +27,12 @@ returns-in-Ok-Inputs-clause-cause g c away =
     let i = c.idle-in-Ok-Inputs.ensures in
     rw i.work (form_is_work _ _ _ _ _ _ _ (record { no_answer = i.journal; no_job = i.steps; no_count = i.counts; no_step = refl; no_row = refl }) _ asked c.form.result c.form.ensures.value)
 
+pub returns-in-Ok-Bundle-clause-cause : goal.returns-in-Ok-Bundle-clause-cause
+returns-in-Ok-Bundle-clause-cause g c away =
+    let asked = rw c.in-Ok-Bundle.field-0-is at c.in-Ok-Bundle.ensures.value in
+    let i = c.idle-in-Ok-Bundle.ensures in
+    rw i.work (bundle_is_work _ _ _ _ _ _ _ (record { no_answer = i.journal; no_job = i.steps; no_count = i.counts; no_step = refl; no_row = refl }) _ asked c.bundled.result c.bundled.ensures.value)
+
 pub returns-in-Ok-Print-clause-cause : goal.returns-in-Ok-Print-clause-cause
 returns-in-Ok-Print-clause-cause g c away =
     let asked = rw c.in-Ok-Print.field-0-is at c.in-Ok-Print.ensures.value in
@@ -46,6 +52,9 @@ returns-in-Ok-Cwl-clause-counted g c = rw c.idle-in-Ok-Cwl.ensures.work c.cwl.en
 
 pub returns-in-Ok-Inputs-clause-counted : goal.returns-in-Ok-Inputs-clause-counted
 returns-in-Ok-Inputs-clause-counted g c = rw c.idle-in-Ok-Inputs.ensures.work c.form.ensures.counted
+
+pub returns-in-Ok-Bundle-clause-counted : goal.returns-in-Ok-Bundle-clause-counted
+returns-in-Ok-Bundle-clause-counted g c = rw c.idle-in-Ok-Bundle.ensures.work c.bundled.ensures.counted
 
 pub returns-in-Ok-Print-clause-counted : goal.returns-in-Ok-Print-clause-counted
 returns-in-Ok-Print-clause-counted g c = rw c.idle-in-Ok-Print.ensures.work (works c.printed.result _ _ refl)
@@ -74,6 +83,11 @@ returns-in-Ok-Cwl-clause-load g c n asks =
 pub returns-in-Ok-Inputs-clause-load : goal.returns-in-Ok-Inputs-clause-load
 returns-in-Ok-Inputs-clause-load g c n asks =
     let asked = rw c.in-Ok-Inputs.field-0-is at c.in-Ok-Inputs.ensures.value in
+    absurd (no_load _ _ asked refl (n, asks))
+
+pub returns-in-Ok-Bundle-clause-load : goal.returns-in-Ok-Bundle-clause-load
+returns-in-Ok-Bundle-clause-load g c n asks =
+    let asked = rw c.in-Ok-Bundle.field-0-is at c.in-Ok-Bundle.ensures.value in
     absurd (no_load _ _ asked refl (n, asks))
 
 pub returns-in-Ok-Print-clause-load : goal.returns-in-Ok-Print-clause-load

@@ -1,6 +1,5 @@
-use Rattle.std.proofs.Common.{ℕ, Bool, false, List, [], ◌∷◌, ◌++◌, ap, sym, ◌∙◌, subst}
-use Rattle.std.specs.Global.{Vec}
-use Rattle.step_net.specs.Nets.{IsSound}
+use Rattle.std.proofs.Common.{Bool, false, List, [], ◌∷◌, ◌++◌, ap, sym, ◌∙◌, subst}
+use Rattle.step_net.specs.Nets.{IsSound, Watchers}
 use Rattle.step_net.specs.Views.{IsSoundNet, view, view_of}
 use Rattle.step_net.proofs.Growth.{with_cell}
 use Rattle.step_net.proofs.net.StepNet.cell.Goals as goal
@@ -10,7 +9,7 @@ unfolding IsSoundNet
 returns-clause-sound c =
     let n = c.args.self.now in
     subst (λ (xs : List Bool). IsSound xs c.push.new.self.items n.needs.items n.steps.items n.queue.items) (sym c.in_ok-push-2.ensures.items)
-    (subst (λ (ws : List (Vec ℕ)). IsSound (n.is_set.items ++ false ∷ []) ws n.needs.items n.steps.items n.queue.items) (sym c.in_ok-push.ensures.items)
+    (subst (λ (ws : List Watchers). IsSound (n.is_set.items ++ false ∷ []) ws n.needs.items n.steps.items n.queue.items) (sym c.in_ok-push.ensures.items)
     (with_cell n.is_set.items n.watchers.items n.needs.items n.steps.items n.queue.items c.new.result c.new.ensures.items c.requires))
 
 pub returns-clause-number : goal.returns-clause-number

@@ -49,10 +49,10 @@ returns-clause-sound c =
     let high = not_at_end k x.end f.high c.if-next-step.false in
     let cell_lt : c.index-cell.result.now < length n.watchers.items =
     subst (λ (m : ℕ). m < length n.watchers.items) (sym at) (subst (λ (m : ℕ). get_or n.needs.items k 0 < m) (sym c.requires.sound.fitting.same) (c.requires.sound.fitting.within k lt)) in
-    missed n.is_set.items n.needs.items n.watchers.items n.steps.items n.queue.items c.args.s x k c.index-cell.result.now c.index_mut-2.result.now c.push.new.self e c.requires.sound f.low high
+    missed n.is_set.items n.needs.items n.watchers.items n.steps.items n.queue.items c.args.s x k c.index-cell.result.now c.index_mut-2.result.now c.push_back.new.self e c.requires.sound f.low high
     (same_needs n.is_set.items n.needs.items c.deref-2.result.now c.deref.result.now c.deref-2.ensures.value c.deref.ensures.value x.next k f.before)
     (same_need n.is_set.items n.needs.items c.deref-2.result.now c.deref.result.now c.deref-2.ensures.value c.deref.ensures.value k (f.here high))
-    at (read n.watchers.items c.index-cell.result.now c.index_mut-2.result.now cell_lt c.index_mut-2.ensures.value) c.in_ok-push.ensures.items
+    at (read n.watchers.items c.index-cell.result.now c.index_mut-2.result.now cell_lt c.index_mut-2.ensures.value) c.in_ok-push_back.ensures.items
 
 pub returns-clause-looked : goal.returns-clause-looked
 unfolding view

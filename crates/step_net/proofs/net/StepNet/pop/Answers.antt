@@ -1,7 +1,7 @@
 use Rattle.std.proofs.Common.{◌≡◌, ℕ, Bool, List, [], Contains, refl, sym, ◌∙◌, subst}
 use Rattle.step_net.specs.Nets.{IsSound}
 use Rattle.step_net.specs.Views.{AllStuck, IsSoundNet, IsTaken, Looked, View, view, view_of}
-use Rattle.step_net.proofs.Gets.{last_in}
+use Rattle.step_net.proofs.Gets.{first_in}
 use Rattle.step_net.proofs.Looks.{nil_of}
 use Rattle.step_net.proofs.Moves.{popped}
 use Rattle.step_net.proofs.Seen.{seen_stuck}
@@ -13,12 +13,12 @@ loop-s-init c = (c.requires, refl)
 
 pub look-requires-clause-there : goal.look-requires-clause-there
 look-requires-clause-there c =
-    c.loop-s.invariant.0.fitting.queued c.in-Some.s (subst (λ (xs : List ℕ). Contains xs c.in-Some.s) (sym c.in-Some.ensures.items) (last_in c.pop.new.self.items c.in-Some.s))
+    c.loop-s.invariant.0.fitting.queued c.in-Some.s (subst (λ (xs : List ℕ). Contains xs c.in-Some.s) (sym c.in-Some.ensures.items) (first_in c.pop_front.new.self.items c.in-Some.s))
 
 pub look-requires-clause-sound : goal.look-requires-clause-sound
 look-requires-clause-sound c =
     let n = c.loop-s.self in
-    popped n.is_set.items n.watchers.items n.needs.items n.steps.items c.pop.new.self.items c.in-Some.s
+    popped n.is_set.items n.watchers.items n.needs.items n.steps.items c.pop_front.new.self.items c.in-Some.s
     (subst (IsSound n.is_set.items n.watchers.items n.needs.items n.steps.items) c.in-Some.ensures.items c.loop-s.invariant.0)
 
 pub returns-then-branch-clause-sound : goal.returns-then-branch-clause-sound
@@ -45,7 +45,7 @@ unfolding IsSoundNet
 returns-clause-sound c =
     let n = c.loop-s.self in
     let old : n.queue.items ≡ [] = nil_of n.queue.items (sym n.queue.ok.0 ∙ c.in_default.ensures.cases.0) in
-    let new : c.pop.new.self.items ≡ [] = nil_of c.pop.new.self.items (sym c.pop.new.self.ok.0 ∙ c.in_default.ensures.cases.1) in
+    let new : c.pop_front.new.self.items ≡ [] = nil_of c.pop_front.new.self.items (sym c.pop_front.new.self.ok.0 ∙ c.in_default.ensures.cases.1) in
     subst (IsSound n.is_set.items n.watchers.items n.needs.items n.steps.items) (old ∙ sym new) c.loop-s.invariant.0
 
 pub returns-clause-popped : goal.returns-clause-popped

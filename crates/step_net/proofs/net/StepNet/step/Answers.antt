@@ -26,11 +26,11 @@ returns-clause-sound c =
     let end : c.len-end.result ≡ length n.needs.items + length c.args.needs.now =
     c.len-end.ensures ∙ c.extend_from_slice.new.self.ok.0 ∙ ap length c.in_ok-extend_from_slice.ensures.items ∙ length-append n.needs.items c.args.needs.now in
     let step = step_of (length n.needs.items) (length c.args.needs.now) in
-    subst (λ (xs : List ℕ). IsSound n.is_set.items n.watchers.items xs c.push-2.new.self.items c.push.new.self.items) (sym c.in_ok-extend_from_slice.ensures.items)
-    (subst (λ (xs : List Step). IsSound n.is_set.items n.watchers.items all xs c.push.new.self.items)
-    (sym (c.in_ok-push-2.ensures.items ∙ ap (λ (x : Step). n.steps.items ++ x ∷ []) (made (length n.needs.items) (length c.args.needs.now) c.len-start.result c.len-end.result start end)))
+    subst (λ (xs : List ℕ). IsSound n.is_set.items n.watchers.items xs c.push.new.self.items c.push_back.new.self.items) (sym c.in_ok-extend_from_slice.ensures.items)
+    (subst (λ (xs : List Step). IsSound n.is_set.items n.watchers.items all xs c.push_back.new.self.items)
+    (sym (c.in_ok-push.ensures.items ∙ ap (λ (x : Step). n.steps.items ++ x ∷ []) (made (length n.needs.items) (length c.args.needs.now) c.len-start.result c.len-end.result start end)))
     (subst (λ (xs : List ℕ). IsSound n.is_set.items n.watchers.items all (n.steps.items ++ step ∷ []) xs)
-    (sym (c.in_ok-push.ensures.items ∙ ap (λ (k : ℕ). n.queue.items ++ k ∷ []) number))
+    (sym (c.in_ok-push_back.ensures.items ∙ ap (λ (k : ℕ). n.queue.items ++ k ∷ []) number))
     (with_step n.is_set.items n.watchers.items n.needs.items c.args.needs.now n.steps.items n.queue.items c.requires.there c.requires.sound)))
 
 pub returns-clause-step : goal.returns-clause-step
@@ -41,8 +41,8 @@ returns-clause-step c =
     let start : c.len-start.result ≡ length n.needs.items = c.len-start.ensures ∙ n.needs.ok.0 in
     let end : c.len-end.result ≡ length n.needs.items + length c.args.needs.now =
     c.len-end.ensures ∙ c.extend_from_slice.new.self.ok.0 ∙ ap length c.in_ok-extend_from_slice.ensures.items ∙ length-append n.needs.items c.args.needs.now in
-    let pushed : c.push-2.new.self.items ≡ n.steps.items ++ step_of (length n.needs.items) (length c.args.needs.now) ∷ [] =
-    c.in_ok-push-2.ensures.items ∙ ap (λ (x : Step). n.steps.items ++ x ∷ []) (made (length n.needs.items) (length c.args.needs.now) c.len-start.result c.len-end.result start end) in
-    ap (λ (xs : List ℕ). view_of n.is_set.items xs c.push-2.new.self.items) c.in_ok-extend_from_slice.ensures.items
+    let pushed : c.push.new.self.items ≡ n.steps.items ++ step_of (length n.needs.items) (length c.args.needs.now) ∷ [] =
+    c.in_ok-push.ensures.items ∙ ap (λ (x : Step). n.steps.items ++ x ∷ []) (made (length n.needs.items) (length c.args.needs.now) c.len-start.result c.len-end.result start end) in
+    ap (λ (xs : List ℕ). view_of n.is_set.items xs c.push.new.self.items) c.in_ok-extend_from_slice.ensures.items
     ∙ ap (view_of n.is_set.items all) pushed
     ∙ seen_step n.is_set.items n.watchers.items n.needs.items c.args.needs.now n.steps.items n.queue.items c.requires.sound

@@ -1,11 +1,13 @@
-use Rattle.wdl_names.specs.Marks.{call_marks, name_mark}
-use Rattle.wdl_names.specs.Names.{is_call}
-use Rattle.wdl_names.proofs.NameMarks.{is_call-skip}
-use Rattle.wdl_names.proofs.Skip.{searched}
+use Rattle.std.proofs.Common.{sym, ◌∙◌}
+use Rattle.std.specs.BTreeMap.{get_by_text}
+use Rattle.wdl_names.specs.Names.{is_call_of}
+use Rattle.wdl_names.proofs.FirstLemmas.{looked_for}
+use Rattle.wdl_names.proofs.NameLemmas.{is_call-find}
 use Rattle.wdl_names.proofs.names.Names.is_call.Goals as goal
 
 pub returns : goal.returns
 returns c =
-    searched (λ bs. is_call bs c.args.name.now) call_marks (name_mark c.args.name.now) (is_call-skip c.args.name.now)
-    c.is_call_among.result c.as_slice.result.now c.self.inside.bounds c.args.self.now c.self.inside.calls c.name_mark.result c.place-from.result
-    c.is_call_among.ensures c.as_slice.ensures c.self.view_is c.place-from.ensures.place c.self.invariant.1 c.name_mark.ensures
+    looked_for is_call_of (get_by_text c.self.inside.calls.places) c.args.name.now
+    c.stands.result c.as_slice.result.now c.self.inside.bounds c.args.self.now c.get-place.result
+    c.stands.ensures c.as_slice.ensures c.self.view_is c.get-place.ensures c.self.invariant
+    ∙ sym (is_call-find c.args.name.now c.args.self.now)

@@ -1,11 +1,13 @@
-use Rattle.wdl_typed.specs.Lists.{has_name}
-use Rattle.wdl_names.specs.Marks.{name_mark, name_marks}
-use Rattle.wdl_names.proofs.NameMarks.{has_name-skip}
-use Rattle.wdl_names.proofs.Skip.{searched}
+use Rattle.std.proofs.Common.{ℕ, List, sym, ◌∙◌}
+use Rattle.std.specs.BTreeMap.{get_by_text}
+use Rattle.std.specs.Str.{bytes_eq}
+use Rattle.wdl_names.proofs.FirstLemmas.{looked_for}
+use Rattle.wdl_names.proofs.NameLemmas.{has_name-find}
 use Rattle.wdl_names.proofs.words.Words.has.Goals as goal
 
 pub returns : goal.returns
 returns c =
-    searched (has_name c.args.name.now) name_marks (name_mark c.args.name.now) (has_name-skip c.args.name.now)
-    c.is_among.result c.as_slice.result.now c.self.inside.names c.args.self.now c.self.inside.places c.name_mark.result c.place-from.result
-    c.is_among.ensures c.as_slice.ensures c.self.view_is c.place-from.ensures.place c.self.invariant c.name_mark.ensures
+    looked_for (λ (q n : List ℕ). bytes_eq n q) (get_by_text c.self.inside.places.places) c.args.name.now
+    c.stands.result c.as_slice.result.now c.self.inside.names c.args.self.now c.get-place.result
+    c.stands.ensures c.as_slice.ensures c.self.view_is c.get-place.ensures c.self.invariant
+    ∙ sym (has_name-find c.args.name.now c.args.self.now)

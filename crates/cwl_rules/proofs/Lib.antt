@@ -1,0 +1,5 @@
+mod CastsOut
+mod CommandLemmas
+pub mod ListLemmas
+pub mod LowestLemmas
+mod WidensOut

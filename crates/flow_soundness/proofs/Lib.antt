@@ -1,0 +1,12 @@
+pub mod Args
+pub mod BlockReady
+pub mod Fitting
+pub mod FlowReady
+pub mod FlowSound
+pub mod GivenKeys
+pub mod NewNames
+pub mod Newness
+pub mod Ready
+pub mod Shapes
+pub mod Sound
+pub mod WholeFlow

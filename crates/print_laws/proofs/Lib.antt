@@ -1,0 +1,5 @@
+pub mod Stack
+pub mod Places
+pub mod Longest
+pub mod Copied
+pub mod Written

@@ -1,0 +1,8 @@
+mod TypeLaws
+mod KnownLaws
+mod FreeNames
+mod MarkLaws
+mod FindLaws
+mod NewNames
+mod Untaken
+mod Whole

@@ -1,0 +1,7 @@
+pub mod Documents
+pub mod Called
+pub mod TaskNames
+pub mod Renamed
+pub mod Bodies
+pub mod StructSections
+pub mod Bundled

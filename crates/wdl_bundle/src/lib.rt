@@ -1,0 +1,22 @@
+//! One document that has the main workflow of a library, the tasks that it calls and the structs, without imports.
+#![tactic(auto)]
+
+mod body;
+mod bundling;
+mod call;
+mod calls;
+mod fault;
+mod known;
+mod marks;
+mod names;
+mod naming;
+mod reach;
+mod sections;
+mod structs;
+mod task;
+mod tasks;
+mod types;
+mod workflow;
+
+pub use bundling::bundle;
+pub use fault::BundleFault;

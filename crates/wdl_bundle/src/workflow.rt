@@ -1,0 +1,66 @@
+//! A copy of the main workflow.
+
+ghost use Rattle.std.specs.Prelude.{◌≡◌, ◌++◌, IfOk, OnOk};
+ghost use Rattle.wdl_check_types.specs.Locals as local;
+ghost use Rattle.wdl_bundle.specs.Bodies as spec;
+ghost use Rattle.wdl_bundle.specs.Called.{reach_of};
+ghost use Rattle.wdl_bundle.specs.TaskNames.{name_of};
+
+use crate::body::copy_statement;
+use crate::names::Names;
+use crate::sections::{copy_inputs, copy_outputs};
+use sqlite_items::Items;
+use std::alloc::Global;
+use wdl_ast::{Workflow, WorkflowElement};
+use wdl_check_types::Local;
+use wdl_localize::copy_ident;
+use wdl_names::Indexed;
+use wdl_value::NoMemory;
+
+/// Adds a copy of a section or a statement of a workflow; metadata has none.
+fn push_element(
+    alloc: Global,
+    copies: &mut Items<WorkflowElement>,
+    element: &WorkflowElement,
+    names: &Names,
+    locals: &Indexed<Local>,
+) -> Result<(), NoMemory>
+    ensures { OnOk result (copies.new ≡ copies.old ++ spec.element_with (local.stands_for locals.now) (name_of (reach_of names.now.reach) names.now.names.now) element.now) }
+{
+    match element {
+        WorkflowElement::Input(section) => {
+            copies.push(WorkflowElement::Input(copy_inputs(alloc, section, locals)?))?
+        }
+        WorkflowElement::Output(section) => {
+            copies.push(WorkflowElement::Output(copy_outputs(alloc, section, locals)?))?
+        }
+        WorkflowElement::Statement(statement) => copies.push(WorkflowElement::Statement(
+            copy_statement(alloc, statement, names, locals)?,
+        ))?,
+        WorkflowElement::Meta(_) | WorkflowElement::ParameterMeta(_) => {}
+    }
+    Ok(())
+}
+
+/// A copy of the workflow, whose calls name the tasks of the bundle, with the names of structs as the library has them and without
+/// metadata.
+pub fn copy_workflow(
+    alloc: Global,
+    workflow: &Workflow,
+    names: &Names,
+    locals: &Indexed<Local>,
+) -> Result<Workflow, NoMemory>
+    ensures { IfOk result (λ w. w ≡ spec.workflow_with (local.stands_for locals.now) (name_of (reach_of names.now.reach) names.now.names.now) workflow.now) }
+{
+    let mut elements = Items::new(alloc);
+    for element in workflow.elements.as_slice() {
+        push_element(alloc, &mut elements, element, names, locals)?;
+    }
+    Ok(Workflow {
+        keyword: workflow.keyword,
+        name: copy_ident(alloc, &workflow.name)?,
+        opening: workflow.opening,
+        elements,
+        closing: workflow.closing,
+    })
+}

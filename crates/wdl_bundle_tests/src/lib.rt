@@ -1,0 +1,9 @@
+//! Tests of bundles, in a crate of their own: the gate proves a crate once more for the tests in it.
+#![tactic(auto)]
+
+#[cfg(test)]
+mod bundles;
+#[cfg(test)]
+mod generated;
+#[cfg(test)]
+mod notation;

@@ -1,0 +1,3 @@
+mod DepthLemmas
+mod FindLemmas
+mod LevelLemmas

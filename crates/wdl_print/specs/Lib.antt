@@ -1,0 +1,2 @@
+pub mod TokenText
+pub mod Printed
