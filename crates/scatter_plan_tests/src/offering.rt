@@ -21,8 +21,8 @@ const WANTED: &str = "one three five scatter-0/0/two scatter-0/0/bare scatter-0/
 scatter-0/1/bare if-0/four ";
 
 /// The places of calls, each with a blank behind it.
-fn places(alloc: Global, ready: &[Prepared]) -> Result<String, Fail> {
-    let mut out = String::new(alloc);
+fn places(alloc: Global, ready: &[Prepared]) -> Result<Text, Fail> {
+    let mut out = Text::empty(alloc);
     for prepared in ready {
         let place = place_text(alloc, &prepared.request.place)?;
         out.push_str(place.as_str())?;
@@ -32,34 +32,35 @@ fn places(alloc: Global, ready: &[Prepared]) -> Result<String, Fail> {
 }
 
 /// The places of the calls that a plan of a document offers before any answer.
-fn offered_of(alloc: Global, document: &str) -> Result<String, Fail> {
-    offered::<Brand>(alloc, document, Blank::new(1))
-}
-
-/// The same, with its steps counted by that ledger.
-fn offered<L: Ledger>(alloc: Global, document: &str, blank: Blank) -> Result<String, Fail>
+fn offered<L: Ledger>(alloc: Global, document: &Text, blank: Blank) -> Result<Text, Fail>
     requires name { blank.name ≡ L.name }
     requires parts { blank.parts ≡ L.parts }
     requires some { 0 < blank.parts }
 {
     let mut steps: Steps<L> = Steps::start(blank);
-    let Some(checked) = checked_of(alloc, document)? else {
-        return Ok(String::new(alloc));
+    let Some(checked) = checked_of(alloc, document.as_str())? else {
+        return Ok(Text::empty(alloc));
     };
     let Some(_) = checked.main else {
-        return Ok(String::new(alloc));
+        return Ok(Text::empty(alloc));
     };
     let inputs = no_inputs(alloc, &checked)?;
     let site = Text::new(alloc, "/site")?;
     let Ok(plan) = Plan::new(alloc, checked, inputs, site, &mut steps) else {
-        return Ok(String::new(alloc));
+        return Ok(Text::empty(alloc));
     };
     places(alloc, plan.ready())
 }
 
+/// The same, by a counter that is opened for it.
+fn offered_first(alloc: Global, document: &Text) -> Result<Text, Fail> {
+    offered::<Brand>(alloc, document, Blank::new(1))
+}
+
 #[test]
 fn what_is_ready_at_once_is_offered_in_order(rt: HostRuntime) -> Result<(), Fail> {
-    let came = offered_of(rt.alloc(), DOCUMENT)?;
+    let document = Text::new(rt.alloc(), DOCUMENT)?;
+    let came = offered_first(rt.alloc(), &document)?;
     assert_eq!(rt; came.as_str(), WANTED);
     Ok(())
 }
