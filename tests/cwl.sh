@@ -81,6 +81,8 @@ translated trim
 translated report
 translated report report_plain
 translated search_all
+translated sample
+translated sample sample_off
 
 echo "rules"
 copy='task copy { input { File f } command <<< cat ~{f} > o >>> output { File o = "o" } }

@@ -31,17 +31,17 @@ use Rattle.cwl_model.specs.declared.ty.CwlTy.TheOpen as type
 use Rattle.cwl_emit.specs.Objects.{object_step, value_object, fields_put, with_given, object_json}
 use Rattle.cwl_emit.specs.Writing.{list, type_step, type_json, with_default, input_json, origin_members, tool_out_json, code_json, code_members, with_version, tool_json, flow_out_json, wire_json, mode_members, flow_json, step_written, process_step, process_json, with_json}
 
-either : (a b : Bool) → a ≡ false → b ≡ false → a || b ≡ false
+pub either : (a b : Bool) → a ≡ false → b ≡ false → a || b ≡ false
 either true b h k = absurd (true≢false h)
 either false b h k = k
 
-all_exact : {A : Type 0} (f : A → Data) → ((x : A) → has_float (f x) ≡ false) → (xs : List A) → items_have_float (items_of (map f xs)) ≡ false
+pub all_exact : {A : Type 0} (f : A → Data) → ((x : A) → has_float (f x) ≡ false) → (xs : List A) → items_have_float (items_of (map f xs)) ≡ false
 all_exact f each [] = refl
 all_exact f each (x ∷ xs) = either (has_float (f x)) (items_have_float (items_of (map f xs))) (each x) (all_exact f each xs)
 
 -- ---- types and inputs
 
-abbrev TypeExact : CwlTy → Type 0
+abbrev pub TypeExact : CwlTy → Type 0
 TypeExact t = has_float (type_json t) ≡ false
 
 abbrev plain_type : CwlTy-F ((t : CwlTy) × TypeExact t) → CwlTy-F CwlTy
@@ -55,10 +55,10 @@ type_layer type.File = refl
 type_layer (type.List k) = either (has_float (type_json k.0)) false k.1 refl
 type_layer (type.Null k) = either (has_float (type_json k.0)) false k.1 refl
 
-type_exact : (t : CwlTy) → TypeExact t
+pub type_exact : (t : CwlTy) → TypeExact t
 type_exact = ind-CwlTy TypeExact (λ l y is. subst (λ (z : CwlTy-F CwlTy). TypeExact (roll-CwlTy z)) is (ap has_float (fold-roll-CwlTy Data type_step (plain_type y)) ∙ type_layer y))
 
-input_exact : (i : CwlIn) → has_float (input_json i) ≡ false
+pub input_exact : (i : CwlIn) → has_float (input_json i) ≡ false
 input_exact i = by_preset i.preset
   where
     typed : has_float (type_json i.ty) || false ≡ false
@@ -94,7 +94,7 @@ tool_exact outermost t =
 
 -- ---- workflows
 
-flow_out_exact : (o : FlowOut) → has_float (flow_out_json o) ≡ false
+pub flow_out_exact : (o : FlowOut) → has_float (flow_out_json o) ≡ false
 flow_out_exact o = either (has_float (type_json o.ty)) false (type_exact o.ty) refl
 
 mode_exact : (m : Mode) → members_have_float (mode_members m) ≡ false

@@ -55,7 +55,7 @@ out_names = codes "id" ∷ codes "outputSource" ∷ codes "type" ∷ []
 abbrev reads_out : Members → Option FlowOut
 reads_out ms = with3 flow_out (member_of (codes "id") text_of ms) (member_of (codes "outputSource") link_of ms) (member_of (codes "type") type_of ms)
 
-flow_out_is : (d : Data) (o : FlowOut) → flow_out_of d ≡ Some o → Is d (flow_out_json o)
+pub flow_out_is : (d : Data) (o : FlowOut) → flow_out_of d ≡ Some o → Is d (flow_out_json o)
 flow_out_is (object ms) o h =
     let c = chosen (has_names out_names ms) (reads_out ms) o h in
     let s = shape_of out_names ms c.0 in
@@ -175,7 +175,7 @@ step_members_are ms s h inner =
 
 -- ---- workflows
 
-class_is : (word : List ℕ) (d : Data) → is_class word d ≡ true → Is d (class_json word)
+pub class_is : (word : List ℕ) (d : Data) → is_class word d ≡ true → Is d (class_json word)
 class_is word (object ms) h =
     let names = codes "class" ∷ [] in
     let p = and_parts (has_names names ms) (is_member (codes "class") (is_text word) ms) h in

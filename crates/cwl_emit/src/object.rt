@@ -6,7 +6,7 @@ ghost use Rattle.serde_json.specs.View.{view, members_view};
 ghost use Rattle.cwl_emit.specs.Objects as spec;
 ghost use Rattle.cwl_emit.specs.Writing.{list};
 
-use crate::part::{put_word, word_json};
+use crate::inputs::{put_word, word_json};
 use serde_json::{Map, Value as Json, put};
 use std::alloc::Global;
 use wdl_base::{NoMemory, Text};

@@ -1,15 +1,16 @@
 //! Processes as JSON.
 
-ghost use Rattle.std.specs.Prelude.{◌≡◌, IfOk, Some, true};
+ghost use Rattle.std.specs.Prelude.{◌≡◌, IfOk, Some, false, true};
 ghost use Rattle.serde_json.specs.View.{view};
 ghost use Rattle.serde_json.specs.Written.{compact_text};
+ghost use Rattle.cwl_model.specs.declared.process.Process.TheVariants as process;
 ghost use Rattle.cwl_emit.specs.Laws.{HasJson, IsText};
 ghost use Rattle.cwl_emit.specs.Reading.{cwl_of};
 ghost use Rattle.cwl_emit.specs.Writing as spec;
 
 use crate::tool::tool_json;
 use crate::workflow::{flow_json, step_json};
-use cwl_model::{CwlStep, Process};
+use cwl_model::{CwlFlow, CwlStep, Process};
 use serde_json::Value as Json;
 use std::alloc::Global;
 use wdl_base::{NoMemory, Text};
@@ -52,6 +53,20 @@ pub fn process_value(alloc: Global, process: &Process, outermost: bool) -> Resul
     ensures written { IfOk result (λ j. view j ≡ spec.process_json process.now outermost) }
 {
     process_json(alloc, process, outermost)
+}
+
+/// The same of a workflow that is not the outermost process.
+pub fn flow_value(alloc: Global, flow: &CwlFlow<Process>) -> Result<Json, NoMemory>
+    ensures { IfOk result (λ j. view j ≡ spec.process_json (process.Flow flow.now) false) }
+{
+    let steps = steps_json(alloc, flow.steps.as_slice())?;
+    flow_json(
+        alloc,
+        flow.inputs.as_slice(),
+        flow.outputs.as_slice(),
+        steps,
+        false,
+    )
 }
 
 /// The text of the JSON value that is written for the outermost process, members in byte order and without blanks.

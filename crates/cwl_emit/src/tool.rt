@@ -4,7 +4,7 @@ ghost use Rattle.std.specs.Prelude.{◌≡◌, IfOk, OnOk};
 ghost use Rattle.serde_json.specs.View.{view, members_view};
 ghost use Rattle.cwl_emit.specs.Writing as spec;
 
-use crate::part::{inputs_json, put_word, word_json};
+use crate::inputs::{inputs_json, put_word, word_json};
 use cwl_model::{Origin, Piece, Tool, ToolOut, field_of};
 use serde_json::{Map, Value as Json, put};
 use std::alloc::Global;

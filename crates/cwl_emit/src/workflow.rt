@@ -4,7 +4,7 @@ ghost use Rattle.std.specs.Prelude.{◌≡◌, IfOk};
 ghost use Rattle.serde_json.specs.View.{view};
 ghost use Rattle.cwl_emit.specs.Writing as spec;
 
-use crate::part::{inputs_json, put_word, texts_json, type_json, word_json};
+use crate::inputs::{inputs_json, put_word, texts_json, type_json, word_json};
 use cwl_model::{CwlIn, CwlStep, FlowOut, Link, Mode, Process, Wire};
 use serde_json::{Map, Value as Json, put};
 use std::alloc::Global;
@@ -45,8 +45,9 @@ fn flow_out_json(alloc: Global, output: &FlowOut) -> Result<Json, NoMemory>
     Ok(Json::Object(members))
 }
 
+/// The outputs of a workflow.
 #[tactic(auto, using(crate::proofs::JsonViews::array_view))]
-fn outputs_json(alloc: Global, outputs: &[FlowOut]) -> Result<Json, NoMemory>
+pub fn outputs_json(alloc: Global, outputs: &[FlowOut]) -> Result<Json, NoMemory>
     ensures { IfOk result (λ j. view j ≡ spec.list spec.flow_out_json outputs.now) }
 {
     let mut items = Vec::new(alloc);
@@ -98,8 +99,9 @@ pub fn step_json(alloc: Global, step: &CwlStep<Process>, run: Json) -> Result<Js
     Ok(Json::Object(members))
 }
 
+/// A requirement of that class.
 #[tactic(auto, using(crate::proofs::JsonViews::object_view))]
-fn class_json(alloc: Global, class: &str) -> Result<Json, NoMemory>
+pub fn class_json(alloc: Global, class: &str) -> Result<Json, NoMemory>
     ensures { IfOk result (λ j. view j ≡ spec.class_json class.now) }
 {
     let mut members = Map::new(alloc);

@@ -42,7 +42,7 @@ fn enter_declared(alloc: Global, body: &[Statement], words: &mut Words) -> Resul
 }
 
 /// The names that a body declares.
-fn declared_by(alloc: Global, body: &[Statement]) -> Result<Words, NoMemory>
+pub fn declared_by(alloc: Global, body: &[Statement]) -> Result<Words, NoMemory>
     ensures { IfOk result (λ w. w ≡ subset.declared_by body.now) }
 {
     let mut words = Words::empty(alloc);

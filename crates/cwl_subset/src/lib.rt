@@ -10,4 +10,8 @@ mod tables;
 mod task;
 mod walk;
 
+pub use flow::declared_by;
+pub use given::{arrays, enter_names, optionals};
+pub use scope::input_scope;
 pub use subset::{Subset, SubsetFault, in_subset};
+pub use walk::{Context, call_given, items_of};

@@ -132,7 +132,7 @@ fn target_outputs<'a>(context: &Context<'a>, target: Target) -> Option<&'a [TDec
 }
 
 /// The outputs of a call.
-fn call_given(alloc: Global, call: &TCall, context: &Context) -> Result<Items<Bound>, NoMemory>
+pub fn call_given(alloc: Global, call: &TCall, context: &Context) -> Result<Items<Bound>, NoMemory>
     ensures { IfOk result (λ bs. bs ≡ subset.outputs_bound call.now.name (bodies.signature (spec.library_of context.now) call.now.target)) }
 {
     match target_outputs(context, call.target) {
@@ -204,7 +204,7 @@ fn block_broken(
 }
 
 /// The item type of the array over which a scatter goes, and whether the array has `+`.
-fn items_of(
+pub fn items_of(
     alloc: Global,
     over: &TExpr,
     context: &Context,

@@ -17,7 +17,8 @@ fn preset_of(alloc: Global, value: &Option<TExpr>) -> Result<Option<Value>, NoMe
     }
 }
 
-fn input_of(alloc: Global, input: &TInput) -> Result<CwlIn, NoMemory>
+/// An input of a process.
+pub fn input_of(alloc: Global, input: &TInput) -> Result<CwlIn, NoMemory>
     ensures { IfOk result (λ i. i ≡ image.cwl_in input.now) }
 {
     let id = input.name.to_text(alloc)?;

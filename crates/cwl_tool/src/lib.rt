@@ -10,7 +10,7 @@ mod references;
 mod tool;
 mod types;
 
-pub use inputs::inputs_of;
+pub use inputs::{input_of, inputs_of};
 pub use references::reference;
 pub use tool::task_tool;
 pub use types::cwl_type;

@@ -1,6 +1,6 @@
 //! What stands in a task or a workflow, as one list.
 
-use crate::part::Part;
+use crate::callable::Part;
 use wdl_ast::{
     Call, Conditional, Declaration, Ident, InputDeclaration, Scatter, Statement, TaskElement,
     WorkflowElement,

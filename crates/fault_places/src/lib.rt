@@ -4,22 +4,22 @@
 //! The crate also has the [`Note`] into which all this is written.
 #![tactic(auto)]
 
+mod callable;
 mod entry;
 mod heading;
 mod laws;
 mod note;
-mod part;
 mod position;
 mod quoted;
 mod scene;
 mod source_line;
 mod written_type;
 
+pub use callable::{Part, imported, part_named, push_parts};
 pub use entry::Entry;
 pub use heading::head;
 pub use laws::columns_count_characters;
 pub use note::Note;
-pub use part::{Part, imported, part_named, push_parts};
 pub use position::{Position, position_of};
 pub use quoted::{text_behind, words_at};
 pub use scene::{Declared, Scene};

@@ -1,8 +1,8 @@
 //! A fault in a library, with what stands around it.
 
+use crate::callable::{Part, callee, part_at};
 use crate::entry::{Entry, push_part};
 use crate::note::Note;
-use crate::part::{Part, callee, part_at};
 use crate::quoted::{text_before, words_at};
 use crate::written_type::type_text;
 use std::alloc::Global;

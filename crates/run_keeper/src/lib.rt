@@ -5,8 +5,8 @@ mod error;
 mod list;
 mod member;
 mod migration;
-mod part;
 mod read;
+mod row_value;
 mod write;
 
 pub use error::{MigrateFault, RowFault};

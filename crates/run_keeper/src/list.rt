@@ -8,7 +8,7 @@ ghost use Rattle.run_keeper.specs.Reads.{Gives, Recovers};
 ghost use Rattle.run_keeper.specs.RowText.{list_data, seen_data, laid_data};
 
 use crate::error::RowFault;
-use crate::part::{laid_of, seen_of};
+use crate::row_value::{laid_of, seen_of};
 use serde_json::Value;
 use sqlite_items::Items;
 use std::alloc::Global;

@@ -12,7 +12,7 @@ ghost use Rattle.run_keeper.specs.Reads.{Gives};
 
 use crate::error::RowFault;
 use crate::list::seen_list;
-use crate::part::{body_of, text_of};
+use crate::row_value::{body_of, text_of};
 use serde_json::Value;
 use sqlite_items::Items;
 use std::alloc::Global;

@@ -38,16 +38,16 @@ use Rattle.plan_growth.specs.Entering.{Plot, flow_dones, with_flow}
 use Rattle.plan_growth.specs.Growth.{IsGrowing, growth_work, sheet_of}
 use Rattle.plan_growth.proofs.GoOn.{plans_begin}
 use Rattle.plan_ends.proofs.Ends.{listed_too}
-use Rattle.scatter_plan.specs.Doing.{Asks, State, asks, field, state}
+use Rattle.plan_steps.specs.Doing.{Asks, State, asks, field, state}
 use Rattle.scatter_plan.specs.Holding.{IsHolding, waiting}
-use Rattle.scatter_plan.specs.declared.fault.PlanFault.{PlanFault}
-use Rattle.scatter_plan.specs.declared.fault.PlanFault.TheVariants.{TooMany, NoMemory}
-use Rattle.scatter_plan.specs.declared.growth.Growth.{Growth}
-use Rattle.scatter_plan.specs.declared.asking.Asking.{Asking}
-use Rattle.scatter_plan.specs.Askings.{Call, IsAsking, calls}
+use Rattle.plan_steps.specs.declared.fault.PlanFault.{PlanFault}
+use Rattle.plan_steps.specs.declared.fault.PlanFault.TheVariants.{TooMany, NoMemory}
+use Rattle.plan_steps.specs.declared.growth.Growth.{Growth}
+use Rattle.plan_steps.specs.declared.asking.Asking.{Asking}
+use Rattle.plan_steps.specs.Askings.{Call, IsAsking, calls}
 use Rattle.scatter_plan.specs.Settling.{Began, Begins, Enters, EntersFirst, IsFirstOf, IsMadeOf, Starts, Turned, Turns, bare_asks, env_at, is_over, main_flow, outputs_when}
-use Rattle.scatter_plan.proofs.Lists.{read_at}
-use Rattle.scatter_plan.specs.Stepping.{library_in}
+use Rattle.plan_steps.proofs.Lists.{read_at}
+use Rattle.plan_steps.specs.Stepping.{library_in}
 
 -- ---- outputs, one after the other
 

@@ -1,5 +1,5 @@
 -- An answer keeps what holds of a plan, over one row more.
-use Rattle.std.proofs.Common.{◌≡◌, ℕ, zero, suc, ◌+◌, ◌-◌, ◌<◌, ◌≤◌, ◌⊎◌, inl, inr, Bool, true, false, not, cond, ◌&&◌, ◌||◌, nat_lt, List, [], ◌∷◌, ◌++◌, append-nil, Contains, length, length-append, map, take, get_or, swap_remove, slice_set, Some, Ok, Err, count_by, slice_get, sym, ap, ◌∙◌, subst, refl, arith}
+use Rattle.std.proofs.Common.{◌≡◌, ℕ, zero, suc, ◌+◌, ◌-◌, ◌<◌, ◌≤◌, ◌⊎◌, inl, inr, Bool, true, false, not, cond, ◌&&◌, ◌||◌, nat_lt, List, [], ◌∷◌, ◌++◌, append-nil, Contains, length, length-append, take, get_or, swap_remove, slice_set, Some, Ok, Err, count_by, slice_get, sym, ap, ◌∙◌, subst, refl, arith}
 use Rattle.std.proofs.lemmas.Bool.{cases_eq, lt-ltb, ltb-false, ltb-true, or_left}
 use Rattle.std.proofs.lemmas.List.Elements.{Contains-append_cases}
 use Rattle.std.proofs.lemmas.List.Sums.{sum_by-append, sum_by-cons}
@@ -50,15 +50,14 @@ use Rattle.plan_arrives.specs.Arrivals.{AreAmong, Goes, HasArrived, NoneOf, row_
 use Rattle.plan_arrives.specs.Concluding.{Concludes}
 use Rattle.plan_arrives.proofs.Arrivals as arriving
 use Rattle.plan_arrives.proofs.Concluding.{conclude}
-use Rattle.scatter_plan.specs.Arriving.{Answered, CanConclude, IsRefused, IsTaken, concluded, goes_on, with_ended, with_outputs}
-use Rattle.scatter_plan.specs.declared.asking.Asked.{Asked as Asked_}
-use Rattle.scatter_plan.specs.declared.asking.Asking.{Asking}
-use Rattle.scatter_plan.specs.Askings.{Call, IsAsking, call_of, calls}
+use Rattle.plan_steps.specs.Arriving.{Answered, CanConclude, IsRefused, IsTaken, concluded, goes_on, with_ended, with_outputs}
+use Rattle.plan_steps.specs.Askings.{Call}
 use Rattle.plan_growth.proofs.Lists.{get_split}
-use Rattle.scatter_plan.specs.Doing.{Asks, Field, State, last_base}
+use Rattle.plan_steps.specs.Doing.{Asks, Field, State}
+use Rattle.plan_bodies.specs.Bases.{last_base}
 use Rattle.scatter_plan.specs.Holding.{IsAwaited, IsHolding, owed, paid_of, passes, task_cost, waiting}
-use Rattle.scatter_plan.specs.Stepping.{library_in}
-use Rattle.scatter_plan.proofs.Lists.{get_swapped}
+use Rattle.plan_steps.specs.Stepping.{library_in}
+use Rattle.plan_steps.proofs.Lists.{get_swapped}
 
 some_same : {A : Type 0} {x y : A} → Some x ≡ Some y → x ≡ y
 some_same e = cc
@@ -682,36 +681,3 @@ module _ (checked : Checked) (layout : Layout) (main : ℕ) (given : List Bind) 
         too_many_now lib site more sheet g.growth.owners 24 main h.flow h.there given [] h.names h.dones g.growth.grown (jobs_in arrived.lists) arrived.lists.faults arrived.lists.count
         (listing.works (work_of lib site more (rules_of sheet) (state_of sheet g.growth.owners) g.growth.grown) arrived.lists g.weighs)
         (or_left (nat_lt 20000 (jobs_in arrived.lists any_job)) (nat_lt 1000000 arrived.lists.count) (lt-ltb 20000 (jobs_in arrived.lists any_job) (omega (arith, swapped, one_more, total, waits, jobs, past))))
-
--- ---- calls and attempts at one place are one
-
-module _ (asking : Asking) (sound : IsAsking asking) where
-  mapped_back : (as_ : List Asked_) (n : ℕ) (d : Call) → slice_get (map call_of as_) n ≡ Some d → (x : Asked_) × (slice_get as_ n ≡ Some x) × (call_of x ≡ d)
-  mapped_back [] n d e = absurd (let f : ⊥ = cc in f)
-  mapped_back (x ∷ xs) zero d e = (x, refl, some_same e)
-  mapped_back (x ∷ xs) (suc n) d e = mapped_back xs n d e
-
-  pub calls_one : (i j : ℕ) (a b : Call) → slice_get (calls asking) i ≡ Some a → slice_get (calls asking) j ≡ Some b → a.place ≡ b.place → i ≡ j
-  calls_one i j a b e f same =
-      let x = mapped_back asking.asked.items i a e in
-      let y = mapped_back asking.asked.items j b f in
-      sound.distinct i j x.0 y.0 x.1 y.1 (ap (λ (d : Call). d.place) x.2 ∙ same ∙ ap (λ (d : Call). d.place) (sym y.2))
-
-  element_at : (ns : List ℕ) (n : ℕ) → n < length ns → (at : ℕ) × (slice_get ns n ≡ Some at)
-  element_at [] n lt = absurd (omega (arith, lt))
-  element_at (x ∷ xs) zero lt = (x, refl)
-  element_at (x ∷ xs) (suc n) lt = element_at xs n (omega (arith, lt))
-
-  pub ready_one : (i j : ℕ) (a b : Prepared) → slice_get asking.ready.items i ≡ Some a → slice_get asking.ready.items j ≡ Some b → a.request.place ≡ b.request.place → i ≡ j
-  ready_one i j a b e f same =
-      let pairs = sound.pairs in
-      let first = slice_get_within asking.ready.items i a e in
-      let second = slice_get_within asking.ready.items j b f in
-      let m = element_at asking.owners.items i (omega (arith, pairs, first)) in
-      let n = element_at asking.owners.items j (omega (arith, pairs, second)) in
-      let x = sound.owned i m.0 m.1 in
-      let y = sound.owned j n.0 n.1 in
-      let mine : x.prepared ≡ a = some_same (sym x.is_ready ∙ e) in
-      let theirs : y.prepared ≡ b = some_same (sym y.is_ready ∙ f) in
-      let at = sound.distinct m.0 n.0 x.call y.call x.there y.there (sym x.place ∙ ap (λ (d : Prepared). d.request.place) mine ∙ same ∙ ap (λ (d : Prepared). d.request.place) (sym theirs) ∙ y.place) in
-      sym x.waits ∙ ap (λ (d : Asked_). d.waits_at) (some_same (sym x.there ∙ ap (slice_get asking.asked.items) at ∙ y.there)) ∙ y.waits

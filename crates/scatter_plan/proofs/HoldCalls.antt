@@ -46,11 +46,11 @@ use Rattle.plan_growth.specs.Growth.{AskedCall, IsGrowing}
 use Rattle.plan_growth.specs.Keeps.{IsAt, asked_first}
 use Rattle.plan_growth.proofs.Calling as calling
 use Rattle.plan_may.specs.May.{at_place}
-use Rattle.scatter_plan.specs.Askings.{Call, new_call}
-use Rattle.scatter_plan.specs.Doing.{Asks, Field, State, flow_called, with_fault}
+use Rattle.plan_steps.specs.Askings.{Call, new_call}
+use Rattle.plan_steps.specs.Doing.{Asks, Field, State, flow_called, with_fault}
 use Rattle.scatter_plan.specs.Holding.{IsAwaited, IsFew, IsHolding, owed, paid_of, passes, task_cost, waiting}
-use Rattle.scatter_plan.specs.Stepping.{library_in}
-use Rattle.scatter_plan.specs.Values.{own_env}
+use Rattle.plan_steps.specs.Stepping.{library_in}
+use Rattle.plan_steps.specs.Values.{own_env}
 use Rattle.scatter_plan.proofs.Holds as holds
 
 -- ---- lists with one more at the end

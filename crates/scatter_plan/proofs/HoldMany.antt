@@ -51,10 +51,11 @@ use Rattle.plan_growth.proofs.Blocking as blocking
 use Rattle.plan_growth.proofs.Calling as calling
 use Rattle.plan_may.specs.May.{MayCall, MayDo, MayLayer}
 use Rattle.plan_may.proofs.Places.{rows_none}
-use Rattle.scatter_plan.specs.Doing.{last_base, IsPastCall, IsPastChoice, IsPastCondition, IsPastScatter, IsPastStatement, IsPastWith, State}
+use Rattle.plan_bodies.specs.Bases.{last_base}
+use Rattle.plan_steps.specs.Doing.{IsPastCall, IsPastChoice, IsPastCondition, IsPastScatter, IsPastStatement, IsPastWith, State}
 use Rattle.scatter_plan.specs.Holding.{IsHolding, passes, waiting}
-use Rattle.scatter_plan.specs.Stepping.{IsPastStep, library_in}
-use Rattle.scatter_plan.specs.Values.{own_env, own_value}
+use Rattle.plan_steps.specs.Stepping.{IsPastStep, library_in}
+use Rattle.plan_steps.specs.Values.{own_env, own_value}
 
 all_wait : (ready : List Prepared) → waiting ready any_job ≡ length ready
 all_wait [] = refl

@@ -15,9 +15,9 @@ use Rattle.plan_layout.specs.declared.layout.Layout.{Layout}
 use Rattle.plan_layout.specs.declared.layout.StatementLayout.{StatementLayout}
 use Rattle.plan_growth.specs.declared.rule.Rule.{Rule}
 use Rattle.plan_growth.specs.declared.rule.Rule.TheVariants as rule
-use Rattle.scatter_plan.specs.Doing.{Asks, Called, CalledWith, State, StatementDone, TaskCalled}
-use Rattle.scatter_plan.specs.Stepping.{CanTake, Did}
-use Rattle.scatter_plan.specs.Values.{own_env}
+use Rattle.plan_steps.specs.Doing.{Asks, Called, CalledWith, State, StatementDone, TaskCalled}
+use Rattle.plan_steps.specs.Stepping.{CanTake, Did}
+use Rattle.plan_steps.specs.Values.{own_env}
 
 module _ (checked : Checked) (layout : Layout) (site : List ℕ) (old : State) (t : ℕ) where
   abbrev pub Readies : State → Type 0

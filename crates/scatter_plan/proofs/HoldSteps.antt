@@ -31,10 +31,10 @@ use Rattle.plan_growth.specs.Entering.{Plot}
 use Rattle.plan_growth.specs.Keeps.{IsAt, IsInputAt, IsOutputAt}
 use Rattle.plan_may.specs.May.{MayCall, MayDo, MayLayer}
 use Rattle.plan_may.proofs.Places.{rows_none}
-use Rattle.scatter_plan.specs.Doing.{asked_count, CalledWith, Field, State, StatementDone, TaskCalled, Called, call_count, statement_count}
+use Rattle.plan_steps.specs.Doing.{asked_count, CalledWith, Field, State, StatementDone, TaskCalled, Called, call_count, statement_count}
 use Rattle.scatter_plan.specs.Holding.{IsFew, IsHolding, paid_of, task_cost}
-use Rattle.scatter_plan.specs.Stepping.{Did, IsWithin, library_in}
-use Rattle.scatter_plan.specs.Values.{own_env}
+use Rattle.plan_steps.specs.Stepping.{Did, IsWithin, library_in}
+use Rattle.plan_steps.specs.Values.{own_env}
 use Rattle.scatter_plan.proofs.HoldCalls as calls
 use Rattle.scatter_plan.proofs.Holds as holds
 

@@ -18,21 +18,21 @@ use Rattle.flow_laws.proofs.SameRequests.{place_itself, place_same}
 use Rattle.value_net.specs.Nets.{view}
 use Rattle.plan_layout.specs.declared.layout.Layout.{Layout}
 use Rattle.plan_growth.specs.declared.rule.Rule.TheVariants as rule
-use Rattle.scatter_plan.specs.declared.asking.Asking.{Asking}
-use Rattle.scatter_plan.specs.declared.fault.PlanFault.{PlanFault}
-use Rattle.scatter_plan.specs.declared.fault.PlanFault.TheVariants.{TooMany, NoMemory}
-use Rattle.scatter_plan.specs.declared.growth.Growth.{Growth}
+use Rattle.plan_steps.specs.declared.asking.Asking.{Asking}
+use Rattle.plan_steps.specs.declared.fault.PlanFault.{PlanFault}
+use Rattle.plan_steps.specs.declared.fault.PlanFault.TheVariants.{TooMany, NoMemory}
+use Rattle.plan_steps.specs.declared.growth.Growth.{Growth}
 use Rattle.scatter_plan.specs.Answering as answering
 use Rattle.scatter_plan.specs.Answering.{TakesAnswer}
-use Rattle.scatter_plan.specs.Arriving.{Answered, CanConclude, IsTaken, goes_on}
-use Rattle.scatter_plan.specs.Askings.{Call, IsAsking, calls}
+use Rattle.plan_steps.specs.Arriving.{Answered, CanConclude, IsTaken, goes_on}
+use Rattle.plan_steps.specs.Askings.{Call, IsAsking, calls}
 use Rattle.scatter_plan.specs.Calls.{is_waiting, row}
-use Rattle.scatter_plan.specs.Doing.{Asks, State, asks, field, state}
+use Rattle.plan_steps.specs.Doing.{Asks, State, asks, field, state}
 use Rattle.scatter_plan.specs.Holding.{IsAwaited, IsHolding}
-use Rattle.scatter_plan.specs.Passes.{Passes}
+use Rattle.plan_steps.specs.Passes.{Passes}
 use Rattle.scatter_plan.specs.Settling.{main_flow}
 use Rattle.scatter_plan.proofs.HoldAnswers as hold
-use Rattle.scatter_plan.proofs.HoldAnswers.{calls_one, ready_one}
+use Rattle.plan_steps.proofs.Asks.{calls_one, ready_one}
 
 -- an attempt that waits at a place, with its number
 pub waits_there : (ready : List Prepared) (place : List Segment) (attempt : ℕ) → is_waiting ready place attempt ≡ true

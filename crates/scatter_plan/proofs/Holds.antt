@@ -47,12 +47,13 @@ use Rattle.plan_growth.specs.Keeps.{IsAt, IsInputAt, IsOutputAt, net_told, work_
 use Rattle.plan_growth.proofs.Blocking as blocking
 use Rattle.plan_growth.proofs.Keeping as keeping
 use Rattle.plan_growth.proofs.Lists.{get_set}
-use Rattle.scatter_plan.specs.Doing.{Asks, Field, State, chosen, conditioned, declared, last_base, scattered}
+use Rattle.plan_steps.specs.Doing.{Asks, Field, State, chosen, conditioned, declared, scattered}
+use Rattle.plan_bodies.specs.Bases.{last_base}
 use Rattle.plan_may.specs.May.{at_place}
 use Rattle.scatter_plan.specs.Holding.{IsFew, IsHolding, paid_of, task_cost, waiting}
-use Rattle.scatter_plan.specs.Joined.{IsCopied, IsGathered, needs_at, needs_in}
-use Rattle.scatter_plan.specs.Stepping.{OnlyNet, library_in}
-use Rattle.scatter_plan.specs.Values.{own_value, told_faults, told_net}
+use Rattle.plan_bodies.specs.Joined.{IsCopied, IsGathered, needs_at, needs_in}
+use Rattle.plan_steps.specs.Stepping.{OnlyNet, library_in}
+use Rattle.plan_steps.specs.Values.{own_value, told_faults, told_net}
 
 told_same : (net : Sown) (c : ℕ) (o : Outcome Value) → told_net net c o ≡ net_told net c o
 told_same net c (Ok x) = refl

@@ -1,9 +1,4 @@
-mod Asks
 mod Beginning
-mod Concluding
-mod Counts
-mod Dones
-mod EnteredItems
 mod HoldAnswers
 mod HoldCalls
 mod HoldMany
@@ -11,15 +6,8 @@ mod HoldReady
 mod HoldSteps
 mod HoldTakes
 mod Holds
-mod Lists
-mod OutputRuns
-mod Reach
 mod Renewing
-mod Rooms
-mod Setting
 mod Settled
-mod Standing
-mod Taken
 mod Told
 mod TurnLoop
 mod Turns

@@ -19,10 +19,10 @@ use Rattle.plan_lists.specs.Laws.{TellsFlow}
 use Rattle.plan_lists.specs.Lists.{JobTest, any_job, unanswered}
 use Rattle.plan_ends.specs.Ends.{EndsAs}
 use Rattle.plan_ends.proofs.Ends.{growths_end}
-use Rattle.scatter_plan.specs.Doing.{State}
+use Rattle.plan_steps.specs.Doing.{State}
 use Rattle.scatter_plan.specs.Holding.{IsHolding, passes, task_cost, waiting}
 use Rattle.scatter_plan.specs.Settling.{IsSettled, env_at, is_over, main_flow, outputs_when}
-use Rattle.scatter_plan.specs.Stepping.{library_in}
+use Rattle.plan_steps.specs.Stepping.{library_in}
 
 -- ---- what waits has no answer
 

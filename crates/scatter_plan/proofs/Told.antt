@@ -11,19 +11,19 @@ use Rattle.net_laws.specs.Cost.{flow_cost}
 use Rattle.value_net.specs.Nets.{IsSound}
 use Rattle.plan_layout.specs.declared.layout.FlowLayout.{FlowLayout}
 use Rattle.plan_layout.specs.declared.layout.Layout.{Layout}
-use Rattle.scatter_plan.specs.declared.asking.Asking.{Asking}
-use Rattle.scatter_plan.specs.declared.fault.PlanFault.{PlanFault}
-use Rattle.scatter_plan.specs.declared.fault.PlanFault.TheVariants.{TooMany, NoMemory}
-use Rattle.scatter_plan.specs.declared.growth.Growth.{Growth}
+use Rattle.plan_steps.specs.declared.asking.Asking.{Asking}
+use Rattle.plan_steps.specs.declared.fault.PlanFault.{PlanFault}
+use Rattle.plan_steps.specs.declared.fault.PlanFault.TheVariants.{TooMany, NoMemory}
+use Rattle.plan_steps.specs.declared.growth.Growth.{Growth}
 use Rattle.scatter_plan.specs.declared.plan.Plan.{Plan}
 use Rattle.scatter_plan.specs.Answering.{Answered, Settles, TakesAnswer}
-use Rattle.scatter_plan.specs.Askings.{IsAsking}
+use Rattle.plan_steps.specs.Askings.{IsAsking}
 use Rattle.scatter_plan.specs.Calls.{Answers, Arrives, IsRenewed}
-use Rattle.scatter_plan.specs.Doing.{State, state}
+use Rattle.plan_steps.specs.Doing.{State, state}
 use Rattle.scatter_plan.specs.Holding.{IsHolding, task_cost}
 use Rattle.scatter_plan.specs.Plans.{IsHeld, IsMade, IsOfFlowing, IsTold, cost_in, cost_with, flow_in, flow_of, flow_with, outputs_with, paid_in}
 use Rattle.scatter_plan.specs.Settling.{Begins, Turned, Turns, is_over, main_flow, outputs_when}
-use Rattle.scatter_plan.specs.Stepping.{library_in}
+use Rattle.plan_steps.specs.Stepping.{library_in}
 use Rattle.scatter_plan.proofs.Settled.{few, paid_within, shown_outputs, tells}
 
 -- ---- the flow of the main workflow

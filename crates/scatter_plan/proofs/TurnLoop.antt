@@ -11,16 +11,16 @@ use Rattle.plan_layout.specs.Laws.{FlowsSee}
 use Rattle.plan_growth.specs.declared.rule.Rule.{Rule}
 use Rattle.plan_growth.specs.Entering.{Sown}
 use Rattle.plan_may.proofs.Steps as may
-use Rattle.scatter_plan.specs.declared.asking.Asking.{Asking}
-use Rattle.scatter_plan.specs.declared.fault.PlanFault.{PlanFault}
-use Rattle.scatter_plan.specs.declared.fault.PlanFault.TheVariants.{TooMany, NoMemory}
-use Rattle.scatter_plan.specs.declared.growth.Growth.{Growth}
-use Rattle.scatter_plan.specs.Askings.{IsAsking}
-use Rattle.scatter_plan.specs.Doing.{State, state}
+use Rattle.plan_steps.specs.declared.asking.Asking.{Asking}
+use Rattle.plan_steps.specs.declared.fault.PlanFault.{PlanFault}
+use Rattle.plan_steps.specs.declared.fault.PlanFault.TheVariants.{TooMany, NoMemory}
+use Rattle.plan_steps.specs.declared.growth.Growth.{Growth}
+use Rattle.plan_steps.specs.Askings.{IsAsking}
+use Rattle.plan_steps.specs.Doing.{State, state}
 use Rattle.scatter_plan.specs.Holding.{IsHolding, paid_of}
-use Rattle.scatter_plan.specs.Passes.{Passes}
+use Rattle.plan_steps.specs.Passes.{Passes}
 use Rattle.scatter_plan.specs.Settling.{Turned, main_flow}
-use Rattle.scatter_plan.specs.Stepping.{Did, IsPastStep, IsWithin, library_in}
+use Rattle.plan_steps.specs.Stepping.{Did, IsPastStep, IsWithin, library_in}
 use Rattle.scatter_plan.proofs.HoldMany.{past_many}
 use Rattle.scatter_plan.proofs.HoldReady.{readies}
 use Rattle.scatter_plan.proofs.Turns as turns

@@ -23,11 +23,11 @@ use Rattle.plan_growth.specs.Entering.{Sown}
 use Rattle.plan_growth.proofs.Lists.{get_set}
 use Rattle.plan_may.specs.May.{MayDo, MayLayer, MayRun, at_place}
 use Rattle.plan_may.proofs.Steps as may
-use Rattle.scatter_plan.specs.Askings.{IsNew}
-use Rattle.scatter_plan.specs.Doing.{CanCall, CanStatement, State}
+use Rattle.plan_steps.specs.Askings.{IsNew}
+use Rattle.plan_steps.specs.Doing.{CanCall, CanStatement, State}
 use Rattle.scatter_plan.specs.Holding.{IsFew, IsHolding, paid_of}
-use Rattle.scatter_plan.specs.Joined.{needs_at, needs_in}
-use Rattle.scatter_plan.specs.Stepping.{CanTake, Did, IsWithin, library_in}
+use Rattle.plan_bodies.specs.Joined.{needs_at, needs_in}
+use Rattle.plan_steps.specs.Stepping.{CanTake, Did, IsWithin, library_in}
 use Rattle.scatter_plan.proofs.HoldSteps.{step_pays}
 
 module _ (checked : Checked) (layout : Layout) (main : ℕ) (given : List Bind) (site : List ℕ) (rows : List Row) (s : State) (h : IsHolding checked layout main given site rows s) (t : ℕ) where

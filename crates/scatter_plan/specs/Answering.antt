@@ -5,12 +5,12 @@ use Rattle.wdl_value.specs.Tables.{Row}
 use Rattle.wdl_typed.specs.declared.checked.Checked.{Checked}
 use Rattle.wdl_typed.specs.Flow.{too_many}
 use Rattle.plan_layout.specs.declared.layout.Layout.{Layout}
-use Rattle.scatter_plan.specs.declared.fault.PlanFault.{PlanFault}
-use Rattle.scatter_plan.specs.declared.fault.PlanFault.TheVariants.{TooMany, NoMemory}
+use Rattle.plan_steps.specs.declared.fault.PlanFault.{PlanFault}
+use Rattle.plan_steps.specs.declared.fault.PlanFault.TheVariants.{TooMany, NoMemory}
 use Rattle.scatter_plan.specs.Calls.{Answers}
-use Rattle.scatter_plan.specs.Doing.{State}
+use Rattle.plan_steps.specs.Doing.{State}
 use Rattle.scatter_plan.specs.Holding.{IsHolding, paid_of}
-use Rattle.scatter_plan.specs.Passes.{Passes}
+use Rattle.plan_steps.specs.Passes.{Passes}
 use Rattle.scatter_plan.specs.Settling.{IsSettled, is_over, main_flow, outputs_when}
 
 module _ (c : Checked) (layout : Layout) (main : ℕ) (given : List Bind) (site : List ℕ) (rows : List Row) where

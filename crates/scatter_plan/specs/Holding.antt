@@ -24,9 +24,9 @@ use Rattle.plan_layout.specs.declared.layout.FlowLayout.{FlowLayout}
 use Rattle.plan_layout.specs.declared.layout.Layout.{Layout}
 use Rattle.plan_growth.specs.Growth.{AskedCall, IsGrowing}
 use Rattle.plan_may.specs.May.{at_place}
-use Rattle.scatter_plan.specs.Askings.{Call}
-use Rattle.scatter_plan.specs.Doing.{State}
-use Rattle.scatter_plan.specs.Stepping.{library_in}
+use Rattle.plan_steps.specs.Askings.{Call}
+use Rattle.plan_steps.specs.Doing.{State}
+use Rattle.plan_steps.specs.Stepping.{library_in}
 
 abbrev pub passes : JobTest → Prepared → Bool
 passes is p = is p.request (successes_of p.codes)

@@ -1,14 +1,6 @@
 pub mod Answering
-pub mod Arriving
-pub mod Askings
 pub mod Calls
-pub mod Doing
 pub mod Holding
-pub mod Joined
-pub mod Passes
 pub mod Plans
-pub mod Plots
 pub mod Renewals
 pub mod Settling
-pub mod Stepping
-pub mod Values

@@ -19,15 +19,15 @@ use Rattle.plan_layout.specs.Laid.{IsLayout}
 use Rattle.plan_layout.specs.Sees.{Sees}
 use Rattle.plan_growth.specs.Entering.{with_flow}
 use Rattle.scatter_plan.specs.declared.begin.Begun.{Begun}
-use Rattle.scatter_plan.specs.declared.fault.PlanFault.{PlanFault}
-use Rattle.scatter_plan.specs.declared.fault.PlanFault.TheVariants.{TooMany, NoMemory}
-use Rattle.scatter_plan.specs.declared.growth.Growth.{Growth}
-use Rattle.scatter_plan.specs.Askings.{IsAsking}
-use Rattle.scatter_plan.specs.Doing.{Asks, State, field, state}
+use Rattle.plan_steps.specs.declared.fault.PlanFault.{PlanFault}
+use Rattle.plan_steps.specs.declared.fault.PlanFault.TheVariants.{TooMany, NoMemory}
+use Rattle.plan_steps.specs.declared.growth.Growth.{Growth}
+use Rattle.plan_steps.specs.Askings.{IsAsking}
+use Rattle.plan_steps.specs.Doing.{Asks, State, field, state}
 use Rattle.scatter_plan.specs.Holding.{IsHolding, paid_of}
-use Rattle.scatter_plan.specs.Passes.{Passes}
-use Rattle.scatter_plan.specs.Plots.{plot}
-use Rattle.scatter_plan.specs.Stepping.{library_in}
+use Rattle.plan_steps.specs.Passes.{Passes}
+use Rattle.plan_bodies.specs.Plots.{plot}
+use Rattle.plan_steps.specs.Stepping.{library_in}
 
 -- The main workflow is there, its inputs fit, and the layout is that of the checked form.
 pub record IsMadeOf (c : Checked) (layout : Layout) (main : ℕ) (given : List Bind) : Type 0 where

@@ -7,11 +7,11 @@ ghost use Rattle.wdl_typed.specs.Declarations.{plain_key};
 ghost use Rattle.wdl_typed.specs.Flow.{bound_by};
 ghost use Rattle.value_net.specs.Nets.{value_at, view};
 ghost use Rattle.plan_layout.specs.declared.layout.FlowLayout.{FlowLayout};
-ghost use Rattle.scatter_plan.specs.Doing.{state};
+ghost use Rattle.plan_steps.specs.Doing.{state};
 ghost use Rattle.scatter_plan.specs.Settling.{IsMadeOf, env_at, is_over, outputs_when};
 
-use crate::asking::Asking;
-use crate::growth::{Ground, Growth, Net};
+use plan_bodies::Net;
+use plan_steps::{Asking, Ground, Growth};
 use std::alloc::Global;
 use wdl_typed::TDecl;
 use wdl_value::{Bind, Env, Items, Key, NoMemory};

@@ -22,7 +22,8 @@ use std::thread::Threads;
 use std::time::Clock;
 use wdl_port::{Keeper, Launcher, Shelf, Sink};
 use wdl_value::{NoMemory, Steps};
-use workflow_cli::{FileShelf, Recall, RecallingShelf, StreamSink, workflow};
+use workflow_cli::{FileShelf, StreamSink, workflow};
+use workflow_stages::{Recall, RecallingShelf};
 
 /// The words after the program's name. Where they are no text there are none, which has no reading.
 fn words<R: Env + AllocGlobal>(rt: &R) -> Result<Vec<String>, NoMemory> {

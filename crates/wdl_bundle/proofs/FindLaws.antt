@@ -4,7 +4,7 @@ use Rattle.std.specs.Prelude.{cond}
 use Rattle.std.specs.List.{find}
 use Rattle.std.specs.Str.{bytes_eq}
 use Rattle.std.proofs.lemmas.Option.{slice_get-map}
-use Rattle.wdl_check_types.specs.Locals.{Naming}
+use Rattle.wdl_check_rules.specs.Locals.{Naming}
 use Rattle.wdl_bundle.specs.declared.reach.Offer.{Offer as HeldOffer}
 use Rattle.wdl_bundle.specs.declared.reach.Space.{Space as HeldSpace}
 use Rattle.wdl_bundle.specs.declared.structs.Declared.{Declared as HeldDeclared}

@@ -1,4 +1,3 @@
-mod TypeLaws
 mod KnownLaws
 mod FreeNames
 mod MarkLaws

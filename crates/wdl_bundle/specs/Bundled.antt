@@ -9,7 +9,7 @@ use Rattle.wdl_ast.specs.declared.workflow.CallTarget.{CallTarget}
 use Rattle.wdl_ast.specs.declared.workflow.Workflow.{Workflow}
 use Rattle.wdl_ast.specs.declared.workflow.WorkflowElement.{WorkflowElement}
 use Rattle.wdl_library.specs.declared.doc.Doc.{Doc}
-use Rattle.wdl_check_types.specs.Locals.{Naming}
+use Rattle.wdl_check_rules.specs.Locals.{Naming}
 use Rattle.wdl_bundle.specs.declared.calls.Met.{Met}
 use Rattle.wdl_bundle.specs.declared.fault.BundleFault.{BundleFault}
 use Rattle.wdl_bundle.specs.declared.fault.BundleFault.TheVariants.{Bad, NoMemory}
@@ -18,7 +18,7 @@ use Rattle.wdl_bundle.specs.Called.{Offer, Reach, Task, all_offers, all_tasks, c
 use Rattle.wdl_bundle.specs.StructSections.{all_declared, struct_sections}
 use Rattle.wdl_bundle.specs.Documents.{Known, known}
 use Rattle.wdl_bundle.specs.TaskNames.{Name, name_at, name_of, names_from, own_names}
-use Rattle.wdl_bundle.specs.Renamed.{task_with}
+use Rattle.wdl_copies.specs.Renamed.{task_with}
 
 -- ---- document 0
 

@@ -15,7 +15,7 @@ use Rattle.wdl_ast.specs.declared.workflow.TargetMember.{TargetMember}
 use Rattle.wdl_ast.specs.declared.workflow.WorkflowElement.{WorkflowElement}
 use Rattle.wdl_ast.specs.declared.workflow.WorkflowElement.TheVariants as element
 use Rattle.wdl_library.specs.declared.doc.Link.{Link}
-use Rattle.wdl_check_types.specs.Locals.{Naming, stands_for}
+use Rattle.wdl_check_rules.specs.Locals.{Naming, stands_for}
 use Rattle.wdl_check_types.specs.Places.{call_span}
 use Rattle.wdl_bundle.specs.declared.calls.Met.{Met}
 use Rattle.wdl_bundle.specs.declared.reach.Callee.{Callee}

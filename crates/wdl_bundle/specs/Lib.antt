@@ -1,7 +1,6 @@
 pub mod Documents
 pub mod Called
 pub mod TaskNames
-pub mod Renamed
 pub mod Bodies
 pub mod StructSections
 pub mod Bundled

@@ -1,17 +1,16 @@
 -- The struct sections of a bundle.
-use Rattle.std.specs.Prelude.{ℕ, List, [], ◌∷◌, ◌++◌, Option, Some, None, map, option_and_then}
+use Rattle.std.specs.Prelude.{ℕ, List, [], ◌∷◌, ◌++◌, Option, Some, None, option_and_then}
 use Rattle.std.specs.List.{find}
 use Rattle.std.specs.Str.{bytes_eq}
 use Rattle.wdl_value.specs.Fits.{Structs}
 use Rattle.wdl_ast.specs.declared.document.Section.{Section}
 use Rattle.wdl_ast.specs.declared.document.Section.TheVariants as section
-use Rattle.wdl_ast.specs.declared.document.StructMember.{StructMember}
 use Rattle.wdl_ast.specs.declared.document.StructSection.{StructSection}
 use Rattle.wdl_library.specs.Sections.{structs_in}
-use Rattle.wdl_check_types.specs.Locals.{Naming, stands_for}
+use Rattle.wdl_check_rules.specs.Locals.{Naming, stands_for}
 use Rattle.wdl_bundle.specs.declared.structs.Declared.{Declared as HeldDeclared}
 use Rattle.wdl_bundle.specs.Documents.{Known}
-use Rattle.wdl_bundle.specs.Renamed.{ident_at, renamed_type}
+use Rattle.wdl_copies.specs.Renamed.{struct_with}
 
 -- a struct section, with the name of the library that stands for its struct, and the names of its document
 pub record Declared : Type 0 where
@@ -36,13 +35,6 @@ abbrev pub declared_for : Naming → List Declared → List ℕ → Option Decla
 declared_for own all name = option_and_then (λ root. find (λ (d : Declared). bytes_eq d.root root) all) (own name)
 
 -- ---- sections
-
-abbrev pub member_with : Naming → StructMember → StructMember
-member_with locals m = record { ty = renamed_type locals m.ty; name = m.name }
-
-abbrev pub struct_with : Naming → List ℕ → StructSection → StructSection
-struct_with locals name s =
-    record { keyword = s.keyword; name = ident_at name s.name.span; opening = s.opening; members = map (member_with locals) s.members; closing = s.closing }
 
 abbrev pub section_as : List ℕ → Option Declared → List Section
 section_as name None = []

@@ -1,19 +1,17 @@
 //! Copies of the statements of the main workflow.
 
 ghost use Rattle.std.specs.Prelude.{◌≡◌, map, IfOk};
-ghost use Rattle.wdl_check_types.specs.Locals as local;
+ghost use Rattle.wdl_check_rules.specs.Locals as local;
 ghost use Rattle.wdl_bundle.specs.Bodies as spec;
 ghost use Rattle.wdl_bundle.specs.Called.{reach_of};
 ghost use Rattle.wdl_bundle.specs.TaskNames.{name_of};
 
-use crate::call::copy_call;
 use crate::names::Names;
-use crate::sections::copy_declaration;
 use sqlite_items::Items;
 use std::alloc::Global;
 use wdl_ast::{Conditional, Scatter, Statement};
-use wdl_check_types::Local;
-use wdl_localize::{copy_ident, renamed};
+use wdl_check_rules::Local;
+use wdl_copies::{copy_call, copy_declaration, copy_expr, copy_ident};
 use wdl_names::Indexed;
 use wdl_value::NoMemory;
 
@@ -31,7 +29,7 @@ fn scatter_with(
         opening_paren: block.opening_paren,
         item,
         in_word: block.in_word,
-        over: renamed(alloc, &block.over, locals)?,
+        over: copy_expr(alloc, &block.over, locals)?,
         closing_paren: block.closing_paren,
         opening: block.opening,
         body,
@@ -50,7 +48,7 @@ fn conditional_with(
     Ok(Conditional {
         keyword: block.keyword,
         opening_paren: block.opening_paren,
-        condition: renamed(alloc, &block.condition, locals)?,
+        condition: copy_expr(alloc, &block.condition, locals)?,
         closing_paren: block.closing_paren,
         opening: block.opening,
         body,

@@ -2,7 +2,7 @@
 
 ghost use Rattle.std.specs.Prelude.{◌≡◌, ◌++◌, map, IfOk, OnOk};
 ghost use Rattle.std.specs.Option.{option_copied};
-ghost use Rattle.wdl_check_types.specs.Locals as local;
+ghost use Rattle.wdl_check_rules.specs.Locals as local;
 ghost use Rattle.wdl_bundle.specs.Bundled as spec;
 ghost use Rattle.wdl_bundle.specs.Called.{all_offers as all_offered, offer_of, reach_of, task_of};
 ghost use Rattle.wdl_bundle.specs.Documents.{known_of};
@@ -14,12 +14,12 @@ use crate::known::{Indices, all_indexed, all_listed};
 use crate::names::{Names, name_at, names_for};
 use crate::reach::{Offer, Reach, spaces_of};
 use crate::structs::push_structs;
-use crate::task::copy_task;
 use crate::tasks::{Task, all_offers, all_tasks, indexed_offers};
 use crate::workflow::copy_workflow;
 use sqlite_items::Items;
 use std::alloc::Global;
 use wdl_ast::{Document, Section, Workflow};
+use wdl_copies::{copy_task, put};
 use wdl_library::Library;
 use wdl_names::Indexed;
 use wdl_value::{Name, NoMemory, Span, StructDef};
@@ -54,11 +54,11 @@ fn push_task(
 ) -> Result<(), NoMemory>
     ensures { OnOk result (sections.new ≡ sections.old ++ spec.task_section (task_of task.now) (option_copied name.entry)) }
 {
-    if let Some(name) = name {
-        let copy = copy_task(alloc, task.section, name, task.locals)?;
-        sections.push(Section::Task(copy))?;
-    }
-    Ok(())
+    let Some(name) = name else {
+        return Ok(());
+    };
+    let copy = copy_task(alloc, task.section, name, task.locals)?;
+    put(sections, Section::Task(copy))
 }
 
 /// Adds the tasks that have a name.
@@ -85,11 +85,11 @@ fn push_main(
 ) -> Result<(), NoMemory>
     ensures { OnOk result (sections.new ≡ sections.old ++ spec.main_section (local.stands_for first.now.locals) (name_of (reach_of names.now.reach) names.now.names.now) (spec.main_of (known_of first.now))) }
 {
-    if let Some(main) = workflow_in(first.doc.document.sections.as_slice()) {
-        let copy = copy_workflow(alloc, main, names, &first.locals)?;
-        sections.push(Section::Workflow(copy))?;
-    }
-    Ok(())
+    let Some(main) = workflow_in(first.doc.document.sections.as_slice()) else {
+        return Ok(());
+    };
+    let copy = copy_workflow(alloc, main, names, &first.locals)?;
+    put(sections, Section::Workflow(copy))
 }
 
 fn sections_with<'a>(

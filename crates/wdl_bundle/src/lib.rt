@@ -3,7 +3,6 @@
 
 mod body;
 mod bundling;
-mod call;
 mod calls;
 mod fault;
 mod known;
@@ -11,11 +10,8 @@ mod marks;
 mod names;
 mod naming;
 mod reach;
-mod sections;
 mod structs;
-mod task;
 mod tasks;
-mod types;
 mod workflow;
 
 pub use bundling::bundle;

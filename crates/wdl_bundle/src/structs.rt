@@ -3,18 +3,16 @@
 ghost use Rattle.std.specs.Prelude.{◌≡◌, ◌++◌, map, option_map, IfOk, OnOk};
 ghost use Rattle.std.specs.Option.{option_copied};
 ghost use Rattle.wdl_library.specs.Sections.{structs_in};
-ghost use Rattle.wdl_check_types.specs.Locals as local;
+ghost use Rattle.wdl_check_rules.specs.Locals as local;
 ghost use Rattle.wdl_bundle.specs.StructSections as spec;
 ghost use Rattle.wdl_bundle.specs.Documents.{known_of};
 
 use crate::known::Indices;
-use crate::sections::named_at;
-use crate::types::copy_type;
 use sqlite_items::Items;
 use std::alloc::Global;
-use wdl_ast::{Section, StructMember, StructSection};
-use wdl_check_types::{Local, stands_for};
-use wdl_localize::copy_ident;
+use wdl_ast::{Section, StructSection};
+use wdl_check_rules::{Local, stands_for};
+use wdl_copies::{copy_struct, put};
 use wdl_names::{Indexed, Named};
 use wdl_value::{Name, NoMemory, StructDef};
 
@@ -68,42 +66,6 @@ fn all_declared<'a>(
     Ok(declared)
 }
 
-fn copy_member(
-    alloc: Global,
-    member: &StructMember,
-    locals: &Indexed<Local>,
-) -> Result<StructMember, NoMemory>
-    ensures { IfOk result (λ m. m ≡ spec.member_with (local.stands_for locals.now) member.now) }
-{
-    let ty = copy_type(alloc, &member.ty, locals)?;
-    Ok(StructMember {
-        ty,
-        name: copy_ident(alloc, &member.name)?,
-    })
-}
-
-/// A copy of a struct section under a name, with the names of structs as the library has them.
-fn copy_struct(
-    alloc: Global,
-    section: &StructSection,
-    name: &Name,
-    locals: &Indexed<Local>,
-) -> Result<StructSection, NoMemory>
-    ensures { IfOk result (λ s. s ≡ spec.struct_with (local.stands_for locals.now) name.now section.now) }
-{
-    let mut members = Items::new(alloc);
-    for member in section.members.as_slice() {
-        members.push(copy_member(alloc, member, locals)?)?;
-    }
-    Ok(StructSection {
-        keyword: section.keyword,
-        name: named_at(alloc, name, section.name.span)?,
-        opening: section.opening,
-        members,
-        closing: section.closing,
-    })
-}
-
 /// The first section of the struct that document 0 knows under that name.
 fn declared_for<'a>(
     own: &Indexed<Local>,
@@ -124,11 +86,11 @@ fn push_struct(
 ) -> Result<(), NoMemory>
     ensures { OnOk result (sections.new ≡ sections.old ++ spec.section_as name.now (option_map spec.declared_of (option_copied declared.entry))) }
 {
-    if let Some(declared) = declared {
-        let copy = copy_struct(alloc, declared.section, name, declared.locals)?;
-        sections.push(Section::Struct(copy))?;
-    }
-    Ok(())
+    let Some(declared) = declared else {
+        return Ok(());
+    };
+    let copy = copy_struct(alloc, declared.section, name, declared.locals)?;
+    put(sections, Section::Struct(copy))
 }
 
 fn push_each<'a>(

@@ -8,7 +8,7 @@ use crate::known::Indices;
 use crate::reach::{Callee, Offer};
 use std::alloc::Global;
 use wdl_ast::{Section, TaskSection};
-use wdl_check_types::Local;
+use wdl_check_rules::Local;
 use wdl_names::Indexed;
 use wdl_value::NoMemory;
 

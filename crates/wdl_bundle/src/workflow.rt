@@ -1,19 +1,18 @@
 //! A copy of the main workflow.
 
 ghost use Rattle.std.specs.Prelude.{◌≡◌, ◌++◌, IfOk, OnOk};
-ghost use Rattle.wdl_check_types.specs.Locals as local;
+ghost use Rattle.wdl_check_rules.specs.Locals as local;
 ghost use Rattle.wdl_bundle.specs.Bodies as spec;
 ghost use Rattle.wdl_bundle.specs.Called.{reach_of};
 ghost use Rattle.wdl_bundle.specs.TaskNames.{name_of};
 
 use crate::body::copy_statement;
 use crate::names::Names;
-use crate::sections::{copy_inputs, copy_outputs};
 use sqlite_items::Items;
 use std::alloc::Global;
 use wdl_ast::{Workflow, WorkflowElement};
-use wdl_check_types::Local;
-use wdl_localize::copy_ident;
+use wdl_check_rules::Local;
+use wdl_copies::{copy_ident, copy_inputs, copy_outputs, put};
 use wdl_names::Indexed;
 use wdl_value::NoMemory;
 
@@ -29,17 +28,23 @@ fn push_element(
 {
     match element {
         WorkflowElement::Input(section) => {
-            copies.push(WorkflowElement::Input(copy_inputs(alloc, section, locals)?))?
+            put(
+                copies,
+                WorkflowElement::Input(copy_inputs(alloc, section, locals)?),
+            )
         }
         WorkflowElement::Output(section) => {
-            copies.push(WorkflowElement::Output(copy_outputs(alloc, section, locals)?))?
+            put(
+                copies,
+                WorkflowElement::Output(copy_outputs(alloc, section, locals)?),
+            )
         }
-        WorkflowElement::Statement(statement) => copies.push(WorkflowElement::Statement(
-            copy_statement(alloc, statement, names, locals)?,
-        ))?,
-        WorkflowElement::Meta(_) | WorkflowElement::ParameterMeta(_) => {}
+        WorkflowElement::Statement(statement) => {
+            let copy = copy_statement(alloc, statement, names, locals)?;
+            put(copies, WorkflowElement::Statement(copy))
+        }
+        WorkflowElement::Meta(_) | WorkflowElement::ParameterMeta(_) => Ok(()),
     }
-    Ok(())
 }
 
 /// A copy of the workflow, whose calls name the tasks of the bundle, with the names of structs as the library has them and without

@@ -39,11 +39,10 @@ use Rattle.wdl_check_types.specs.Written.{written}
 use Rattle.wdl_check_types.proofs.KnownLaws.{known}
 use Rattle.wdl_check_order.specs.Needs.{declaration_needing, input_needing}
 use Rattle.wdl_check_order.specs.Ordered.{ordered}
-use Rattle.wdl_localize.specs.Localized.{localized}
 use Rattle.wdl_check_decls.specs.declared.standing.Standing.{Standing}
 use Rattle.wdl_check_decls.specs.declared.standing.Standing.TheVariants.{Private, Output, Body}
 use Rattle.wdl_check_decls.specs.Declarations.{decl_as, decl_typed, declared, decls_behind, input, input_as, input_typed, inputs_behind, preset_typed, value_typed}
-use Rattle.wdl_check_decls.specs.Expressions.{World, expr_as, expr_typed, scope, typed_as_in, typed_in}
+use Rattle.wdl_check_decls.specs.Expressions.{World, expr_as, expr_typed, scope}
 use Rattle.wdl_check_decls.specs.Laws.{CastTypes, DeclTypes, DeclsTypes, ExprTypes, InputsTypes, IsKnown, PlacedTypes, context, is_declared, typing_at}
 use Rattle.wdl_check_decls.specs.Writes.{WholeCall, applied, arguments_typed, placed, placed_typed, whole_call, write_among, write_func}
 use Rattle.wdl_check_decls.proofs.ListLaws.{decls_after, inputs_after}
@@ -71,14 +70,10 @@ refused_some code span (Some x) a h = h
 -- ---- expressions
 
 pub expr_types : ExprTypes
-expr_types w names outputs placeholder e x h =
-    let q = then_some (localized w.locals e) (typed_in (scope w names outputs placeholder)) x h in
-    well_typed (scope w names outputs placeholder) q.0 placeholder x q.2
+expr_types w names outputs placeholder e x h = well_typed (scope w names outputs placeholder) e placeholder x h
 
 pub cast_types : CastTypes
-cast_types w names outputs e t x h =
-    let q = then_some (localized w.locals e) (λ y. typed_as_in (scope w names outputs false) y t) x h in
-    well_cast (scope w names outputs false) q.0 t x q.2
+cast_types w names outputs e t x h = well_cast (scope w names outputs false) e t x h
 
 -- ---- calls of the functions that write files
 

@@ -9,9 +9,8 @@ use Rattle.wdl_check_rules.specs.declared.typed.Typed.{Typed}
 use Rattle.wdl_check_rules.specs.Conditions.{conditions, conditions_as}
 use Rattle.wdl_check_rules.specs.Scopes.{Scope}
 use Rattle.wdl_check_rules.specs.Typed.{typed, typed_as}
-use Rattle.wdl_check_types.specs.Locals.{Naming, stands_for}
-use Rattle.wdl_check_types.specs.Outcome.{Outcome, then_}
-use Rattle.wdl_localize.specs.Localized.{localized}
+use Rattle.wdl_check_rules.specs.Locals.{Naming, stands_for}
+use Rattle.wdl_check_types.specs.Outcome.{Outcome}
 use Rattle.wdl_check_decls.specs.declared.seeing.Seeing.{Seeing}
 
 -- the structs of the library, the names under which the document knows them, and the calls that are seen
@@ -28,18 +27,25 @@ abbrev pub with_calls : World → List (List ℕ) → World
 with_calls w calls = record { structs = w.structs; locals = w.locals; calls = calls }
 
 abbrev pub scope : World → List Bound → Bool → Bool → Scope
-scope w names outputs placeholder = record { structs = w.structs; names = names; calls = w.calls; outputs = outputs; placeholder = placeholder }
-
-abbrev pub typed_in : Scope → Expr → Outcome Typed
-typed_in s e = record { typed = typed s e; conditions = conditions s e }
-
-abbrev pub typed_as_in : Scope → Expr → Ty → Outcome TExpr
-typed_as_in s e t = record { typed = typed_as s e t; conditions = conditions_as s e t }
+scope w names outputs placeholder = record {
+  names = names;
+  calls = w.calls;
+  structs = w.structs;
+  locals = w.locals;
+  outputs = outputs;
+  placeholder = placeholder;
+}
 
 -- the typing of an expression
 abbrev pub expr_typed : World → List Bound → Bool → Bool → Expr → Outcome Typed
-expr_typed w names outputs placeholder e = then_ (localized w.locals e) (typed_in (scope w names outputs placeholder))
+expr_typed w names outputs placeholder e = record {
+  typed = typed (scope w names outputs placeholder) e;
+  conditions = conditions (scope w names outputs placeholder) e;
+}
 
 -- the same, cast to a type
 abbrev pub expr_as : World → List Bound → Bool → Expr → Ty → Outcome TExpr
-expr_as w names outputs e t = then_ (localized w.locals e) (λ x. typed_as_in (scope w names outputs false) x t)
+expr_as w names outputs e t = record {
+  typed = typed_as (scope w names outputs false) e t;
+  conditions = conditions_as (scope w names outputs false) e t;
+}

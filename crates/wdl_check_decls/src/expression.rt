@@ -8,7 +8,6 @@ use std::alloc::Global;
 use wdl_ast::Expr;
 use wdl_check_expr::{check_as, check_expr};
 use wdl_check_rules::{CheckFault, Scope, Typed};
-use wdl_localize::localized;
 use wdl_names::Names;
 use wdl_typed::TExpr;
 use wdl_value::Ty;
@@ -24,15 +23,15 @@ pub fn check_in(
 ) -> Result<Typed, CheckFault>
     ensures { outcome.Answers (spec.expr_typed (spec.world seeing.now) names.now outputs placeholder e.now) result }
 {
-    let e = localized(alloc, e, seeing.locals)?;
     let scope = Scope {
         names,
         calls: seeing.calls,
         structs: seeing.structs,
+        locals: seeing.locals,
         outputs,
         placeholder,
     };
-    check_expr(alloc, &scope, &e)
+    check_expr(alloc, &scope, e)
 }
 
 /// The typed tree of an expression outside placeholders, cast to a type.
@@ -46,13 +45,13 @@ pub fn check_as_in(
 ) -> Result<TExpr, CheckFault>
     ensures { outcome.Answers (spec.expr_as (spec.world seeing.now) names.now outputs e.now t.now) result }
 {
-    let e = localized(alloc, e, seeing.locals)?;
     let scope = Scope {
         names,
         calls: seeing.calls,
         structs: seeing.structs,
+        locals: seeing.locals,
         outputs,
         placeholder: false,
     };
-    check_as(alloc, &scope, &e, t)
+    check_as(alloc, &scope, e, t)
 }

@@ -1,6 +1,6 @@
 ghost use Rattle.std.specs.Prelude.{◌≡◌};
 
-use wdl_check_types::Local;
+use wdl_check_rules::Local;
 use wdl_names::{Indexed, Words};
 use wdl_value::StructDef;
 

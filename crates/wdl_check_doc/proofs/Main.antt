@@ -1,7 +1,7 @@
 -- The main workflow.
 use Rattle.std.proofs.Common.{◌≡◌, ◌≢◌, ℕ, List, [], ◌∷◌, Some, length, map, slice_get, refl, sym, ap, ◌∙◌}
 use Rattle.wdl_ast.specs.declared.workflow.Workflow.{Workflow}
-use Rattle.wdl_check_doc.specs.declared.part.Part.{Part as Held}
+use Rattle.wdl_check_doc.specs.declared.numbered_doc.Part.{Part as Held}
 use Rattle.wdl_check_doc.specs.Checked.{first_among, main_of}
 use Rattle.wdl_check_doc.specs.Parts.{part_of}
 use Rattle.wdl_check_doc.specs.Runnables.{workflows_in}

@@ -5,8 +5,8 @@ use Rattle.std.specs.List.{find}
 use Rattle.std.specs.Str.{bytes_eq}
 use Rattle.wdl_library.specs.declared.doc.Doc.{Doc}
 use Rattle.wdl_library.specs.declared.doc.StructName.{StructName}
-use Rattle.wdl_check_types.specs.declared.local.Local.{Local}
-use Rattle.wdl_check_types.specs.Locals.{stands_for}
+use Rattle.wdl_check_rules.specs.declared.local.Local.{Local}
+use Rattle.wdl_check_rules.specs.Locals.{stands_for}
 use Rattle.wdl_check_doc.specs.Known.{known, name_of}
 use Rattle.wdl_check_doc.specs.Parts.{naming}
 

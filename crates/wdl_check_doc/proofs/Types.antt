@@ -9,7 +9,7 @@ use Rattle.wdl_ast.specs.declared.type_tree.BaseType.TheVariants as base
 use Rattle.wdl_ast.specs.declared.type_tree.TypeTree.{TypeTree, TypeTree-F, map-TypeTree, roll-TypeTree, ind-TypeTree, fold-roll-TypeTree}
 use Rattle.wdl_library.specs.Structs.{optional, type_step, written_type}
 use Rattle.wdl_check_rules.specs.Spans.{joined}
-use Rattle.wdl_check_types.specs.Locals.{Naming}
+use Rattle.wdl_check_rules.specs.Locals.{Naming}
 use Rattle.wdl_check_types.specs.Outcome.{Outcome, done, or_refused, refused}
 use Rattle.wdl_check_types.specs.Written.{map_written, marked, written, written_step}
 use Rattle.wdl_check_doc.proofs.Typed.{some_is, then_some}

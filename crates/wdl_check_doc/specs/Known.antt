@@ -2,8 +2,8 @@
 use Rattle.std.specs.Prelude.{ℕ, ◌+◌, List, [], ◌∷◌}
 use Rattle.wdl_library.specs.declared.doc.Doc.{Doc}
 use Rattle.wdl_library.specs.declared.doc.StructName.{StructName}
-use Rattle.wdl_check_types.specs.declared.local.Local.{Local}
-use Rattle.wdl_check_types.specs.Locals.{Naming, stands_for}
+use Rattle.wdl_check_rules.specs.declared.local.Local.{Local}
+use Rattle.wdl_check_rules.specs.Locals.{Naming, stands_for}
 use Rattle.wdl_check_doc.specs.declared.local.Known.{Known as Indexed}
 use Rattle.wdl_check_doc.specs.declared.local.Naming.{Naming as Listed}
 use Rattle.wdl_check_doc.specs.Parts.{Part, naming}

@@ -7,9 +7,9 @@ use Rattle.wdl_ast.specs.declared.document.Section.{Section}
 use Rattle.wdl_library.specs.declared.doc.Doc.{Doc}
 use Rattle.wdl_library.specs.declared.doc.Link.{Link}
 use Rattle.wdl_library.specs.declared.doc.StructName.{StructName}
-use Rattle.wdl_check_types.specs.Locals.{Naming, stands_for}
+use Rattle.wdl_check_rules.specs.Locals.{Naming, stands_for}
 use Rattle.wdl_check_decls.specs.Expressions.{World}
-use Rattle.wdl_check_doc.specs.declared.part.Part.{Part as Held}
+use Rattle.wdl_check_doc.specs.declared.numbered_doc.Part.{Part as Held}
 
 pub record Part : Type 0 where
   pub number : ℕ

@@ -5,7 +5,7 @@ use Rattle.wdl_ast.specs.declared.document.StructMember.{StructMember}
 use Rattle.wdl_ast.specs.declared.document.StructSection.{StructSection}
 use Rattle.wdl_typed.specs.KnownTypes.{is_shallow}
 use Rattle.wdl_library.specs.Sections.{structs_in}
-use Rattle.wdl_check_types.specs.Locals.{Naming}
+use Rattle.wdl_check_rules.specs.Locals.{Naming}
 use Rattle.wdl_check_types.specs.Outcome.{Outcome, done, refused, then_}
 use Rattle.wdl_check_types.specs.Written.{written}
 use Rattle.wdl_check_decls.specs.Names.{first_repeated}

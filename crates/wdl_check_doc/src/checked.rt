@@ -7,8 +7,8 @@ ghost use Rattle.wdl_check_doc.specs.Parts.{part_of};
 ghost use Rattle.wdl_check_doc.specs.Structs.{structs_typed};
 
 use crate::nesting::check_nesting;
+use crate::numbered_doc::Part;
 use crate::offer::copies_of;
-use crate::part::Part;
 use crate::run::check_flows;
 use crate::runnable::{check_names, count_flows, tasks_of};
 use crate::section::check_all_sections;

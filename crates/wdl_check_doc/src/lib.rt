@@ -4,12 +4,12 @@
 mod checked;
 mod fault;
 mod flow;
+mod flow_rest;
 mod library;
 mod local;
 mod nesting;
+mod numbered_doc;
 mod offer;
-mod part;
-mod rest;
 mod run;
 mod runnable;
 mod section;

@@ -6,7 +6,7 @@ ghost use Rattle.wdl_check_doc.specs.Checked as spec;
 
 use crate::checked::check_parts;
 use crate::local::{knowns_of, namings_of};
-use crate::part::parts_of;
+use crate::numbered_doc::parts_of;
 use std::alloc::Global;
 use wdl_check_rules::CheckFault;
 use wdl_library::Library;

@@ -4,7 +4,7 @@ ghost use Rattle.std.specs.Prelude.{◌≡◌, map, IfOk};
 ghost use Rattle.wdl_check_doc.specs.Known as spec;
 
 use std::alloc::Global;
-use wdl_check_types::Local;
+use wdl_check_rules::Local;
 use wdl_library::{Doc, StructName};
 use wdl_names::Indexed;
 use wdl_value::NoMemory;

@@ -7,8 +7,8 @@ ghost use Rattle.wdl_check_doc.specs.Parts.{part_of};
 ghost use Rattle.wdl_check_doc.specs.Runnables.{flow_of, headed_of};
 
 use crate::flow::check_heads;
-use crate::part::Part;
-use crate::rest::check_all_rests;
+use crate::flow_rest::check_all_rests;
+use crate::numbered_doc::Part;
 use crate::runnable::{FlowPart, Headed, flows_of};
 use std::alloc::Global;
 use std::collections::VecDeque;

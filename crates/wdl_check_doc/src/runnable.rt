@@ -7,7 +7,7 @@ ghost use Rattle.wdl_check_doc.specs.Parts.{part_of};
 ghost use Rattle.wdl_check_doc.specs.Runnables as spec;
 
 use crate::fault::placed;
-use crate::part::Part;
+use crate::numbered_doc::Part;
 use std::alloc::Global;
 use wdl_ast::{Ident, Section, TaskSection, Workflow};
 use wdl_check_decls::first_repeated;

@@ -2,19 +2,19 @@
 
 ghost use Rattle.std.specs.Prelude.{◌≡◌, map, IfOk};
 ghost use Rattle.wdl_library.specs.Sections.{structs_in};
-ghost use Rattle.wdl_check_types.specs.Locals.{stands_for};
+ghost use Rattle.wdl_check_rules.specs.Locals.{stands_for};
 ghost use Rattle.wdl_check_types.specs.Outcome.{Answers};
 ghost use Rattle.wdl_check_doc.specs.Outcomes.{all};
 ghost use Rattle.wdl_check_doc.specs.Parts.{part_of};
 ghost use Rattle.wdl_check_doc.specs.Structs as spec;
 
 use crate::fault::placed;
-use crate::part::Part;
+use crate::numbered_doc::Part;
 use std::alloc::Global;
 use wdl_ast::{Ident, Section, StructMember, StructSection};
 use wdl_check_decls::first_repeated;
-use wdl_check_rules::CheckFault;
-use wdl_check_types::{Local, written_type};
+use wdl_check_rules::{CheckFault, Local};
+use wdl_check_types::written_type;
 use wdl_names::Indexed;
 use wdl_value::NoMemory;
 

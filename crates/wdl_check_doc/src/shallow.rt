@@ -3,18 +3,17 @@
 ghost use Rattle.std.specs.Prelude.{◌≡◌, map};
 ghost use Rattle.wdl_depths.specs.Depths.{shallow_level};
 ghost use Rattle.wdl_library.specs.Sections.{structs_in};
-ghost use Rattle.wdl_check_types.specs.Locals.{stands_for as naming};
+ghost use Rattle.wdl_check_rules.specs.Locals.{stands_for as naming};
 ghost use Rattle.wdl_check_types.specs.Outcome.{Answers};
 ghost use Rattle.wdl_check_doc.specs.Outcomes.{all};
 ghost use Rattle.wdl_check_doc.specs.Parts.{part_of};
 ghost use Rattle.wdl_check_doc.specs.Structs as spec;
 
 use crate::fault::placed;
-use crate::part::Part;
+use crate::numbered_doc::Part;
 use std::alloc::Global;
 use wdl_ast::{Section, StructSection};
-use wdl_check_rules::CheckFault;
-use wdl_check_types::{Local, stands_for};
+use wdl_check_rules::{CheckFault, Local, stands_for};
 use wdl_depths::{MOST_STRUCTS, name_is_shallow, shallow_structs};
 use wdl_names::Indexed;
 use wdl_value::{Name, StructDef};

@@ -6,7 +6,7 @@ ghost use Rattle.wdl_check_doc.specs.Offers as spec;
 ghost use Rattle.wdl_check_doc.specs.Parts.{part_of};
 ghost use Rattle.wdl_check_doc.specs.Tables as held;
 
-use crate::part::Part;
+use crate::numbered_doc::Part;
 use crate::runnable::{count_flows, count_tasks};
 use std::alloc::Global;
 use wdl_check_flow::Callable;

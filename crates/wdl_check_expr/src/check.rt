@@ -3,6 +3,7 @@
 ghost use Rattle.std.specs.Prelude.{Ok, true};
 ghost use Rattle.wdl_check_rules.specs.Checked as spec;
 ghost use Rattle.wdl_check_rules.specs.Conditions as condition;
+ghost use Rattle.wdl_check_rules.specs.Locals as local;
 ghost use Rattle.wdl_check_rules.specs.Rules as rule;
 ghost use Rattle.wdl_check_rules.specs.Scopes.{scope_of};
 ghost use Rattle.wdl_check_rules.specs.Spans as place;
@@ -15,8 +16,8 @@ use wdl_ast::{
 use wdl_check_rules::{
     CheckFault, Given, Parts, Scope, Typed, apply_at, binary_at, callee, check_name, choose_at,
     condition_at, first_stray, given_value, hole_at, int_literal, is_call_alone, item_at, list_at,
-    literal, map_at, member_at, members_of, name_of, output_named, pair, plain_text, span_of,
-    string_literal, struct_literal, strung, unary_at,
+    literal, map_at, member_at, name_of, output_named, pair, plain_text, span_of, string_literal,
+    string_of_parts, struct_literal, struct_named, unary_at,
 };
 use wdl_typed::{TExpr, TPair, TPart};
 use wdl_value::{Span, Ty, Value};
@@ -183,7 +184,7 @@ fn check_string(
 {
     match plain_text(alloc, parts)? {
         Some(text) => Ok(string_literal(text)),
-        None => Ok(strung(check_parts(alloc, parts, scope)?)),
+        None => Ok(string_of_parts(check_parts(alloc, parts, scope)?)),
     }
 }
 
@@ -338,19 +339,19 @@ fn check_struct(
     scope: &Scope,
     placeholder: bool,
 ) -> Result<Typed, CheckFault>
-    ensures { spec.Gives (spec.literal_checked place.span_of (spec.checked (scope_of scope.now)) scope.now.structs.now name.now entries.now placeholder) result }
+    ensures { spec.Gives (spec.literal_checked place.span_of (spec.checked (scope_of scope.now)) (local.struct_named scope.now.structs.now (local.stands_for scope.now.locals.now) name.now.name) name.now entries.now placeholder) result }
 {
-    let Some(members) = members_of(scope.structs, &name.name) else {
+    let Some(def) = struct_named(scope.structs, scope.locals, &name.name) else {
         return Err(CheckFault::Bad {
             code: 329,
             span: name.span,
         });
     };
-    if let Some(span) = first_stray(alloc, members, entries)? {
+    if let Some(span) = first_stray(alloc, def.members.as_slice(), entries)? {
         return Err(CheckFault::Bad { code: 310, span });
     }
     let given = check_members(alloc, entries, scope, placeholder)?;
-    struct_literal(alloc, name, members, given)
+    struct_literal(alloc, name.span, def, given)
 }
 
 #[cycle(check)]

@@ -1,14 +1,12 @@
-use crate::notation::{names, structs, written};
+use crate::notation::{calls, expression, locals, names, structs, words, written};
 use sqlite_items::Boxed;
 use std::alloc::Global;
 use std::test::Fail;
-use wdl_ast::Expr;
 use wdl_check_expr::{CheckFault, Scope, check_as, check_expr};
-use wdl_lex::lex;
-use wdl_names::{Indexed, Words};
-use wdl_parse_expr::parse_expr;
+use wdl_check_rules::Local;
+use wdl_names::Indexed;
 use wdl_typed::TExpr;
-use wdl_value::{Name, Span, Ty};
+use wdl_value::{Span, StructDef, Ty};
 
 /// What the expressions see: `c` is a call with two outputs, and `d` one without.
 const NAMES: &str = "\
@@ -30,7 +28,11 @@ q Q;\
 c.r File;\
 c.n Int";
 
-const STRUCTS: &str = "P a Int,b Int?;Q p P,names Array[String]";
+const STRUCTS: &str = "P a Int,b Int?;Q p P,names Array[String];T a Int";
+
+/// The document knows two structs by their own names, and one by another name; it has no name for `T`. `Z` stands for
+/// no struct.
+const LOCALS: &str = "P P;Q Q;B P;Z Y";
 
 /// Expressions, each with its type, or with its code and the text where that holds.
 const NAMED: &str = "\
@@ -297,6 +299,30 @@ write_map({}) => 312 write_map;\
 s + os => 304 s + os";
 
 /// Expressions, each with a type, and whether it is kept as it stands or cast to that, or the code.
+/// Struct literals in other forms: their types have the names of the library.
+const RENAMED: &str = "\
+B {a: 1} => P;\
+(B {a: 1}) => P;\
+B {a: 1}.a => Int;\
+Q {p: B {a: 1}, names: []} => Q;\
+[B {a: 1}, P {a: 2}] => Array[P]+;\
+(B {a: 1}, 1) => Pair[P,Int];\
+{1: B {a: 1}} => Map[Int,P];\
+[B {a: 1}][0] => P;\
+length([B {a: 1}]) => Int;\
+if b then B {a: 1} else p => P;\
+'~{B {a: 1}.a}' => String;\
+T {a: 1} => 329 T;\
+Z {a: 1} => 329 Z;\
+Q {p: S {}, names: []} => 329 S;\
+[1, S {}] => 329 S;\
+{1: 2, S {}: 3} => 329 S;\
+1 + (2 * length([S {}, R {}])) => 329 S;\
+if b then S {} else R {} => 329 S;\
+'~{S {}}' => 329 S;\
+-S {} => 329 S;\
+nope + S {} => 301 nope";
+
 const CASTS: &str = "\
 s as String => kept;\
 s as File => cast;\
@@ -348,13 +374,6 @@ fn is_type(alloc: Global, ty: &Ty, want: &str) -> Result<bool, Fail> {
     Ok(ty.same(&written(alloc, want)?))
 }
 
-/// The expression that a text writes.
-fn expression(alloc: Global, text: &str) -> Result<Boxed<Expr>, Fail> {
-    let tokens = lex(alloc, text.as_bytes(), 0)?;
-    let parsed = parse_expr(alloc, tokens.as_slice(), 0)?;
-    Ok(Boxed::new(alloc, parsed.expr)?)
-}
-
 fn has(alloc: Global, scope: &Scope, text: &str, want: &str) -> Result<bool, Fail> {
     match check_expr(alloc, scope, expression(alloc, text)?.get()) {
         Ok(typed) => is_type(alloc, &typed.ty, want),
@@ -401,12 +420,26 @@ fn mistyped(alloc: Global, scope: &Scope, rows: &'static str) -> Result<&'static
     Ok("")
 }
 
-/// The calls that the expressions see.
-fn calls(alloc: Global) -> Result<Words, Fail> {
-    let mut calls = Words::empty(alloc);
-    calls.enter(Name::new(alloc, "c")?)?;
-    calls.enter(Name::new(alloc, "d")?)?;
-    Ok(calls)
+/// The same, over these structs by these names.
+fn wrong_over(
+    alloc: Global,
+    structs: &Indexed<StructDef>,
+    locals: &Indexed<Local>,
+    rows: &'static str,
+    outputs: bool,
+    placeholder: bool,
+) -> Result<&'static str, Fail> {
+    let names = names(alloc, NAMES)?;
+    let calls = calls(alloc)?;
+    let scope = Scope {
+        names: &names,
+        calls: &calls,
+        structs,
+        locals,
+        outputs,
+        placeholder,
+    };
+    mistyped(alloc, &scope, rows)
 }
 
 /// The same, of expressions in a task's outputs or not, inside a placeholder or not.
@@ -416,18 +449,12 @@ fn wrong(
     outputs: bool,
     placeholder: bool,
 ) -> Result<&'static str, Fail> {
-    let names = names(alloc, NAMES)?;
-    let calls = calls(alloc)?;
     let structs = structs(alloc, STRUCTS)?;
     let structs = Indexed::new(alloc, structs.as_slice())?;
-    let scope = Scope {
-        names: &names,
-        calls: &calls,
-        structs: &structs,
-        outputs,
-        placeholder,
-    };
-    mistyped(alloc, &scope, rows)
+    let words = words(alloc, LOCALS)?;
+    let locals = locals(alloc, words.as_slice())?;
+    let locals = Indexed::new(alloc, locals.as_slice())?;
+    wrong_over(alloc, &structs, &locals, rows, outputs, placeholder)
 }
 
 #[test]
@@ -445,6 +472,7 @@ fn collections_and_calls_have_their_type_or_their_code(rt: HostRuntime) -> Resul
     let alloc = rt.alloc();
     assert_eq!(rt; wrong(alloc, COLLECTIONS, false, false)?, "");
     assert_eq!(rt; wrong(alloc, LITERALS, false, false)?, "");
+    assert_eq!(rt; wrong(alloc, RENAMED, false, false)?, "");
     assert_eq!(rt; wrong(alloc, CALLS, false, false)?, "");
     assert_eq!(rt; wrong(alloc, OUTPUTS, true, false)?, "");
     Ok(())

@@ -1,12 +1,13 @@
-//! Types, names and structs as the tests write them.
+//! Expressions, types, names and structs as the tests write them.
 
 use sqlite_items::{Boxed, Items};
 use std::alloc::Global;
 use std::test::Fail;
-use wdl_ast::{BaseType, TypeTree};
+use wdl_ast::{BaseType, Expr, TypeTree};
+use wdl_check_rules::Local;
 use wdl_lex::lex;
-use wdl_names::Names;
-use wdl_parse_expr::parse_type;
+use wdl_names::{Names, Words};
+use wdl_parse_expr::{parse_expr, parse_type};
 use wdl_typed::Bound;
 use wdl_value::{Key, Member, Name, NoMemory, StructDef, Ty};
 
@@ -144,4 +145,39 @@ pub fn structs(alloc: Global, rows: &str) -> Result<Items<StructDef>, Fail> {
         structs.push(definition(alloc, name, members)?)?;
     }
     Ok(structs)
+}
+
+/// Words in pairs: `P Q;Q R`.
+pub fn words(alloc: Global, rows: &str) -> Result<Items<Name>, Fail> {
+    let mut words = Items::new(alloc);
+    for word in rows.split([' ', ';'].as_slice()) {
+        words.push(Name::new(alloc, word)?)?;
+    }
+    Ok(words)
+}
+
+/// The words two by two: the name of a struct in a document, and what it stands for.
+pub fn locals<'a>(alloc: Global, words: &'a [Name]) -> Result<Items<Local<'a>>, Fail> {
+    let mut locals = Items::new(alloc);
+    let mut left = words;
+    while let [name, stands_for, rest @ ..] = left {
+        locals.push(Local { name, stands_for })?;
+        left = rest;
+    }
+    Ok(locals)
+}
+
+/// The calls that the expressions see.
+pub fn calls(alloc: Global) -> Result<Words, Fail> {
+    let mut calls = Words::empty(alloc);
+    calls.enter(Name::new(alloc, "c")?)?;
+    calls.enter(Name::new(alloc, "d")?)?;
+    Ok(calls)
+}
+
+/// The expression that a text writes.
+pub fn expression(alloc: Global, text: &str) -> Result<Boxed<Expr>, Fail> {
+    let tokens = lex(alloc, text.as_bytes(), 0)?;
+    let parsed = parse_expr(alloc, tokens.as_slice(), 0)?;
+    Ok(Boxed::new(alloc, parsed.expr)?)
 }

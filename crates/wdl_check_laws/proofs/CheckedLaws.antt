@@ -17,10 +17,10 @@ use Rattle.wdl_ast.specs.declared.string.StringPart.{StringPart}
 use Rattle.wdl_ast.specs.declared.string.StringPart.TheVariants as part
 use Rattle.wdl_ast.specs.declared.string.StringTree.{StringTree}
 use Rattle.wdl_ast.specs.declared.token.Quote.{Quote}
-use Rattle.wdl_value.specs.Fits.{members_of}
 use Rattle.wdl_typed.specs.declared.expr.TExpr.{TExpr}
 use Rattle.wdl_typed.specs.declared.expr.TPart.{TPart}
 use Rattle.wdl_typed.specs.declared.expr.TPart.TheVariants as tp
+use Rattle.wdl_check_rules.specs.Locals.{struct_named}
 use Rattle.wdl_check_rules.specs.Scopes.{Scope}
 use Rattle.wdl_check_rules.specs.declared.typed.Typed.{Typed}
 use Rattle.wdl_check_rules.specs.Checked.{Checked, Checking, checked, checked_step, then_, or_bad, name_checked, items_checked, entries_checked, members_checked, hole_checked, parts_checked, condition_checked, if_checked, binary_checked, unary_checked, index_checked, member_checked, string_checked, call_checked, pair_checked, list_checked, map_checked, struct_checked, literal_checked}
@@ -149,10 +149,10 @@ checked_list s o is c p = checked_at s _ _ p (form.rolls-List o is c) ∙ ap (λ
 pub checked_map : (s : Scope) (o : Span) (es : List (ListItem (MapEntry Expr))) (c : Span) (p : Bool) → checked s (form.Map o es c) p ≡ map_checked (span_of (form.Map o es c)) (entries_checked (checked s) es p)
 checked_map s o es c p = checked_at s _ _ p (form.rolls-Map o es c) ∙ ap (λ z. map_checked (joined o c) z) (entries s es p) ∙ ap (λ (at : Span). map_checked at (entries_checked (checked s) es p)) (sym (span_map o es c))
 
-pub checked_struct : (s : Scope) (n : Ident) (o : Span) (ms : List (ListItem (MemberEntry Expr))) (c : Span) (p : Bool) → checked s (form.Struct n o ms c) p ≡ literal_checked span_of (checked s) s.structs n ms p
+pub checked_struct : (s : Scope) (n : Ident) (o : Span) (ms : List (ListItem (MemberEntry Expr))) (c : Span) (p : Bool) → checked s (form.Struct n o ms c) p ≡ literal_checked span_of (checked s) (struct_named s.structs s.locals n.name) n ms p
 checked_struct s n o ms c p =
     checked_at s _ _ p (form.rolls-Struct n o ms c)
-    ∙ ap (λ z. struct_checked n (members_of s.structs n.name) z (members_checked (λ (x : Part Checking). span_of x.0) (λ (x : Part Checking). x.1) ((former-Expr-Struct-2).map Expr (Part Checking) (beside s) ms) p)) (names s ms)
-    ∙ ap (λ z. struct_checked n (members_of s.structs n.name) (idents ms) z) (members s ms p)
+    ∙ ap (λ z. struct_checked n.span (struct_named s.structs s.locals n.name) z (members_checked (λ (x : Part Checking). span_of x.0) (λ (x : Part Checking). x.1) ((former-Expr-Struct-2).map Expr (Part Checking) (beside s) ms) p)) (names s ms)
+    ∙ ap (λ z. struct_checked n.span (struct_named s.structs s.locals n.name) (idents ms) z) (members s ms p)
 
 pub ruleset equations = (checked_if, checked_binary, checked_unary, checked_member, checked_index, checked_true, checked_false, checked_none, checked_int, checked_str, checked_name, checked_call, checked_group, checked_pair, checked_list, checked_map, checked_struct)

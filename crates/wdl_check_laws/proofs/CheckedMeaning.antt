@@ -1,7 +1,6 @@
 -- What the checker finds is what `typed` and `conditions` say: by induction over the expression.
 use Rattle.std.proofs.Common.{◌≡◌, ℕ, Bool, true, List, [], ◌∷◌, ◌++◌, Option, Some, None, Ok, option_map, option_and_then, refl, ap, sym, ◌∙◌, subst}
 use Rattle.wdl_base.specs.declared.span.Span.{Span}
-use Rattle.wdl_value.specs.Fits.{members_of}
 use Rattle.wdl_ast.specs.declared.expr.Expr.{Expr, Expr-F, out-Expr, roll-Expr, roll-out-Expr, map-Expr, ind-Expr, para-roll-Expr}
 use Rattle.wdl_ast.specs.declared.expr.Expr.TheOpen as layer
 use Rattle.wdl_ast.specs.declared.expr.Expr.TheShapes.{former-Expr-Str-0, former-Expr-Call-2, former-Expr-Map-1, former-Expr-Struct-2}
@@ -17,12 +16,13 @@ use Rattle.wdl_typed.specs.declared.expr.TExpr.{TExpr}
 use Rattle.wdl_typed.specs.declared.expr.TPair.{TPair}
 use Rattle.wdl_typed.specs.declared.expr.TPart.{TPart}
 use Rattle.wdl_typed.specs.declared.expr.TPart.TheVariants as tp
-use Rattle.wdl_check_rules.specs.declared.member.Given.{Given}
+use Rattle.wdl_check_rules.specs.declared.literal_members.Given.{Given}
 use Rattle.wdl_check_rules.specs.Scopes.{Scope}
 use Rattle.wdl_check_rules.specs.declared.typed.Typed.{Typed}
 use Rattle.wdl_check_rules.specs.Checked.{Checked, Checking, checked, checked_step, then_, or_bad, items_checked, entries_checked, members_checked, parts_checked, list_checked, rows_checked, map_checked, string_checked, struct_checked, call_checked}
 use Rattle.wdl_check_rules.specs.Conditions.{Conditions, function_conditions, argument_conditions, at, unless, given_that, is_call_alone, items_conditions, entries_conditions, members_conditions, parts_conditions, struct_conditions, map_conditions, conditions_step, conditions_at}
 use Rattle.wdl_check_rules.specs.Functions.{func_of}
+use Rattle.wdl_check_rules.specs.Locals.{struct_named}
 use Rattle.wdl_check_rules.specs.Rules.{int_literal, named, key_of, output_named, item_of, unary_of, binary_of, list_of, map_of, pair_of, choice_of, hole_of, plain_text, strung}
 use Rattle.wdl_check_rules.specs.Spans.{joined, name_at, name_of, span_of}
 use Rattle.wdl_check_rules.specs.Typed.{Typing, Part, both, idents, items_typed, entries_typed, members_typed, parts_typed, string_typed, call_typed, struct_typed, row, given, typed_step, typed_at}
@@ -239,13 +239,14 @@ module _ (s : Scope) where
       (bind_agrees (entries_checked outcome (entries (Part Checking) with_outcome es) p) (entries_typed typing (entries (Part Typing) with_typing es) p) (entries_conditions conditioned (entries (Part Conditioning) with_conditions es) p)
       (rows_checked (joined o c)) map_of (map_conditions (joined o c)) (entries_agree es p) (rows_agree (joined o c)))
   layer_agrees (layer.Struct n o ms c) p =
-      subst (λ (z : List Ident). Agrees (struct_checked n (members_of s.structs n.name) z (members_checked outcome_place outcome (members (Part Checking) with_outcome ms) p)) (struct_typed n.name (members_of s.structs n.name) (idents (members (Part Typing) with_typing ms)) (members_typed typing_place typing (members (Part Typing) with_typing ms) p)) (members_conditions conditioned (members (Part Conditioning) with_conditions ms) p ++ struct_conditions n.span (members_of s.structs n.name) (idents (members (Part Conditioning) with_conditions ms)) (members_typed condition_place typing_of (members (Part Conditioning) with_conditions ms) p)))
+      let def = struct_named s.structs s.locals n.name in
+      subst (λ (z : List Ident). Agrees (struct_checked n.span def z (members_checked outcome_place outcome (members (Part Checking) with_outcome ms) p)) (struct_typed def (idents (members (Part Typing) with_typing ms)) (members_typed typing_place typing (members (Part Typing) with_typing ms) p)) (members_conditions conditioned (members (Part Conditioning) with_conditions ms) p ++ struct_conditions n.span def (idents (members (Part Conditioning) with_conditions ms)) (members_typed condition_place typing_of (members (Part Conditioning) with_conditions ms) p)))
       (names_same (Part Typing) (Part Checking) with_typing with_outcome ms)
-      (subst (λ (z : List Ident). Agrees (struct_checked n (members_of s.structs n.name) (idents (members (Part Typing) with_typing ms)) (members_checked outcome_place outcome (members (Part Checking) with_outcome ms) p)) (struct_typed n.name (members_of s.structs n.name) (idents (members (Part Typing) with_typing ms)) (members_typed typing_place typing (members (Part Typing) with_typing ms) p)) (members_conditions conditioned (members (Part Conditioning) with_conditions ms) p ++ struct_conditions n.span (members_of s.structs n.name) z (members_typed condition_place typing_of (members (Part Conditioning) with_conditions ms) p)))
+      (subst (λ (z : List Ident). Agrees (struct_checked n.span def (idents (members (Part Typing) with_typing ms)) (members_checked outcome_place outcome (members (Part Checking) with_outcome ms) p)) (struct_typed def (idents (members (Part Typing) with_typing ms)) (members_typed typing_place typing (members (Part Typing) with_typing ms) p)) (members_conditions conditioned (members (Part Conditioning) with_conditions ms) p ++ struct_conditions n.span def z (members_typed condition_place typing_of (members (Part Conditioning) with_conditions ms) p)))
       (names_same (Part Typing) (Part Conditioning) with_typing with_conditions ms)
-      (subst (λ (z : Option (List Given)). Agrees (struct_checked n (members_of s.structs n.name) (idents (members (Part Typing) with_typing ms)) (members_checked outcome_place outcome (members (Part Checking) with_outcome ms) p)) (struct_typed n.name (members_of s.structs n.name) (idents (members (Part Typing) with_typing ms)) (members_typed typing_place typing (members (Part Typing) with_typing ms) p)) (members_conditions conditioned (members (Part Conditioning) with_conditions ms) p ++ struct_conditions n.span (members_of s.structs n.name) (idents (members (Part Typing) with_typing ms)) z))
+      (subst (λ (z : Option (List Given)). Agrees (struct_checked n.span def (idents (members (Part Typing) with_typing ms)) (members_checked outcome_place outcome (members (Part Checking) with_outcome ms) p)) (struct_typed def (idents (members (Part Typing) with_typing ms)) (members_typed typing_place typing (members (Part Typing) with_typing ms) p)) (members_conditions conditioned (members (Part Conditioning) with_conditions ms) p ++ struct_conditions n.span def (idents (members (Part Typing) with_typing ms)) z))
       (members_same ms p)
-      (struct_agrees n (members_of s.structs n.name) (idents (members (Part Typing) with_typing ms)) (members_checked outcome_place outcome (members (Part Checking) with_outcome ms) p) (members_typed typing_place typing (members (Part Typing) with_typing ms) p) (members_conditions conditioned (members (Part Conditioning) with_conditions ms) p) (members_agree ms p))))
+      (struct_agrees n.span def (idents (members (Part Typing) with_typing ms)) (members_checked outcome_place outcome (members (Part Checking) with_outcome ms) p) (members_typed typing_place typing (members (Part Typing) with_typing ms) p) (members_conditions conditioned (members (Part Conditioning) with_conditions ms) p) (members_agree ms p))))
 
   -- ---- any expression
 

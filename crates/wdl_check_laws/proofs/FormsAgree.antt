@@ -5,6 +5,7 @@ use Rattle.std.proofs.lemmas.Bool.{false≢true}
 use Rattle.wdl_base.specs.declared.span.Span.{Span}
 use Rattle.wdl_value.specs.declared.operator.Func.{Func}
 use Rattle.wdl_value.specs.declared.ty.Member.{Member}
+use Rattle.wdl_value.specs.declared.ty.StructDef.{StructDef}
 use Rattle.wdl_value.specs.declared.ty.Ty.{Ty}
 use Rattle.wdl_value.specs.FunctionTypes.{writes}
 use Rattle.wdl_value.specs.Join.{join}
@@ -17,7 +18,7 @@ use Rattle.wdl_typed.specs.declared.scope.Bound.{Bound}
 use Rattle.wdl_typed.specs.Scope.{type_in}
 use Rattle.wdl_typed.specs.Lists.{has_name}
 use Rattle.wdl_check_rules.specs.declared.fault.CheckFault.TheVariants.{Bad}
-use Rattle.wdl_check_rules.specs.declared.member.Given.{Given}
+use Rattle.wdl_check_rules.specs.declared.literal_members.Given.{Given}
 use Rattle.wdl_check_rules.specs.Scopes.{Scope}
 use Rattle.wdl_check_rules.specs.declared.typed.Typed.{Typed}
 use Rattle.wdl_check_rules.specs.Checked.{Checked, then_, or_bad, bad, name_checked, condition_checked, if_checked, base_checked, member_checked, callee_checked, call_checked, rows_checked, first_stray, no_stray, value_checked, fields_checked, struct_with_checked, struct_checked}
@@ -116,20 +117,20 @@ fields_agree span (m ∷ ms) gs =
     (value_agrees span m.ty (gs m.name))
     (λ e is. map_agrees (fields_checked span ms rest) (fields_of ms rest) (fields_conditions span ms rest) (λ (fs : List (TField TExpr)). field m.name e ∷ fs) (fields_agree span ms rest))
 
-pub struct_agrees : (n : Ident) (ms : Option (List Member)) (names : List Ident) (x : Checked (List Given)) (gs : Option (List Given)) (fs : Conditions) → Agrees x gs fs → Agrees (struct_checked n ms names x) (struct_typed n.name ms names gs) (fs ++ struct_conditions n.span ms names gs)
-struct_agrees n None names x gs fs e = (refl, among_right (Bad 329 n.span) fs (at 329 n.span) (inl refl))
-struct_agrees n (Some ms) names x gs fs e = by_strays (first_stray ms [] names) (has_stray ms [] names) (stray_conditions ms [] names) (strays ms [] names)
+pub struct_agrees : (span : Span) (def : Option StructDef) (names : List Ident) (x : Checked (List Given)) (gs : Option (List Given)) (fs : Conditions) → Agrees x gs fs → Agrees (struct_checked span def names x) (struct_typed def names gs) (fs ++ struct_conditions span def names gs)
+struct_agrees span None names x gs fs e = (refl, among_right (Bad 329 span) fs (at 329 span) (inl refl))
+struct_agrees span (Some d) names x gs fs e = by_strays (first_stray d.members [] names) (has_stray d.members [] names) (stray_conditions d.members [] names) (strays d.members [] names)
   where
-    by_outcome : (x : Checked (List Given)) (gs : Option (List Given)) (hs : Conditions) → Agrees x gs fs → Agrees (then_ x (struct_with_checked n ms)) (option_map (struct_with n.name) (option_and_then (λ gs. fields_of ms (given_of gs)) gs)) (fs ++ (hs ++ given_that gs (λ gs. fields_conditions n.span ms (given_of gs))))
+    by_outcome : (x : Checked (List Given)) (gs : Option (List Given)) (hs : Conditions) → Agrees x gs fs → Agrees (then_ x (struct_with_checked span d)) (option_map (struct_with d.name) (option_and_then (λ gs. fields_of d.members (given_of gs)) gs)) (fs ++ (hs ++ given_that gs (λ gs. fields_conditions span d.members (given_of gs))))
     by_outcome (Ok a) gs hs e =
-        subst (λ (z : Option (List Given)). Agrees (struct_with_checked n ms a) (option_map (struct_with n.name) (option_and_then (λ gs. fields_of ms (given_of gs)) z)) (fs ++ (hs ++ given_that z (λ gs. fields_conditions n.span ms (given_of gs))))) (sym e)
-        (more_right (struct_with_checked n ms a) (option_map (struct_with n.name) (fields_of ms (given_of a))) fs (hs ++ fields_conditions n.span ms (given_of a))
-        (more_right (struct_with_checked n ms a) (option_map (struct_with n.name) (fields_of ms (given_of a))) hs (fields_conditions n.span ms (given_of a))
-        (map_agrees (fields_checked n.span ms (given_of a)) (fields_of ms (given_of a)) (fields_conditions n.span ms (given_of a)) (struct_with n.name) (fields_agree n.span ms (given_of a)))))
-    by_outcome (Err f) gs hs e = (ap (λ (z : Option (List Given)). option_map (struct_with n.name) (option_and_then (λ gs. fields_of ms (given_of gs)) z)) e.0, among_left f fs _ e.1)
+        subst (λ (z : Option (List Given)). Agrees (struct_with_checked span d a) (option_map (struct_with d.name) (option_and_then (λ gs. fields_of d.members (given_of gs)) z)) (fs ++ (hs ++ given_that z (λ gs. fields_conditions span d.members (given_of gs))))) (sym e)
+        (more_right (struct_with_checked span d a) (option_map (struct_with d.name) (fields_of d.members (given_of a))) fs (hs ++ fields_conditions span d.members (given_of a))
+        (more_right (struct_with_checked span d a) (option_map (struct_with d.name) (fields_of d.members (given_of a))) hs (fields_conditions span d.members (given_of a))
+        (map_agrees (fields_checked span d.members (given_of a)) (fields_of d.members (given_of a)) (fields_conditions span d.members (given_of a)) (struct_with d.name) (fields_agree span d.members (given_of a)))))
+    by_outcome (Err f) gs hs e = (ap (λ (z : Option (List Given)). option_map (struct_with d.name) (option_and_then (λ gs. fields_of d.members (given_of gs)) z)) e.0, among_left f fs _ e.1)
 
-    by_strays : (a : Option Span) (b : Bool) (hs : Conditions) → Strays a b hs → Agrees (no_stray a (then_ x (struct_with_checked n ms))) (if b then None else option_map (struct_with n.name) (option_and_then (λ gs. fields_of ms (given_of gs)) gs)) (fs ++ (hs ++ given_that gs (λ gs. fields_conditions n.span ms (given_of gs))))
+    by_strays : (a : Option Span) (b : Bool) (hs : Conditions) → Strays a b hs → Agrees (no_stray a (then_ x (struct_with_checked span d))) (if b then None else option_map (struct_with d.name) (option_and_then (λ gs. fields_of d.members (given_of gs)) gs)) (fs ++ (hs ++ given_that gs (λ gs. fields_conditions span d.members (given_of gs))))
     by_strays (Some a) b hs h =
-        (ap (λ (z : Bool). if z then None else option_map (struct_with n.name) (option_and_then (λ gs. fields_of ms (given_of gs)) gs)) h.0, among_right (Bad 310 a) fs _ (among_left (Bad 310 a) hs _ h.1))
+        (ap (λ (z : Bool). if z then None else option_map (struct_with d.name) (option_and_then (λ gs. fields_of d.members (given_of gs)) gs)) h.0, among_right (Bad 310 a) fs _ (among_left (Bad 310 a) hs _ h.1))
     by_strays None b hs h =
-        subst (λ (z : Bool). Agrees (then_ x (struct_with_checked n ms)) (if z then None else option_map (struct_with n.name) (option_and_then (λ gs. fields_of ms (given_of gs)) gs)) (fs ++ (hs ++ given_that gs (λ gs. fields_conditions n.span ms (given_of gs))))) (sym h) (by_outcome x gs hs e)
+        subst (λ (z : Bool). Agrees (then_ x (struct_with_checked span d)) (if z then None else option_map (struct_with d.name) (option_and_then (λ gs. fields_of d.members (given_of gs)) gs)) (fs ++ (hs ++ given_that gs (λ gs. fields_conditions span d.members (given_of gs))))) (sym h) (by_outcome x gs hs e)

@@ -6,6 +6,7 @@ use Rattle.std.proofs.lemmas.Slice.Eq.{bytes_eq-Decides}
 use Rattle.wdl_base.specs.declared.name.Key.{Key}
 use Rattle.wdl_value.specs.declared.operator.Func.{Func}
 use Rattle.wdl_value.specs.declared.ty.Member.{Member}
+use Rattle.wdl_value.specs.declared.ty.StructDef.{StructDef}
 use Rattle.wdl_value.specs.declared.ty.Ty.{Ty, Ty-F, out-Ty}
 use Rattle.wdl_value.specs.declared.ty.Ty.TheVariants as ty
 use Rattle.wdl_value.specs.declared.ty.Ty.TheOpen as type
@@ -35,7 +36,7 @@ use Rattle.wdl_typed.specs.Scope.{type_in}
 use Rattle.wdl_typed.specs.Typing as table
 use Rattle.wdl_typed.specs.Typing.{Context, Typing, type_step, type_of, when, literal_type, literal_at, all_types, all_same, are_same, at_of, at_type, binary_type, list_type, map_type, is_type, fields_have, struct_type, exact_args, apply_type, hole_takes, takes_some, keys_in, values_in, fields_in, items_in, member_type}
 use Rattle.wdl_check_rules.specs.Scopes.{Scope}
-use Rattle.wdl_check_rules.specs.declared.member.Given.{Given}
+use Rattle.wdl_check_rules.specs.declared.literal_members.Given.{Given}
 use Rattle.wdl_check_rules.specs.declared.typed.Typed.{Typed}
 use Rattle.wdl_check_rules.specs.Functions.{reads_early}
 use Rattle.wdl_check_laws.specs.Laws.{context}
@@ -413,22 +414,20 @@ module _ (s : Scope) (p : Bool) where
       of_layer (te.StructOf name fs) (layer.StructOf name fs) (te.rolls-StructOf name fs)
       ∙ ap (option_and_then (λ ms. when (fields_have (field_types name fs) ms) (ty.Struct name))) is ∙ same_when (fields_have (field_types name fs) ms) (ty.Struct name) h
 
-  pub struct_fine : (name : List ℕ) (names : List Ident) (o : Option (List Given)) → ((gs : List Given) → o ≡ Some gs → Each HasGiven gs) → Fine (struct_typed name (members_of s.structs name) names o)
-  struct_fine name names o h x e = by_members (members_of s.structs name) refl e
+  pub struct_fine : (def : Option StructDef) (names : List Ident) (o : Option (List Given)) → ((d : StructDef) → def ≡ Some d → members_of s.structs d.name ≡ Some d.members)
+      → ((gs : List Given) → o ≡ Some gs → Each HasGiven gs) → Fine (struct_typed def names o)
+  struct_fine None names o is h x e = cc
+  struct_fine (Some d) names o is h x e = by_stray (has_stray d.members [] names) e
     where
-      by_given : (ms : List Member) (q : Option (List Given)) → members_of s.structs name ≡ Some ms → o ≡ q → option_map (struct_with name) (option_and_then (λ gs. fields_of ms (given_of gs)) q) ≡ Some x → Has x
-      by_given ms None i j e = cc
-      by_given ms (Some gs) i j e =
-          let r = map_some (struct_with name) (fields_of ms (given_of gs)) x e in
-          subst (λ (z : Typed). Has z) r.2 (struct_has name ms r.0 i (fields_typed name ms (given_of gs) r.0 (given_fine gs (h gs j)) r.1))
+      by_given : (q : Option (List Given)) → o ≡ q → option_map (struct_with d.name) (option_and_then (λ gs. fields_of d.members (given_of gs)) q) ≡ Some x → Has x
+      by_given None j e = cc
+      by_given (Some gs) j e =
+          let r = map_some (struct_with d.name) (fields_of d.members (given_of gs)) x e in
+          subst (λ (z : Typed). Has z) r.2 (struct_has d.name d.members r.0 (is d refl) (fields_typed d.name d.members (given_of gs) r.0 (given_fine gs (h gs j)) r.1))
 
-      by_stray : (ms : List Member) (b : Bool) → members_of s.structs name ≡ Some ms → (if b then None else option_map (struct_with name) (option_and_then (λ gs. fields_of ms (given_of gs)) o)) ≡ Some x → Has x
-      by_stray ms true i e = cc
-      by_stray ms false i e = by_given ms o i refl e
-
-      by_members : (q : Option (List Member)) → members_of s.structs name ≡ q → struct_typed name q names o ≡ Some x → Has x
-      by_members None i e = cc
-      by_members (Some ms) i e = by_stray ms (has_stray ms [] names) i e
+      by_stray : (b : Bool) → (if b then None else option_map (struct_with d.name) (option_and_then (λ gs. fields_of d.members (given_of gs)) o)) ≡ Some x → Has x
+      by_stray true e = cc
+      by_stray false e = by_given o refl e
 
   -- ---- strings
 

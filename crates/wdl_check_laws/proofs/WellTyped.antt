@@ -18,13 +18,15 @@ use Rattle.wdl_typed.specs.declared.expr.TPart.{TPart}
 use Rattle.wdl_typed.specs.declared.expr.TPart.TheVariants as tp
 use Rattle.wdl_typed.specs.Typing.{type_of}
 use Rattle.wdl_check_rules.specs.Scopes.{Scope}
-use Rattle.wdl_check_rules.specs.declared.member.Given.{Given}
+use Rattle.wdl_check_rules.specs.declared.literal_members.Given.{Given}
 use Rattle.wdl_check_rules.specs.declared.typed.Typed.{Typed}
 use Rattle.wdl_check_rules.specs.Functions.{func_of}
+use Rattle.wdl_check_rules.specs.Locals.{struct_named}
 use Rattle.wdl_check_laws.specs.Laws.{context, WellTyped, WellCast}
 use Rattle.wdl_check_rules.specs.Rules.{key_of, output_named, or_else, member_of, item_of, unary_of, binary_of, condition_of, choose_of, list_of, map_of, pair_of, choice_of, hole_of, plain_text, strung, coerced}
 use Rattle.wdl_check_rules.specs.Spans.{name_of, span_of}
 use Rattle.wdl_check_rules.specs.Typed.{Typing, Part, both, idents, items_typed, entries_typed, members_typed, parts_typed, string_typed, row, given, typed_step, typed_at}
+use Rattle.wdl_check_rules.proofs.FindLemmas.{named_members}
 use Rattle.wdl_check_laws.proofs.CoercionLaws.{map_some}
 use Rattle.wdl_check_laws.proofs.TreeLaws.{Each, some_is, Has, Fine, HasRow, HasGiven, PartFine, some_fine, and_fine, bool_has, absent_has, str_has, int_fine, named_fine, output_fine, member_fine, item_fine, unary_fine, binary_fine, choose_fine, pair_has, list_fine, map_fine, call_fine, struct_fine, hole_fine, strung_has, both_fine, coerced_has}
 
@@ -156,7 +158,8 @@ module _ (s : Scope) where
   layer_fine (layer.Pair o l m r c) p = both_fine s p (λ x y. Some (pair_of x y)) (typed_at s l.0 p) (typed_at s r.0 p) (l.1 p) (r.1 p) (λ y z h k. some_fine s p (pair_of y z) (pair_has s p y z h k))
   layer_fine (layer.List o is c) p = list_or p (items_typed typing (items is) p) (items_fine is p)
   layer_fine (layer.Map o es c) p = map_or p (entries_typed typing (entries es) p) (entries_fine es p)
-  layer_fine (layer.Struct n o ms c) p = struct_fine s p n.name (idents (members ms)) (members_typed place typing (members ms) p) (members_fine ms p)
+  layer_fine (layer.Struct n o ms c) p =
+      struct_fine s p (struct_named s.structs s.locals n.name) (idents (members ms)) (members_typed place typing (members ms) p) (named_members s.structs s.locals n.name) (members_fine ms p)
 
   typed_roll : (x : Expr-F Expr) (p : Bool) → typed_at s (roll-Expr x) p ≡ typed_step s (map-Expr Expr (Part Typing) with_typing x) p
   unfolding typed_at

@@ -13,7 +13,7 @@ use Rattle.wdl_check_rules.specs.Typed.{idents}
 use Rattle.std.specs.Str.{bytes_eq}
 use Rattle.wdl_value.specs.declared.ty.Member.{Member}
 use Rattle.wdl_ast.specs.declared.leaf.Ident.{Ident}
-use Rattle.wdl_check_rules.specs.declared.member.Given.{Given}
+use Rattle.wdl_check_rules.specs.declared.literal_members.Given.{Given}
 use Rattle.wdl_check_rules.specs.Members.{is_member, is_listed, is_stray, GivenAt, given_of, without, field}
 use Rattle.wdl_check_rules.specs.Rules.{or_else}
 

@@ -4,10 +4,10 @@ use Rattle.std.specs.Prelude.{◌≡◌, ◌≢◌, ℕ, Bool, true, false, List
 use Rattle.wdl_base.specs.declared.span.Span.{Span}
 use Rattle.wdl_value.specs.declared.operator.Func.{Func}
 use Rattle.wdl_value.specs.declared.ty.Member.{Member}
+use Rattle.wdl_value.specs.declared.ty.StructDef.{StructDef}
 use Rattle.wdl_value.specs.declared.ty.Ty.{Ty}
 use Rattle.wdl_value.specs.declared.ty.Ty.TheVariants as ty
 use Rattle.wdl_value.specs.declared.value.Value.TheVariants as v
-use Rattle.wdl_value.specs.Fits.{Structs, members_of}
 use Rattle.wdl_value.specs.FunctionTypes.{writes}
 use Rattle.wdl_ast.specs.declared.expr.BinaryOperator.{BinaryOperator}
 use Rattle.wdl_ast.specs.declared.expr.UnaryOperator.{UnaryOperator}
@@ -28,11 +28,12 @@ use Rattle.wdl_typed.specs.declared.expr.TPart.TheVariants as tp
 use Rattle.wdl_typed.specs.declared.scope.Bound.{Bound}
 use Rattle.wdl_check_rules.specs.declared.fault.CheckFault.{CheckFault}
 use Rattle.wdl_check_rules.specs.declared.fault.CheckFault.TheVariants.{Bad, NoMemory}
-use Rattle.wdl_check_rules.specs.declared.member.Given.{Given}
+use Rattle.wdl_check_rules.specs.declared.literal_members.Given.{Given}
 use Rattle.wdl_check_rules.specs.Scopes.{Scope}
 use Rattle.wdl_check_rules.specs.declared.typed.Typed.{Typed}
 use Rattle.wdl_check_rules.specs.Conditions.{name_code, is_call_alone}
 use Rattle.wdl_check_rules.specs.Functions.{func_of, reads_early}
+use Rattle.wdl_check_rules.specs.Locals.{struct_named}
 use Rattle.wdl_check_rules.specs.Members.{is_stray, left_out, GivenAt, given_of, without, field, struct_with}
 use Rattle.wdl_check_rules.specs.Rules.{coerced, literal, int_literal, key_of, named, output_named, member_of, item_of, unary_of, binary_of, condition_of, choose_of, list_of, keys_join, values_join, plain_key, map_with, pair_of, apply_of, choice_of, hole_of, plain_text, string_literal, strung}
 use Rattle.wdl_check_rules.specs.Spans.{joined, name_of, span_of}
@@ -156,17 +157,16 @@ fields_checked span [] gs = Ok []
 fields_checked span (m ∷ ms) gs =
     then_ (value_checked span m.ty (gs m.name)) (λ e. then_ (fields_checked span ms (without gs m.name)) (λ fs. Ok (field m.name e ∷ fs)))
 
-abbrev pub struct_with_checked : Ident → List Member → List Given → Checked Typed
-struct_with_checked n ms gs = then_ (fields_checked n.span ms (given_of gs)) (λ fs. Ok (struct_with n.name fs))
+abbrev pub struct_with_checked : Span → StructDef → List Given → Checked Typed
+struct_with_checked span d gs = then_ (fields_checked span d.members (given_of gs)) (λ fs. Ok (struct_with d.name fs))
 
-abbrev pub struct_checked : Ident → Option (List Member) → List Ident → Checked (List Given) → Checked Typed
-struct_checked n None names gs = bad 329 n.span
-struct_checked n (Some ms) names gs =
-    no_stray (first_stray ms [] names) (then_ gs (struct_with_checked n ms))
+abbrev pub struct_checked : Span → Option StructDef → List Ident → Checked (List Given) → Checked Typed
+struct_checked span None names gs = bad 329 span
+struct_checked span (Some d) names gs =
+    no_stray (first_stray d.members [] names) (then_ gs (struct_with_checked span d))
 
-abbrev pub literal_checked : {E : Type 0} → (E → Span) → (E → Checking) → Structs → Ident → List (ListItem (MemberEntry E)) → Bool → Checked Typed
-literal_checked place f structs n entries p =
-    struct_checked n (members_of structs n.name) (idents entries) (members_checked place f entries p)
+abbrev pub literal_checked : {E : Type 0} → (E → Span) → (E → Checking) → Option StructDef → Ident → List (ListItem (MemberEntry E)) → Bool → Checked Typed
+literal_checked place f def n entries p = struct_checked n.span def (idents entries) (members_checked place f entries p)
 
 abbrev pub checked_step : Scope → Expr-F (Part Checking) → Checking
 checked_step s (layer.If i c t a e r) p = if_checked (joined i (span_of r.0)) (condition_checked (span_of c.0) (c.1 p)) (a.1 p) (r.1 p)
@@ -188,7 +188,7 @@ checked_step s (layer.Pair o l m r c) p = pair_checked (l.1 p) (r.1 p)
 checked_step s (layer.List o items c) p = list_checked (joined o c) (items_checked (λ (x : Part Checking). x.1) items p)
 checked_step s (layer.Map o entries c) p = map_checked (joined o c) (entries_checked (λ (x : Part Checking). x.1) entries p)
 checked_step s (layer.Struct n o members c) p =
-    literal_checked (λ (x : Part Checking). span_of x.0) (λ (x : Part Checking). x.1) s.structs n members p
+    literal_checked (λ (x : Part Checking). span_of x.0) (λ (x : Part Checking). x.1) (struct_named s.structs s.locals n.name) n members p
 
 unfoldable pub checked : Scope → Expr → Bool → Checked Typed
 checked s = para-Expr Checking (checked_step s)

@@ -3,8 +3,8 @@ use Rattle.std.specs.Prelude.{◌≡◌, ◌⊎◌, ℕ, Bool, true, false, ◌&
 use Rattle.wdl_base.specs.declared.span.Span.{Span}
 use Rattle.wdl_value.specs.declared.operator.Func.{Func}
 use Rattle.wdl_value.specs.declared.ty.Member.{Member}
+use Rattle.wdl_value.specs.declared.ty.StructDef.{StructDef}
 use Rattle.wdl_value.specs.declared.ty.Ty.{Ty}
-use Rattle.wdl_value.specs.Fits.{members_of}
 use Rattle.wdl_value.specs.FunctionTypes.{writes}
 use Rattle.wdl_value.specs.Join.{join}
 use Rattle.wdl_ast.specs.declared.expr.Expr.{Expr, Expr-F, para-Expr}
@@ -21,10 +21,11 @@ use Rattle.wdl_typed.specs.Lists.{has_name}
 use Rattle.wdl_typed.specs.Scope.{type_in}
 use Rattle.wdl_check_rules.specs.declared.fault.CheckFault.{CheckFault}
 use Rattle.wdl_check_rules.specs.declared.fault.CheckFault.TheVariants.{Bad, NoMemory}
-use Rattle.wdl_check_rules.specs.declared.member.Given.{Given}
+use Rattle.wdl_check_rules.specs.declared.literal_members.Given.{Given}
 use Rattle.wdl_check_rules.specs.Scopes.{Scope}
 use Rattle.wdl_check_rules.specs.declared.typed.Typed.{Typed}
 use Rattle.wdl_check_rules.specs.Functions.{func_of, reads_early}
+use Rattle.wdl_check_rules.specs.Locals.{struct_named}
 use Rattle.wdl_check_rules.specs.Members.{is_stray, left_out, GivenAt, given_of, without}
 use Rattle.wdl_check_rules.specs.Rules.{coerced, int_literal, key_of, output_named, member_of, item_of, unary_of, binary_of, condition_of, list_of, keys_join, values_join, plain_key, apply_of, choice_of, hole_of}
 use Rattle.wdl_check_rules.specs.Spans.{joined, name_of, span_of}
@@ -117,9 +118,11 @@ abbrev pub argument_conditions : Option Func → Option (List Typed) → Span �
 argument_conditions None xs span = []
 argument_conditions (Some f) xs span = given_that xs (λ xs. unless (apply_of f xs) (at 305 span))
 
-abbrev pub struct_conditions : Span → Option (List Member) → List Ident → Option (List Given) → Conditions
+-- 329: no struct of that name
+abbrev pub struct_conditions : Span → Option StructDef → List Ident → Option (List Given) → Conditions
 struct_conditions span None names gs = at 329 span
-struct_conditions span (Some ms) names gs = stray_conditions ms [] names ++ given_that gs (λ gs. fields_conditions span ms (given_of gs))
+struct_conditions span (Some d) names gs =
+    stray_conditions d.members [] names ++ given_that gs (λ gs. fields_conditions span d.members (given_of gs))
 
 -- 310: keys or values without a join; 329: keys of a type that no map has
 abbrev pub map_conditions : Span → List (TPair Typed) → Conditions
@@ -170,7 +173,7 @@ conditions_step s (layer.Map o entries c) p =
     ++ given_that (entries_typed (λ (x : Part (Bool → Conditions)). typed_at s x.0) entries p) (map_conditions (joined o c))
 conditions_step s (layer.Struct n o members c) p =
     members_conditions (λ (x : Part (Bool → Conditions)). x.1) members p
-    ++ struct_conditions n.span (members_of s.structs n.name) (idents members)
+    ++ struct_conditions n.span (struct_named s.structs s.locals n.name) (idents members)
     (members_typed (λ (x : Part (Bool → Conditions)). span_of x.0) (λ (x : Part (Bool → Conditions)). typed_at s x.0) members p)
 
 unfoldable pub conditions_at : Scope → Expr → Bool → Conditions

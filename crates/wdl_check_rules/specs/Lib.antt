@@ -1,6 +1,7 @@
 pub mod Checked
 pub mod Conditions
 pub mod Functions
+pub mod Locals
 pub mod Members
 pub mod Rules
 pub mod Scopes

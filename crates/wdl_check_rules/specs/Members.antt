@@ -10,7 +10,7 @@ use Rattle.wdl_ast.specs.declared.leaf.Ident.{Ident}
 use Rattle.wdl_typed.specs.declared.expr.TExpr.{TExpr}
 use Rattle.wdl_typed.specs.declared.expr.TExpr.TheVariants as te
 use Rattle.wdl_typed.specs.declared.expr.TField.{TField}
-use Rattle.wdl_check_rules.specs.declared.member.Given.{Given}
+use Rattle.wdl_check_rules.specs.declared.literal_members.Given.{Given}
 use Rattle.wdl_check_rules.specs.declared.typed.Typed.{Typed}
 use Rattle.wdl_check_rules.specs.Rules.{typing, literal, cast_to, coerced}
 

@@ -3,11 +3,10 @@
 use Rattle.std.specs.Prelude.{ℕ, Bool, true, false, not, ◌&&◌, List, [], ◌∷◌, Option, Some, None, option_map, option_and_then, if◌then◌else◌}
 use Rattle.wdl_base.specs.declared.span.Span.{Span}
 use Rattle.wdl_value.specs.declared.operator.Func.{Func}
-use Rattle.wdl_value.specs.declared.ty.Member.{Member}
+use Rattle.wdl_value.specs.declared.ty.StructDef.{StructDef}
 use Rattle.wdl_value.specs.declared.ty.Ty.{Ty}
 use Rattle.wdl_value.specs.declared.ty.Ty.TheVariants as ty
 use Rattle.wdl_value.specs.declared.value.Value.TheVariants as v
-use Rattle.wdl_value.specs.Fits.{members_of}
 use Rattle.wdl_value.specs.FunctionTypes.{writes}
 use Rattle.wdl_ast.specs.declared.expr.Expr.{Expr, Expr-F, para-Expr}
 use Rattle.wdl_ast.specs.declared.expr.Expr.TheOpen as layer
@@ -21,10 +20,11 @@ use Rattle.wdl_typed.specs.declared.expr.TExpr.{TExpr}
 use Rattle.wdl_typed.specs.declared.expr.TPair.{TPair}
 use Rattle.wdl_typed.specs.declared.expr.TPart.{TPart}
 use Rattle.wdl_typed.specs.declared.expr.TPart.TheVariants as tp
-use Rattle.wdl_check_rules.specs.declared.member.Given.{Given}
+use Rattle.wdl_check_rules.specs.declared.literal_members.Given.{Given}
 use Rattle.wdl_check_rules.specs.Scopes.{Scope}
 use Rattle.wdl_check_rules.specs.declared.typed.Typed.{Typed}
 use Rattle.wdl_check_rules.specs.Functions.{func_of, reads_early}
+use Rattle.wdl_check_rules.specs.Locals.{struct_named}
 use Rattle.wdl_check_rules.specs.Members.{has_stray, given_of, fields_of, struct_with}
 use Rattle.wdl_check_rules.specs.Rules.{or_else, coerced, literal, int_literal, key_of, named, output_named, member_of, item_of, unary_of, binary_of, condition_of, choose_of, list_of, map_of, pair_of, apply_of, choice_of, hole_of, plain_text, string_literal, strung}
 use Rattle.wdl_check_rules.specs.Spans.{name_of, span_of}
@@ -87,10 +87,11 @@ abbrev pub call_typed : Scope → Option Func → Option (List Typed) → Option
 call_typed s None xs = None
 call_typed s (Some f) xs = if may_call s.outputs f then option_and_then (apply_of f) xs else None
 
-abbrev pub struct_typed : List ℕ → Option (List Member) → List Ident → Option (List Given) → Option Typed
-struct_typed name None names gs = None
-struct_typed name (Some ms) names gs =
-    if has_stray ms [] names then None else option_map (struct_with name) (option_and_then (λ gs. fields_of ms (given_of gs)) gs)
+-- a literal of a struct has the name of the library
+abbrev pub struct_typed : Option StructDef → List Ident → Option (List Given) → Option Typed
+struct_typed None names gs = None
+struct_typed (Some d) names gs =
+    if has_stray d.members [] names then None else option_map (struct_with d.name) (option_and_then (λ gs. fields_of d.members (given_of gs)) gs)
 
 abbrev pub typed_step : Scope → Expr-F (Part Typing) → Typing
 typed_step s (layer.If i c t a e r) p = option_and_then (λ b. both (choose_of b) (a.1 p) (r.1 p)) (option_and_then condition_of (c.1 p))
@@ -111,7 +112,7 @@ typed_step s (layer.Pair o l m r c) p = both (λ x y. Some (pair_of x y)) (l.1 p
 typed_step s (layer.List o items c) p = option_and_then list_of (items_typed (λ (x : Part Typing). x.1) items p)
 typed_step s (layer.Map o entries c) p = option_and_then map_of (entries_typed (λ (x : Part Typing). x.1) entries p)
 typed_step s (layer.Struct n o members c) p =
-    struct_typed n.name (members_of s.structs n.name) (idents members)
+    struct_typed (struct_named s.structs s.locals n.name) (idents members)
     (members_typed (λ (x : Part Typing). span_of x.0) (λ (x : Part Typing). x.1) members p)
 
 -- outside a placeholder and in one

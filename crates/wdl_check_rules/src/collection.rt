@@ -174,7 +174,7 @@ fn cast_row(
 }
 
 /// The expression and the type of a typed part, each in a box.
-fn boxes(alloc: Global, x: Typed) -> Result<(Boxed<TExpr>, Boxed<Ty>), NoMemory>
+fn into_boxes(alloc: Global, x: Typed) -> Result<(Boxed<TExpr>, Boxed<Ty>), NoMemory>
     ensures { IfOk result (λ parts. parts ≡ (x.expr, x.ty)) }
 {
     let (expr, ty) = x.into_parts(alloc)?;
@@ -185,8 +185,8 @@ fn boxes(alloc: Global, x: Typed) -> Result<(Boxed<TExpr>, Boxed<Ty>), NoMemory>
 pub fn pair(alloc: Global, x: Typed, y: Typed) -> Result<Typed, NoMemory>
     ensures { IfOk result (λ t. t ≡ spec.pair_of x y) }
 {
-    let (x, left) = boxes(alloc, x)?;
-    let (y, right) = boxes(alloc, y)?;
+    let (x, left) = into_boxes(alloc, x)?;
+    let (y, right) = into_boxes(alloc, y)?;
     Ok(Typed {
         expr: TExpr::PairOf(x, y),
         ty: Ty::Pair { left, right },

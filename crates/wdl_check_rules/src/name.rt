@@ -30,7 +30,7 @@ fn key_of(alloc: Global, first: &Name, second: Option<&Name>) -> Result<Key, NoM
     }
 }
 
-fn named(alloc: Global, names: &Names, key: Key) -> Result<Option<Typed>, NoMemory>
+fn typed_name(alloc: Global, names: &Names, key: Key) -> Result<Option<Typed>, NoMemory>
     ensures { IfOk result (λ x. x ≡ spec.named names.now key) }
 {
     let ty = match names.type_of(&key) {
@@ -60,7 +60,7 @@ pub fn check_name(
     ensures { checked.Gives (checked.name_checked names.now calls.now ident.now) result }
 {
     let key = key_of(alloc, &ident.name, None)?;
-    match named(alloc, names, key)? {
+    match typed_name(alloc, names, key)? {
         Some(typed) => Ok(typed),
         None => Err(CheckFault::Bad {
             code: name_code(calls, &ident.name),
@@ -82,7 +82,7 @@ pub fn output_named(
         return Ok(None);
     };
     let key = key_of(alloc, base, Some(member))?;
-    named(alloc, names, key)
+    typed_name(alloc, names, key)
 }
 
 /// Whether the name is that of a call and of no value.

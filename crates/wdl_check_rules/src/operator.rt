@@ -139,7 +139,13 @@ fn operation(
 }
 
 /// An operation whose operands stand at the types of a row.
-fn by_typing(alloc: Global, x: Typed, y: Typed, op: Op, row: OpTyping) -> Result<Typed, NoMemory>
+fn typed_operation(
+    alloc: Global,
+    x: Typed,
+    y: Typed,
+    op: Op,
+    row: OpTyping,
+) -> Result<Typed, NoMemory>
     ensures { IfOk result (λ t. t ≡ spec.by_row x y (op, row)) }
 {
     let OpTyping {
@@ -151,15 +157,15 @@ fn by_typing(alloc: Global, x: Typed, y: Typed, op: Op, row: OpTyping) -> Result
     Ok(Typed { expr, ty: result })
 }
 
-fn by_row(alloc: Global, x: Typed, y: Typed, row: OperatorRow) -> Result<Typed, NoMemory>
+fn row_operation(alloc: Global, x: Typed, y: Typed, row: OperatorRow) -> Result<Typed, NoMemory>
     ensures { IfOk result (λ t. t ≡ spec.by_row x y row) }
 {
     let (op, row) = row;
-    by_typing(alloc, x, y, op, row)
+    typed_operation(alloc, x, y, op, row)
 }
 
 /// An operation by the row that was found. None where there is none.
-fn by_found(
+fn found_operation(
     alloc: Global,
     x: Typed,
     y: Typed,
@@ -168,7 +174,7 @@ fn by_found(
     ensures { IfOk result (λ t. t ≡ option_map (spec.by_row x y) found) }
 {
     match found {
-        Some(row) => Ok(Some(by_row(alloc, x, y, row)?)),
+        Some(row) => Ok(Some(row_operation(alloc, x, y, row)?)),
         None => Ok(None),
     }
 }
@@ -184,7 +190,7 @@ pub fn binary(
     ensures { IfOk result (λ t. t ≡ spec.binary_of operator placeholder x y) }
 {
     let found = row_of(alloc, op_of(operator), &x.ty, &y.ty, placeholder)?;
-    by_found(alloc, x, y, found)
+    found_operation(alloc, x, y, found)
 }
 
 /// The condition of an `if`, which is a Boolean.

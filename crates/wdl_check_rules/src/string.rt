@@ -120,7 +120,7 @@ pub fn string_literal(text: Text) -> Typed
 }
 
 /// A string with placeholders.
-pub fn strung(parts: Items<TPart<TExpr>>) -> Typed
+pub fn string_of_parts(parts: Items<TPart<TExpr>>) -> Typed
     ensures { result ≡ spec.strung parts }
 {
     Typed {

@@ -12,7 +12,7 @@ use Rattle.wdl_ast.specs.declared.type_tree.BaseType.TheVariants as base
 use Rattle.wdl_ast.specs.declared.type_tree.TypeTree.{TypeTree, TypeTree-F, map-TypeTree, roll-TypeTree, ind-TypeTree, fold-roll-TypeTree}
 use Rattle.wdl_typed.specs.KnownTypes.{Written, written_step as known_step, scalar, compound, is_some}
 use Rattle.wdl_check_types.specs.Laws.{AreKnown, WrittenTypes}
-use Rattle.wdl_check_types.specs.Locals.{Naming}
+use Rattle.wdl_check_rules.specs.Locals.{Naming}
 use Rattle.wdl_check_rules.specs.Spans.{joined}
 use Rattle.wdl_check_types.specs.Outcome.{Outcome, done, or_refused, refused}
 use Rattle.wdl_check_types.specs.Written.{is_there, map_written, marked, written, written_step}

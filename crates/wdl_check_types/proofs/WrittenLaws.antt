@@ -5,7 +5,7 @@ use Rattle.wdl_value.specs.declared.ty.Ty.{Ty}
 use Rattle.wdl_ast.specs.declared.type_tree.BaseType.{BaseType}
 use Rattle.wdl_ast.specs.declared.type_tree.BaseType.TheVariants as base
 use Rattle.wdl_ast.specs.declared.type_tree.TypeTree.{TypeTree, map-TypeTree, out-TypeTree, fold_out-TypeTree}
-use Rattle.wdl_check_types.specs.Locals.{Naming}
+use Rattle.wdl_check_rules.specs.Locals.{Naming}
 use Rattle.wdl_check_types.specs.Outcome.{Outcome, done, then_}
 use Rattle.wdl_check_types.specs.Written.{base_written, marked, written, written_step}
 

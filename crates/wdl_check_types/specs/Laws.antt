@@ -4,7 +4,7 @@ use Rattle.wdl_value.specs.declared.ty.Ty.{Ty}
 use Rattle.wdl_value.specs.Fits.{Structs, members_of}
 use Rattle.wdl_ast.specs.declared.type_tree.TypeTree.{TypeTree}
 use Rattle.wdl_typed.specs.KnownTypes.{is_some, is_written}
-use Rattle.wdl_check_types.specs.Locals.{Naming}
+use Rattle.wdl_check_rules.specs.Locals.{Naming}
 use Rattle.wdl_check_types.specs.Written.{written}
 
 -- each name of the document stands for a struct

@@ -1,4 +1,3 @@
-pub mod Locals
 pub mod Outcome
 pub mod Places
 pub mod Written

@@ -9,7 +9,7 @@ use Rattle.wdl_ast.specs.declared.type_tree.BaseType.{BaseType}
 use Rattle.wdl_ast.specs.declared.type_tree.BaseType.TheVariants as base
 use Rattle.wdl_ast.specs.declared.type_tree.TypeTree.{TypeTree, TypeTree-F, fold-TypeTree}
 use Rattle.wdl_check_rules.specs.Spans.{joined}
-use Rattle.wdl_check_types.specs.Locals.{Naming}
+use Rattle.wdl_check_rules.specs.Locals.{Naming}
 use Rattle.wdl_check_types.specs.Outcome.{Outcome, done, refused, then_, or_refused}
 
 abbrev pub is_there : {A : Type 0} → Option A → Bool

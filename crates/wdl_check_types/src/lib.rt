@@ -2,11 +2,9 @@
 #![tactic(auto)]
 
 mod laws;
-mod local;
 mod place;
 mod written;
 
 pub use laws::written_types_are_known;
-pub use local::{Local, stands_for};
 pub use place::{call_ident, call_span, declaration_span, from_to, input_span, statement_span};
 pub use written::written_type;

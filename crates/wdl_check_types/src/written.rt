@@ -3,16 +3,15 @@
 ghost use Rattle.std.specs.Prelude.{◌≡◌, IfOk};
 ghost use Rattle.wdl_value.specs.declared.ty.Ty.TheVariants as ty;
 ghost use Rattle.wdl_value.specs.Kinds.{is_scalar as is_scalar_type};
-ghost use Rattle.wdl_check_types.specs.Locals as local;
+ghost use Rattle.wdl_check_rules.specs.Locals as local;
 ghost use Rattle.wdl_check_types.specs.Outcome as outcome;
 ghost use Rattle.wdl_check_types.specs.Written as spec;
 
-use crate::local::{Local, stands_for};
 use crate::place::from_to;
 use sqlite_items::Boxed;
 use std::alloc::Global;
 use wdl_ast::{BaseType, Ident, TypeTree};
-use wdl_check_rules::CheckFault;
+use wdl_check_rules::{CheckFault, Local, stands_for};
 use wdl_names::Indexed;
 use wdl_value::{NoMemory, Span, Ty};
 

@@ -9,7 +9,7 @@ use wdl_value::NoMemory;
 /// wanting.
 #[derive(Clone, Copy, Debug, PartialEq, Eq, Error)]
 pub enum PlainFault {
-    #[error("more than 65,535 items or 1,048,576 jobs")]
+    #[error("more than 20,000 jobs or 1,000,000 instances of statements")]
     TooMany,
     #[error("out of memory")]
     NoMemory,

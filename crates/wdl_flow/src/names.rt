@@ -105,15 +105,6 @@ impl Names {
         Ok(Names { knowns, marks })
     }
 
-    /// The list of the names.
-    pub fn into_knowns(self) -> Items<Known>
-        ensures { result ≡ self }
-    {
-        let Names { knowns, marks } = self;
-        drop(marks);
-        knowns
-    }
-
     /// How many names there are.
     pub fn len(&self) -> usize
         ensures { result ≡ length self.now }

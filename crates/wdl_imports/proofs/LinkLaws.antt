@@ -153,11 +153,6 @@ all_links_more ps [] s (x ∷ all) ls a h = absurd a
 all_links_more ps (t ∷ ss) s [] ls a h = absurd a
 all_links_more ps (t ∷ ss) s (x ∷ all) ls a h = (a.0, all_links_more ps ss s all ls a.1 h)
 
-pub path_get : (ss : List Source) (k : ℕ) (s : Source) (p : List ℕ) → k < length ss → s ≡ get_or ss k s → bytes_eq s.path p ≡ true → slice_get (paths ss) k ≡ Some p
-path_get [] k s p b at e = absurd (omega arith)
-path_get (x ∷ ss) zero s p b at e = ap (λ (y : Source). Some y.path) (sym at) ∙ ap Some ((bytes_eq-Decides s.path p).0 e)
-path_get (x ∷ ss) (suc k) s p b at e = path_get ss k s p (omega arith) at e
-
 pub taken_whole : (ws : List Want) (n : ℕ) → length ws ≤ n → take n ws ≡ ws
 taken_whole [] zero h = refl
 taken_whole [] (suc n) h = refl

@@ -12,7 +12,7 @@ use std::alloc::Global;
 use wdl_library::{Doc, Library};
 use wdl_links::{LinkFault, no_circle};
 use wdl_port::Shelf;
-use wdl_sources::{ImportFault, Source, read_all};
+use wdl_sources::{ImportFault, Sources, read_all};
 use wdl_structs::name_structs;
 use wdl_value::{NoMemory, Text};
 
@@ -57,7 +57,7 @@ fn library_of(alloc: Global, docs: Items<Doc>) -> Result<Library, ImportFault>
 }
 
 /// The library of documents that were read.
-fn linked(alloc: Global, sources: Items<Source>) -> Result<Library, ImportFault>
+fn linked(alloc: Global, sources: Sources) -> Result<Library, ImportFault>
     requires { check.AreRead sources }
     ensures { check.Collects sources result }
 {

@@ -1,6 +1,6 @@
 //! The links between the documents that were read.
 
-ghost use Rattle.std.specs.Prelude.{◌≡◌, ◌<◌, ◌≤◌, true, false, length, slice_get, Some, IfOk, IfSome, IfNone};
+ghost use Rattle.std.specs.Prelude.{◌≡◌, ◌≤◌, true, length, IfOk};
 ghost use Rattle.wdl_base.specs.Names.{is_among};
 ghost use Rattle.wdl_library.specs.Sections.{imports_of};
 ghost use Rattle.wdl_sources.specs.Walks.{paths, most_documents};
@@ -10,30 +10,16 @@ use sqlite_items::Items;
 use std::alloc::Global;
 use wdl_library::{Doc, Link};
 use wdl_links::{LinkFault, Want, wants_of};
-use wdl_sources::Source;
-use wdl_value::{NoMemory, Text};
-
-/// The number of the document that was read at a path. There are at most 64 of them.
-fn number_of(sources: &[Source], path: &Text) -> Option<usize>
-    ensures some { IfSome result (λ k. slice_get (paths sources.now) k ≡ Some path.now) }
-    ensures within { IfSome result (λ k. k < length sources.now) }
-    ensures none { IfNone result (is_among path.now (paths sources.now) ≡ false) }
-{
-    for (number, source) in sources.iter().enumerate() {
-        if source.path.same(path) {
-            return Some(number);
-        }
-    }
-    None
-}
+use wdl_sources::{Source, Sources};
+use wdl_value::NoMemory;
 
 /// The link to the document at the path of an import.
-fn link_of(alloc: Global, sources: &[Source], want: &Want) -> Result<Link, NoMemory>
+fn link_of(alloc: Global, sources: &Sources, want: &Want) -> Result<Link, NoMemory>
     requires few { length sources.now ≤ most_documents }
     requires read { is_among want.now.path (paths sources.now) ≡ true }
     ensures { IfOk result (spec.IsFor (paths sources.now) want.now) }
 {
-    let Some(number) = number_of(sources, &want.path) else {
+    let Some(number) = sources.number_of(&want.path) else {
         unreachable!()
     };
     Ok(Link {
@@ -43,7 +29,7 @@ fn link_of(alloc: Global, sources: &[Source], want: &Want) -> Result<Link, NoMem
 }
 
 /// One link for each import of a source, to one of the sources.
-fn links_of(alloc: Global, sources: &[Source], source: &Source) -> Result<Items<Link>, NoMemory>
+fn links_of(alloc: Global, sources: &Sources, source: &Source) -> Result<Items<Link>, NoMemory>
     requires few { length sources.now ≤ most_documents }
     requires named { spec.IsNamed (paths sources.now) source.now }
     ensures { IfOk result (λ ls. spec.links_to (paths sources.now) source.now.path (imports_of source.now.document) ls ≡ true) }
@@ -61,13 +47,13 @@ fn links_of(alloc: Global, sources: &[Source], source: &Source) -> Result<Items<
 }
 
 /// The links of all sources.
-fn all_links(alloc: Global, sources: &[Source]) -> Result<Items<Items<Link>>, NoMemory>
+fn all_links(alloc: Global, sources: &Sources) -> Result<Items<Items<Link>>, NoMemory>
     requires few { length sources.now ≤ most_documents }
     requires named { spec.AreNamed (paths sources.now) sources.now }
     ensures { IfOk result (spec.AllLinks (paths sources.now) sources.now) }
 {
     let mut links = Items::new(alloc);
-    for source in sources {
+    for source in sources.as_slice() {
         links.push(links_of(alloc, sources, source)?)?;
     }
     Ok(links)
@@ -86,17 +72,16 @@ fn doc_of(source: Source, imports: Items<Link>, alloc: Global) -> Doc
 }
 
 /// The documents of the sources, of which there are at most 64, with their links and without struct names.
-pub fn docs_of(alloc: Global, sources: Items<Source>) -> Result<Items<Doc>, NoMemory>
+pub fn docs_of(alloc: Global, sources: Sources) -> Result<Items<Doc>, NoMemory>
     requires few { length sources ≤ most_documents }
     requires named { spec.AreNamed (paths sources) sources }
     ensures { IfOk result (spec.AreDocs sources) }
 {
-    let mut links = all_links(alloc, sources.as_slice())?;
-    let mut left = sources;
+    let mut links = all_links(alloc, &sources)?;
     let mut docs = Items::new(alloc);
-    'sources: while left.len() > 0 {
+    for source in sources {
         let imports = links.remove(0);
-        docs.push(doc_of(left.remove(0), imports, alloc))?;
+        docs.push(doc_of(source, imports, alloc))?;
     }
     Ok(docs)
 }

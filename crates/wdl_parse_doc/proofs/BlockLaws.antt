@@ -7,12 +7,11 @@ use Rattle.wdl_ast.specs.declared.workflow.Statement.{Statement}
 use Rattle.wdl_ast.specs.declared.workflow.Statement.TheVariants as st
 use Rattle.wdl_ast.specs.Words.{Words, marked}
 use Rattle.wdl_ast.specs.DocumentWords.{each, maybe, statement_words}
-use Rattle.wdl_parse_expr.specs.Outcome.{Outcome, Parser, then_, found, eat}
-use Rattle.wdl_parse_expr.specs.Reading.{one_more}
-use Rattle.wdl_parse_expr.proofs.Steps.{ate, then_is, found_some, found_none}
-use Rattle.wdl_parse_expr.proofs.Says.{Says, Takes, carry, says_then, says_found}
-use Rattle.wdl_parse_doc.specs.declared.head.BlockHead.{BlockHead}
-use Rattle.wdl_parse_doc.specs.declared.head.BlockHead.TheVariants as head
+use Rattle.token_reading.specs.Outcome.{Outcome, Parser, then_, found, eat, one_more}
+use Rattle.token_reading.proofs.Steps.{ate, then_is, found_some, found_none}
+use Rattle.token_reading.proofs.Says.{Says, Takes, carry, says_then, says_found}
+use Rattle.wdl_parse_parts.specs.declared.heads.BlockHead.{BlockHead}
+use Rattle.wdl_parse_parts.specs.declared.heads.BlockHead.TheVariants as head
 use Rattle.wdl_parse_doc.specs.declared.block.OpenBlock.{OpenBlock}
 use Rattle.wdl_parse_doc.specs.declared.block.Block.{Block}
 use Rattle.wdl_parse_doc.specs.declared.block.Turn.{Turn}
@@ -20,9 +19,12 @@ use Rattle.wdl_parse_doc.specs.declared.block.Turn.TheVariants as turn
 use Rattle.wdl_parse_doc.specs.Context as ctx
 use Rattle.wdl_parse_doc.specs.Context.{Stands}
 use Rattle.wdl_parse_doc.specs.Grammar as g
-use Rattle.wdl_parse_doc.specs.Grammar.{Each, IfThere, AreStatements, IsStatement}
+use Rattle.wdl_parse_parts.specs.Grammar.{Each, IfThere}
+use Rattle.wdl_parse_doc.specs.Grammar.{AreStatements, IsStatement}
 use Rattle.wdl_parse_doc.specs.Reading.Blocks as r
-use Rattle.wdl_parse_doc.specs.Reading.Blocks.{closed, closing, block_of, after_turn, turns_from}
+use Rattle.wdl_parse_parts.specs.Reading.Heads as heads
+use Rattle.wdl_parse_parts.specs.Reading.Heads.{closed}
+use Rattle.wdl_parse_doc.specs.Reading.Blocks.{closing, block_of, after_turn, turns_from}
 use Rattle.wdl_parse_doc.proofs.Formats.{Doc, SoundAt, Format, starts_some, at_once}
 use Rattle.wdl_parse_doc.proofs.CallLaws.{Quiet, brace_quiet}
 use Rattle.wdl_parse_doc.proofs.StatementLaws.{head_words, IsHead, HeadOf, head_sound, head_full, closed_words, closed_is, head_stands, each_stands, Simple, simple_sound, call_simple, declaration_simple, statements_quiet}
@@ -103,7 +105,7 @@ unfolding r.turn_at r.opening r.ended
 turn_sound doc front all eq here b ts e p =
     says_found (Doc doc) (TurnOf all) (eat mark.CloseBrace ts) _ _
     (λ c h. closing_says all b.around (closed b.head b.body c.0) c.1 (closed_text all b c.0 ts c.1 e (ate mark.CloseBrace ts c h)) p.0 (closed_is b.head b.body c.0 [] p.1 p.2 g.none))
-    (λ _. says_then (Doc doc) (HeadOf ts) (TurnOf all) (r.head_at ts) _ (head_sound doc (front ++ block_words b) ts (eq ∙ ap (λ z. front ++ z) e ∙ sym (append_assoc front (block_words b) ts)) (block_stands front b p here)) (λ x rest t. opening_then doc front all eq here b ts x rest e p t))
+    (λ _. says_then (Doc doc) (HeadOf ts) (TurnOf all) (heads.head_at ts) _ (head_sound doc (front ++ block_words b) ts (eq ∙ ap (λ z. front ++ z) e ∙ sym (append_assoc front (block_words b) ts)) (block_stands front b p here)) (λ x rest t. opening_then doc front all eq here b ts x rest e p t))
 
 -- a turn, and those behind it
 turned_says : (n : ℕ) (doc all : Words) → ((b : Block) (ts : Words) → all ≡ block_words b ++ ts → IsBlock b → Says (Doc doc) (Takes IsStatement statement_words all) (turns_from n b ts))
@@ -122,7 +124,7 @@ block_sound h doc front all eq here ts e p = turns_sound (length ts) doc front a
 
 pub statement_sound : SoundAt (Stands ctx.a_statement) IsStatement statement_words r.statement
 unfolding r.statement
-statement_sound doc front ts eq here = says_then (Doc doc) (HeadOf ts) (Takes IsStatement statement_words ts) (r.head_at ts) _ (head_sound doc front ts eq here) go
+statement_sound doc front ts eq here = says_then (Doc doc) (HeadOf ts) (Takes IsStatement statement_words ts) (heads.head_at ts) _ (head_sound doc front ts eq here) go
   where
     go : (x : Option BlockHead) (rest : Words) → HeadOf ts x rest → Says (Doc doc) (Takes IsStatement statement_words ts) (one_more x (λ h. r.block_at h rest) (r.simple rest))
     go (Some h) rest t = block_sound h doc front ts eq here rest t.0 t.1
@@ -145,7 +147,7 @@ simple_turn : (around : List OpenBlock) (h : BlockHead) (body : List Statement) 
 unfolding r.turn_at r.opening r.longer
 simple_turn around h body s rest k =
     found_none (eat mark.CloseBrace (statement_words s ++ rest)) _ _ k.goes_on
-    ∙ then_is (r.head_at (statement_words s ++ rest)) _ (None, statement_words s ++ rest) k.headless
+    ∙ then_is (heads.head_at (statement_words s ++ rest)) _ (None, statement_words s ++ rest) k.headless
     ∙ then_is (r.simple (statement_words s ++ rest)) _ (s, rest) k.read
 
 run_none : Runs []
@@ -174,10 +176,10 @@ open_turn : (around : List OpenBlock) (h i : BlockHead) (body : List Statement) 
 unfolding r.turn_at r.opening r.opened
 open_turn around h (head.Scatter i) body rest p =
     found_none (eat mark.CloseBrace (head_words (head.Scatter i) ++ rest)) _ _ refl
-    ∙ then_is (r.head_at (head_words (head.Scatter i) ++ rest)) _ (Some (head.Scatter i), rest) (head_full (head.Scatter i) p rest)
+    ∙ then_is (heads.head_at (head_words (head.Scatter i) ++ rest)) _ (Some (head.Scatter i), rest) (head_full (head.Scatter i) p rest)
 open_turn around h (head.Conditional i) body rest p =
     found_none (eat mark.CloseBrace (head_words (head.Conditional i) ++ rest)) _ _ refl
-    ∙ then_is (r.head_at (head_words (head.Conditional i) ++ rest)) _ (Some (head.Conditional i), rest) (head_full (head.Conditional i) p rest)
+    ∙ then_is (heads.head_at (head_words (head.Conditional i) ++ rest)) _ (Some (head.Conditional i), rest) (head_full (head.Conditional i) p rest)
 
 end_turn : (b : Block) (c : Span) (rest : Words) → r.turn_at b (marked mark.CloseBrace c ∷ rest) ≡ Ok (closing b.around (closed b.head b.body c), rest)
 unfolding r.turn_at r.ended
@@ -259,12 +261,12 @@ block_full h p xs q c tail =
     let text : statement_words (closed h xs c) ++ tail ≡ head_words h ++ rest = ap (λ z. z ++ tail) (closed_words h xs c) ∙ simp append_assoc in
     let inside = run xs q [] h [] end (brace_quiet c tail) (length rest) (no_more (length rest)) in
     ap r.statement text
-    ∙ then_is (r.head_at (head_words h ++ rest)) _ (Some h, rest) (head_full h p rest)
+    ∙ then_is (heads.head_at (head_words h ++ rest)) _ (Some h, rest) (head_full h p rest)
     ∙ inside.2 ∙ ended h xs c tail inside.0 inside.1
 
 simple_full : (s : Statement) (tail : Words) → Simple s tail → r.statement (statement_words s ++ tail) ≡ Ok (s, tail)
 unfolding r.statement
-simple_full s tail k = then_is (r.head_at (statement_words s ++ tail)) _ (None, statement_words s ++ tail) k.headless ∙ k.read
+simple_full s tail k = then_is (heads.head_at (statement_words s ++ tail)) _ (None, statement_words s ++ tail) k.headless ∙ k.read
 
 pub statement_full : (s : Statement) → IsStatement s → (tail : Words) → Quiet tail → r.statement (statement_words s ++ tail) ≡ Ok (s, tail)
 statement_full s (g.declaration d more p m) tail q = simple_full (st.Declaration d) tail (declaration_simple d p tail q)

@@ -24,15 +24,16 @@ use Rattle.wdl_ast.specs.declared.workflow.Call.{Call}
 use Rattle.wdl_ast.specs.Words.{Words, at, marked, keyword, ident, comma, words, items_words, questions_words, base_words, type_words}
 use Rattle.wdl_ast.specs.DocumentWords.{each, maybe, assigned_words, declaration_words, renaming_words, target_member_words, target_words, after_words, argument_words, call_inputs_words, call_body_words, call_words}
 use Rattle.wdl_ast.proofs.WordLaws.{words_type}
-use Rattle.wdl_parse_expr.specs.Outcome.{Outcome, Parser, then_, found, is_mark, is_word, sees, eat, eat_word, ident_at}
-use Rattle.wdl_parse_expr.specs.TypeGrammar as types
-use Rattle.wdl_parse_expr.specs.TypeGrammar.{type_tree, IsBase, IsTypeOver, TypeWithin, IsType}
-use Rattle.wdl_parse_expr.proofs.Steps.{ate, ate_word, ate_ident, sees_ident, then_is, found_some, found_none, cond_true, cond_false}
-use Rattle.wdl_parse_expr.proofs.Says.{Says, Takes, says_then, says_found, says_cond}
+use Rattle.token_reading.specs.Outcome.{Outcome, Parser, then_, found, is_mark, is_word, sees, eat, eat_word, ident_at}
+use Rattle.token_reading.specs.TypeGrammar as types
+use Rattle.token_reading.specs.TypeGrammar.{type_tree, IsBase, IsTypeOver, TypeWithin, IsType}
+use Rattle.token_reading.proofs.Steps.{ate, ate_word, ate_ident, sees_ident, then_is, found_some, found_none, cond_true, cond_false}
+use Rattle.token_reading.proofs.Says.{Says, Takes, says_then, says_found, says_cond}
 use Rattle.wdl_parse_doc.specs.Context as ctx
 use Rattle.wdl_parse_doc.specs.Context.{Stands, an_expression}
-use Rattle.wdl_parse_doc.specs.Grammar.{Each, IfThere, commas_fit, IsIdent, IsDeclaration, IsTarget, IsTargetMember, IsRenaming, IsAfter, IsArgument, IsArgumentItem, IsCallInputs, IsCallBody, IsCall}
-use Rattle.wdl_parse_doc.specs.Reading.Parts.{many, until, item}
+use Rattle.wdl_parse_parts.specs.Grammar.{Each, IfThere, commas_fit, IsIdent, IsDeclaration}
+use Rattle.wdl_parse_doc.specs.Grammar.{IsTarget, IsTargetMember, IsRenaming, IsAfter, IsArgument, IsArgumentItem, IsCallInputs, IsCallBody, IsCall}
+use Rattle.wdl_parse_parts.specs.Reading.Parts.{many, until, item}
 use Rattle.wdl_parse_doc.specs.Reading.Calls as r
 use Rattle.wdl_parse_doc.proofs.Formats.{Doc, SoundAt, Format, Worded, Parts, starts_some, next, behind_both, goes, listed, parts_until, until_ends}
 use Rattle.wdl_parse_doc.proofs.Leaves.{Any, a_mark, a_name, an_item}

@@ -17,14 +17,15 @@ use Rattle.wdl_ast.specs.declared.document.Section.{Section}
 use Rattle.wdl_ast.specs.declared.document.Section.TheVariants as section
 use Rattle.wdl_ast.specs.Words.{Words, at, marked, keyword, ident, plain_words, type_words}
 use Rattle.wdl_ast.specs.DocumentWords.{each, maybe, renaming_words, alias_words, import_words, struct_member_words, struct_words, section_words}
-use Rattle.wdl_parse_expr.specs.Outcome.{Outcome, Parser, then_, found, sees, eat, eat_word}
-use Rattle.wdl_parse_expr.proofs.Steps.{ate_word, then_is, found_some, found_none, cond_false, same, done}
-use Rattle.wdl_parse_expr.proofs.Says.{Says, Takes, says_then, says_found}
-use Rattle.wdl_parse_doc.specs.declared.part.Braced.{Braced}
+use Rattle.token_reading.specs.Outcome.{Outcome, Parser, then_, found, sees, eat, eat_word}
+use Rattle.token_reading.proofs.Steps.{ate_word, then_is, found_some, found_none, cond_false, same, done}
+use Rattle.token_reading.proofs.Says.{Says, Takes, says_then, says_found}
+use Rattle.wdl_parse_doc.specs.declared.part_list.Braced.{Braced}
 use Rattle.wdl_parse_doc.specs.Context as ctx
 use Rattle.wdl_parse_doc.specs.Context.{Stands}
-use Rattle.wdl_parse_doc.specs.Grammar.{Each, IfThere, IsIdent, IsAlias, IsImport, IsStructMember, IsStruct, IsSection}
-use Rattle.wdl_parse_doc.specs.Reading.Parts.{many, until}
+use Rattle.wdl_parse_parts.specs.Grammar.{Each, IfThere, IsIdent}
+use Rattle.wdl_parse_doc.specs.Grammar.{IsAlias, IsImport, IsStructMember, IsStruct, IsSection}
+use Rattle.wdl_parse_parts.specs.Reading.Parts.{many, until}
 use Rattle.wdl_parse_doc.specs.Reading.Documents as r
 use Rattle.wdl_parse_doc.proofs.Formats.{Doc, SoundAt, Format, Worded, Parts, starts_some, next, at_once, behind_both, goes, says_worded, listed, parts_until, until_ends}
 use Rattle.wdl_parse_doc.proofs.Leaves.{Any, a_mark, a_word, a_name, a_type, a_string}

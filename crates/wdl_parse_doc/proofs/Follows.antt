@@ -14,11 +14,11 @@ use Rattle.wdl_ast.specs.declared.type_tree.BaseType.{BaseType}
 use Rattle.wdl_ast.specs.declared.type_tree.TypeTree.{TypeTree}
 use Rattle.wdl_ast.specs.Words.{Words, at, marked, keyword, ident, comma, base_words, questions_words, type_words}
 use Rattle.wdl_ast.proofs.WordLaws.{words_type}
-use Rattle.wdl_parse_expr.specs.Outcome.{is_mark, is_word, sees, eat, eat_word}
-use Rattle.wdl_parse_expr.specs.TypeGrammar as types
-use Rattle.wdl_parse_expr.specs.TypeGrammar.{type_tree, IsBase, IsTypeOver, TypeWithin, IsType}
+use Rattle.token_reading.specs.Outcome.{is_mark, is_word, sees, eat, eat_word}
+use Rattle.token_reading.specs.TypeGrammar as types
+use Rattle.token_reading.specs.TypeGrammar.{type_tree, IsBase, IsTypeOver, TypeWithin, IsType}
 use Rattle.wdl_parse_expr.specs.Contract.{expr_continues, type_continues}
-use Rattle.wdl_parse_expr.proofs.Steps.{cond_false, marks}
+use Rattle.token_reading.proofs.Steps.{cond_false, marks}
 use Rattle.wdl_parse_doc.proofs.Formats.{starts_some}
 
 -- ---- a word, the closing brace, or nothing

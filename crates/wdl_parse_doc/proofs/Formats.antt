@@ -7,15 +7,14 @@ use Rattle.wdl_ast.specs.declared.token.Mark.TheVariants as mark
 use Rattle.wdl_ast.specs.declared.token.Token.{Token}
 use Rattle.wdl_ast.specs.Words.{Words, marked, keyword}
 use Rattle.wdl_ast.specs.DocumentWords.{each, maybe}
-use Rattle.wdl_parse_expr.specs.declared.fault.Fault.{Fault}
+use Rattle.token_reading.specs.declared.fault.Fault.{Fault}
 use Rattle.wdl_parse_expr.specs.Context.{Points}
-use Rattle.wdl_parse_expr.specs.Outcome.{Outcome, Parser, then_, found, is_mark, sees, eat, eat_word}
-use Rattle.wdl_parse_expr.specs.Reading.{one_more}
-use Rattle.wdl_parse_expr.proofs.Steps.{ate_word, then_is, found_some, found_none, cond_true, cond_false}
-use Rattle.wdl_parse_expr.proofs.Says.{Says, Takes, carry, says_then, says_found, says_cond}
+use Rattle.token_reading.specs.Outcome.{Outcome, Parser, then_, found, is_mark, sees, eat, eat_word, one_more}
+use Rattle.token_reading.proofs.Steps.{ate_word, then_is, found_some, found_none, cond_true, cond_false}
+use Rattle.token_reading.proofs.Says.{Says, Takes, carry, says_then, says_found, says_cond}
 use Rattle.wdl_parse_doc.specs.Context.{Cause}
-use Rattle.wdl_parse_doc.specs.Grammar.{Each, IfThere}
-use Rattle.wdl_parse_doc.specs.Reading.Parts.{many_from, many, until}
+use Rattle.wdl_parse_parts.specs.Grammar.{Each, IfThere}
+use Rattle.wdl_parse_parts.specs.Reading.Parts.{many_from, many, until}
 use Rattle.wdl_parse_doc.specs.Reading.Tasks.{mapped}
 
 -- what is said of a fault: its cause

@@ -19,22 +19,22 @@ use Rattle.wdl_ast.specs.declared.string.StringPart.{StringPart}
 use Rattle.wdl_ast.specs.declared.expr.Expr.{Expr}
 use Rattle.wdl_ast.specs.declared.type_tree.TypeTree.{TypeTree}
 use Rattle.wdl_ast.specs.Words.{Words, at, marked, keyword, ident, word, comma, plain_words, parts_words, words, type_words}
-use Rattle.wdl_parse_expr.specs.declared.fault.Fault.{Fault}
+use Rattle.token_reading.specs.declared.fault.Fault.{Fault}
 use Rattle.wdl_parse_expr.specs.Context.{Points, ExprCause, TypeCause}
-use Rattle.wdl_parse_expr.specs.Outcome.{Outcome, Parser, then_, found, is_mark, eat, eat_word, ident_at}
+use Rattle.token_reading.specs.Outcome.{Outcome, Parser, then_, found, is_mark, eat, eat_word, ident_at}
 use Rattle.wdl_parse_expr.specs.Grammar.{max_depth, IsExpr, AreParts}
-use Rattle.wdl_parse_expr.specs.TypeGrammar.{IsType}
-use Rattle.wdl_parse_expr.specs.Reading.{plain}
+use Rattle.token_reading.specs.TypeGrammar.{IsType}
+use Rattle.token_reading.specs.Strings.{plain}
 use Rattle.wdl_parse_expr.specs.Contract.{expr_continues, type_continues, read_expr, read_type, read_parts}
-use Rattle.wdl_parse_expr.proofs.Steps.{ate, ate_word, ate_ident, sees_ident, then_is, found_some, found_none, cond_true}
-use Rattle.wdl_parse_expr.proofs.Says.{Says, Takes, says_found}
-use Rattle.wdl_parse_expr.proofs.Strings.{Quiet, plain_sound, plain_full}
+use Rattle.token_reading.proofs.Steps.{ate, ate_word, ate_ident, sees_ident, then_is, found_some, found_none, cond_true}
+use Rattle.token_reading.proofs.Says.{Says, Takes, says_found}
+use Rattle.token_reading.proofs.Strings.{Quiet, plain_sound, plain_full}
 use Rattle.wdl_parse_expr.proofs.Readers.{expr_reads, expr_read, type_reads, type_read, parts_reads, parts_read}
 use Rattle.wdl_parse_doc.specs.Context as ctx
 use Rattle.wdl_parse_doc.specs.Context.{Stands, an_expression, a_command_part, WholeExpr}
-use Rattle.wdl_parse_doc.specs.Grammar.{IsIdent}
-use Rattle.wdl_parse_doc.specs.Reading.Parts.{need, mark_at, word_at, name_at, key_of, key_at, comma_at, item, attribute}
-use Rattle.wdl_parse_doc.specs.Reading.Sections.{fence_of, fence_at, fence_end_of, fence_end_at}
+use Rattle.wdl_parse_parts.specs.Grammar.{IsIdent}
+use Rattle.wdl_parse_parts.specs.Reading.Parts.{need, mark_at, word_at, name_at, key_of, key_at, comma_at, item, attribute}
+use Rattle.wdl_parse_parts.specs.Reading.Declarations.{fence_of, fence_at, fence_end_of, fence_end_at}
 use Rattle.wdl_parse_doc.proofs.Formats.{Doc, SoundAt, Format, next, at_once, goes}
 
 abbrev pub Any : {A : Type 0} → A → Type 0

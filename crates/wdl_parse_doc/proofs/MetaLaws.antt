@@ -16,17 +16,17 @@ use Rattle.wdl_ast.specs.declared.meta.MetaValue.TheVariants as meta
 use Rattle.wdl_ast.specs.Words.{Words, at, marked, keyword, comma, mark_words, plain_words, items_words, attributes_words, number_words, meta_words}
 use Rattle.wdl_ast.specs.DocumentWords.{each}
 use Rattle.wdl_ast.proofs.WordLaws.{meta_null, meta_true, meta_false, meta_number, meta_str, meta_object, meta_list}
-use Rattle.wdl_parse_expr.specs.Outcome.{Outcome, Parser, then_, found, too_deep, is_mark, sees, eat, eat_word}
-use Rattle.wdl_parse_expr.specs.Reading.{plain}
-use Rattle.wdl_parse_expr.proofs.Steps.{ate, ate_word, then_is, found_some, found_none, cond_true, cond_false}
-use Rattle.wdl_parse_expr.proofs.Says.{Says, Takes, says_then, says_found, says_cond}
+use Rattle.token_reading.specs.Outcome.{Outcome, Parser, then_, found, too_deep, is_mark, sees, eat, eat_word}
+use Rattle.token_reading.specs.Strings.{plain}
+use Rattle.token_reading.proofs.Steps.{ate, ate_word, then_is, found_some, found_none, cond_true, cond_false}
+use Rattle.token_reading.proofs.Says.{Says, Takes, says_then, says_found, says_cond}
 use Rattle.wdl_parse_doc.specs.Context as ctx
 use Rattle.wdl_parse_doc.specs.Context.{MetaPlace, an_entry, a_value, OpenMeta}
-use Rattle.wdl_parse_doc.specs.Grammar as g
-use Rattle.wdl_parse_doc.specs.Grammar.{Each, commas_fit, IsMetaOver, MetaWithin, max_meta_depth}
-use Rattle.wdl_parse_doc.specs.Reading.Parts.{need, until, item, attribute}
-use Rattle.wdl_parse_doc.specs.Reading.Metadata as r
-use Rattle.wdl_parse_doc.specs.Reading.Metadata.{number_of, number_at, meta_at}
+use Rattle.wdl_parse_parts.specs.Grammar as g
+use Rattle.wdl_parse_parts.specs.Grammar.{Each, commas_fit, IsMetaOver, MetaWithin, max_meta_depth}
+use Rattle.wdl_parse_parts.specs.Reading.Parts.{need, until, item, attribute}
+use Rattle.wdl_parse_parts.specs.Reading.Metadata as r
+use Rattle.wdl_parse_parts.specs.Reading.Metadata.{number_of, number_at, meta_at}
 use Rattle.wdl_parse_doc.proofs.Formats.{Doc, SoundAt, Format, Parts, starts_some, next, goes, listed, parts_until, until_ends}
 use Rattle.wdl_parse_doc.proofs.Leaves.{Any, need_says, need_is, a_mark, a_string, an_item, an_attribute, item_words, attribute_words}
 use Rattle.wdl_parse_doc.proofs.Follows.{Settled, settled_comma, mark_apart}

@@ -7,19 +7,20 @@ use Rattle.wdl_ast.specs.declared.document.Section.{Section}
 use Rattle.wdl_ast.specs.declared.document.Document.{Document}
 use Rattle.wdl_ast.specs.Words.{Words, at, keyword}
 use Rattle.wdl_ast.specs.DocumentWords.{each, section_words, document_words}
-use Rattle.wdl_parse_expr.specs.declared.fault.Fault.{Fault}
-use Rattle.wdl_parse_expr.specs.declared.fault.Refusal.{Refusal}
-use Rattle.wdl_parse_expr.specs.declared.fault.Refusal.TheVariants.{Missing, Bad}
-use Rattle.wdl_parse_expr.specs.declared.fault.Stop.{Stop}
-use Rattle.wdl_parse_expr.specs.declared.fault.Stop.TheVariants as stop
-use Rattle.wdl_parse_expr.specs.declared.fault.ParseFault.{ParseFault}
-use Rattle.wdl_parse_expr.specs.declared.fault.ParseFault.TheVariants as fault
-use Rattle.wdl_parse_expr.specs.Outcome.{Fails}
+use Rattle.token_reading.specs.declared.fault.Fault.{Fault}
+use Rattle.token_reading.specs.declared.fault.Refusal.{Refusal}
+use Rattle.token_reading.specs.declared.fault.Refusal.TheVariants.{Missing, Bad}
+use Rattle.token_reading.specs.declared.fault.Stop.{Stop}
+use Rattle.token_reading.specs.declared.fault.Stop.TheVariants as stop
+use Rattle.token_reading.specs.declared.fault.ParseFault.{ParseFault}
+use Rattle.token_reading.specs.declared.fault.ParseFault.TheVariants as fault
+use Rattle.token_reading.specs.Outcome.{Fails}
 use Rattle.wdl_parse_expr.specs.Contract.{IsSpanOf, IsPlaced, IfBad, FaultOf}
-use Rattle.wdl_parse_expr.proofs.Steps.{same, done}
-use Rattle.wdl_parse_expr.proofs.Says.{Says, said, blamed}
+use Rattle.token_reading.proofs.Steps.{same, done}
+use Rattle.token_reading.proofs.Says.{Says, said, blamed}
 use Rattle.wdl_parse_doc.specs.Context.{first}
-use Rattle.wdl_parse_doc.specs.Grammar.{Each, IsSection, IsDocument}
+use Rattle.wdl_parse_parts.specs.Grammar.{Each}
+use Rattle.wdl_parse_doc.specs.Grammar.{IsSection, IsDocument}
 use Rattle.wdl_parse_doc.specs.Contract.{Written, IsNoDocument, begins_version, version_span, BehindVersion, Because, RefusesDocument, OneDocument}
 use Rattle.wdl_parse_doc.specs.Reading.Documents.{sections}
 use Rattle.wdl_parse_doc.proofs.Formats.{Doc}

@@ -20,17 +20,19 @@ use Rattle.wdl_ast.specs.declared.task.RuntimeSection.{RuntimeSection}
 use Rattle.wdl_ast.specs.declared.task.CommandSection.{CommandSection}
 use Rattle.wdl_ast.specs.Words.{Words, at, marked, keyword, ident, comma, words, type_words, parts_words, attributes_words, meta_words}
 use Rattle.wdl_ast.specs.DocumentWords.{each, maybe, declaration_words, assigned_words, input_words, inputs_words, outputs_words, metadata_words, runtime_words, command_words}
-use Rattle.wdl_parse_expr.specs.Outcome.{Outcome, Parser, then_, found, sees, eat, eat_word}
+use Rattle.token_reading.specs.Outcome.{Outcome, Parser, then_, found, sees, eat, eat_word}
 use Rattle.wdl_parse_expr.specs.Contract.{expr_continues}
-use Rattle.wdl_parse_expr.proofs.Steps.{ate, then_is, found_some, found_none}
-use Rattle.wdl_parse_expr.proofs.Says.{Says, Takes, says_then, says_found}
-use Rattle.wdl_parse_doc.specs.declared.part.Braced.{Braced}
+use Rattle.token_reading.proofs.Steps.{ate, then_is, found_some, found_none}
+use Rattle.token_reading.proofs.Says.{Says, Takes, says_then, says_found}
+use Rattle.wdl_parse_doc.specs.declared.part_list.Braced.{Braced}
 use Rattle.wdl_parse_doc.specs.Context as ctx
 use Rattle.wdl_parse_doc.specs.Context.{Place, IsBody, IsMetaWord, Stands, an_expression}
-use Rattle.wdl_parse_doc.specs.Grammar.{Each, IfThere, IsDeclaration, IsAssigned, IsInput, IsInputs, IsOutputs, IsMetadata, IsRuntimeAttribute, IsRuntime, IsCommand}
-use Rattle.wdl_parse_doc.specs.Reading.Parts.{braced}
-use Rattle.wdl_parse_doc.specs.Reading.Metadata.{metadata}
+use Rattle.wdl_parse_parts.specs.Grammar.{Each, IfThere, IsDeclaration, IsAssigned, IsInput, IsRuntimeAttribute, IsCommand}
+use Rattle.wdl_parse_doc.specs.Grammar.{IsInputs, IsOutputs, IsMetadata, IsRuntime}
+use Rattle.wdl_parse_doc.specs.Reading.Lists.{braced}
+use Rattle.wdl_parse_doc.specs.Reading.Sections.{metadata}
 use Rattle.wdl_parse_doc.specs.Reading.Sections as r
+use Rattle.wdl_parse_parts.specs.Reading.Declarations as decls
 use Rattle.wdl_parse_doc.proofs.Formats.{Doc, SoundAt, Format, Worded, Parts, starts_some, next, at_once, behind_both, goes, listed, parts_until, until_ends}
 use Rattle.wdl_parse_doc.proofs.Leaves.{Any, a_mark, a_name, an_expr, a_type, a_fence, a_fence_end, command_parts, an_attribute}
 use Rattle.wdl_parse_doc.proofs.Follows.{Settled, settled_expr, settled_eat, settled_comma, comma_expr, type_settled, type_apart, type_some}
@@ -79,8 +81,8 @@ module _ {A : Type 0} (P : Parts A) (ends : EndsAtBrace P) where
 assigned_at : (front : Words) (t : TypeTree) (n : Ident) (s : Span) → Stands an_expression (front ++ (type_words t ++ ident n ∷ marked mark.Assign s ∷ [])) → Stands an_expression (front ++ ((type_words t ++ ident n ∷ []) ++ marked mark.Assign s ∷ []))
 assigned_at front t n s here = subst (λ z. Stands an_expression (front ++ z)) (sym (append_assoc (type_words t) (ident n ∷ []) (marked mark.Assign s ∷ []))) here
 
-pub declaration_sound : SoundAt (Stands ctx.a_declaration) IsDeclaration declaration_words r.declaration
-unfolding r.declaration
+pub declaration_sound : SoundAt (Stands ctx.a_declaration) IsDeclaration declaration_words decls.declaration
+unfolding decls.declaration
 declaration_sound doc front ts eq here =
     let R : Declaration → Words → Type 0 = Takes IsDeclaration declaration_words ts in
     next a_type R doc front ts eq [] ts _ refl (at_once (Stands ctx.a_type) front (ctx.declaration_type front here)) (λ t a p e.
@@ -88,26 +90,26 @@ declaration_sound doc front ts eq here =
     next (a_mark mark.Assign refl) R doc front ts eq (type_words t ++ ident n ∷ []) b _ f tt (λ s c z g.
     next an_expr R doc front ts eq ((type_words t ++ ident n ∷ []) ++ marked mark.Assign s ∷ []) c _ g (assigned_at front t n s (ctx.declaration_value front t n s p q here)) (λ v d x h. (h ∙ simp append_assoc, (p, q, x))))))
 
-pub declaration_full : (d : Declaration) → IsDeclaration d → (tail : Words) → Settled tail → r.declaration (declaration_words d ++ tail) ≡ Ok (d, tail)
-unfolding r.declaration
+pub declaration_full : (d : Declaration) → IsDeclaration d → (tail : Words) → Settled tail → decls.declaration (declaration_words d ++ tail) ≡ Ok (d, tail)
+unfolding decls.declaration
 declaration_full d p tail h =
     let last : Words = words d.value ++ tail in
     let text : declaration_words d ++ tail ≡ type_words d.ty ++ ident d.name ∷ marked mark.Assign d.assign ∷ last = simp append_assoc in
-    ap r.declaration text
+    ap decls.declaration text
     ∙ goes a_type d.ty (ident d.name ∷ marked mark.Assign d.assign ∷ last) _ p.0 refl
     ∙ goes a_name d.name (marked mark.Assign d.assign ∷ last) _ p.1 tt
     ∙ goes (a_mark mark.Assign refl) d.assign last _ tt tt
     ∙ goes an_expr d.value tail _ p.2 (settled_expr tail h)
 
 abbrev pub a_declaration : Format Declaration
-a_declaration = record { is = IsDeclaration; words = declaration_words; read = r.declaration; before = Settled; stands = Stands ctx.a_declaration; sound = declaration_sound; full = declaration_full }
+a_declaration = record { is = IsDeclaration; words = declaration_words; read = decls.declaration; before = Settled; stands = Stands ctx.a_declaration; sound = declaration_sound; full = declaration_full }
 
 -- behind `=` an expression stands
 abbrev pub ValueStands : Words → Type 0
 ValueStands front = (s : Span) → Stands an_expression (front ++ marked mark.Assign s ∷ [])
 
-pub assigned_sound : SoundAt ValueStands (IfThere IsAssigned) (maybe assigned_words) r.assigned
-unfolding r.assigned
+pub assigned_sound : SoundAt ValueStands (IfThere IsAssigned) (maybe assigned_words) decls.assigned
+unfolding decls.assigned
 assigned_sound doc front ts eq here =
     let R : Option Assigned → Words → Type 0 = Takes (IfThere IsAssigned) (maybe assigned_words) ts in
     says_found (Doc doc) R (eat mark.Assign ts) _ _ (λ s h. next an_expr R doc front ts eq (marked mark.Assign s.0 ∷ []) s.1 _ (ate mark.Assign ts s h) (here s.0) (λ v a p e. (e, p))) (λ _. (refl, tt))
@@ -123,34 +125,34 @@ pub comma_unassigned : (m : Option Span) (tail : Words) → Settled tail → Una
 comma_unassigned (Some s) tail h = (refl, refl)
 comma_unassigned None tail h = settled_unassigned tail h
 
-pub assigned_full : (a : Option Assigned) → IfThere IsAssigned a → (tail : Words) → Unassigned tail → r.assigned (maybe assigned_words a ++ tail) ≡ Ok (a, tail)
-unfolding r.assigned
+pub assigned_full : (a : Option Assigned) → IfThere IsAssigned a → (tail : Words) → Unassigned tail → decls.assigned (maybe assigned_words a ++ tail) ≡ Ok (a, tail)
+unfolding decls.assigned
 assigned_full None p tail h = found_none (eat mark.Assign tail) _ _ h.1
 assigned_full (Some a) p tail h = found_some (eat mark.Assign (marked mark.Assign a.assign ∷ (words a.value ++ tail))) _ _ (a.assign, words a.value ++ tail) refl ∙ goes an_expr a.value tail _ p h.0
 
 abbrev pub an_assigned : Format (Option Assigned)
-an_assigned = record { is = IfThere IsAssigned; words = maybe assigned_words; read = r.assigned; before = Unassigned; stands = ValueStands; sound = assigned_sound; full = assigned_full }
+an_assigned = record { is = IfThere IsAssigned; words = maybe assigned_words; read = decls.assigned; before = Unassigned; stands = ValueStands; sound = assigned_sound; full = assigned_full }
 
-pub input_sound : SoundAt (Stands ctx.an_input) IsInput input_words r.input
-unfolding r.input
+pub input_sound : SoundAt (Stands ctx.an_input) IsInput input_words decls.input
+unfolding decls.input
 input_sound doc front ts eq here =
     let R : InputDeclaration → Words → Type 0 = Takes IsInput input_words ts in
     next a_type R doc front ts eq [] ts _ refl (at_once (Stands ctx.a_type) front (ctx.input_type front here)) (λ t a p e.
     next a_name R doc front ts eq (type_words t) a _ e tt (λ n b q f.
     next an_assigned R doc front ts eq (type_words t ++ ident n ∷ []) b _ f (λ s. behind_both (Stands an_expression) front (type_words t ++ ident n ∷ []) (marked mark.Assign s ∷ []) (assigned_at front t n s (ctx.input_value front t n s p q here))) (λ v c x g. (g ∙ simp append_assoc, (p, q, x)))))
 
-pub input_full : (i : InputDeclaration) → IsInput i → (tail : Words) → Settled tail → r.input (input_words i ++ tail) ≡ Ok (i, tail)
-unfolding r.input
+pub input_full : (i : InputDeclaration) → IsInput i → (tail : Words) → Settled tail → decls.input (input_words i ++ tail) ≡ Ok (i, tail)
+unfolding decls.input
 input_full i p tail h =
     let last : Words = maybe assigned_words i.preset ++ tail in
     let text : input_words i ++ tail ≡ type_words i.ty ++ ident i.name ∷ last = simp append_assoc in
-    ap r.input text
+    ap decls.input text
     ∙ goes a_type i.ty (ident i.name ∷ last) _ p.0 refl
     ∙ goes a_name i.name last _ p.1 tt
     ∙ goes an_assigned i.preset tail _ p.2 (settled_unassigned tail h)
 
 abbrev pub an_input : Format InputDeclaration
-an_input = record { is = IsInput; words = input_words; read = r.input; before = Settled; stands = Stands ctx.an_input; sound = input_sound; full = input_full }
+an_input = record { is = IsInput; words = input_words; read = decls.input; before = Settled; stands = Stands ctx.an_input; sound = input_sound; full = input_full }
 
 -- ---- lists of declarations in braces
 
@@ -185,10 +187,10 @@ abbrev pub InBody : Words → Type 0
 InBody front = (p : Place) × IsBody p × Stands p front
 
 abbrev pub braced_inputs : Format (Braced InputDeclaration)
-braced_inputs = in_braces input_declarations (λ c rest. (refl, until_ends mark.CloseBrace r.input (marked mark.CloseBrace c ∷ rest) refl))
+braced_inputs = in_braces input_declarations (λ c rest. (refl, until_ends mark.CloseBrace decls.input (marked mark.CloseBrace c ∷ rest) refl))
 
 abbrev pub braced_outputs : Format (Braced Declaration)
-braced_outputs = in_braces declarations (λ c rest. (refl, until_ends mark.CloseBrace r.declaration (marked mark.CloseBrace c ∷ rest) refl))
+braced_outputs = in_braces declarations (λ c rest. (refl, until_ends mark.CloseBrace decls.declaration (marked mark.CloseBrace c ∷ rest) refl))
 
 pub inputs_sound : (doc front : Words) (k : Span) (ts : Words) → doc ≡ front ++ keyword (codes "input") k ∷ ts → InBody front → Says (Doc doc) (Takes IsInputs inputs_words (keyword (codes "input") k ∷ ts)) (r.inputs k ts)
 unfolding r.inputs
@@ -260,8 +262,8 @@ a_meta_section w m = record { is = IsMetadata; words = metadata_words w; read = 
 
 -- ---- commands
 
-pub command_sound : (doc front : Words) (k : Span) (ts : Words) → doc ≡ front ++ keyword (codes "command") k ∷ ts → Stands ctx.a_task_element front → Says (Doc doc) (Takes IsCommand command_words (keyword (codes "command") k ∷ ts)) (r.command k ts)
-unfolding r.command
+pub command_sound : (doc front : Words) (k : Span) (ts : Words) → doc ≡ front ++ keyword (codes "command") k ∷ ts → Stands ctx.a_task_element front → Says (Doc doc) (Takes IsCommand command_words (keyword (codes "command") k ∷ ts)) (decls.command k ts)
+unfolding decls.command
 command_sound doc front k ts eq here =
     let all : Words = keyword (codes "command") k ∷ ts in
     let R : CommandSection → Words → Type 0 = Takes IsCommand command_words all in
@@ -269,8 +271,8 @@ command_sound doc front k ts eq here =
     next command_parts R doc front all eq (keyword (codes "command") k ∷ at (kind.CommandOpen f.0) f.1 ∷ []) a _ e (ctx.command front k f.0 f.1 here) (λ ps b p g.
     next a_fence_end R doc front all eq (keyword (codes "command") k ∷ at (kind.CommandOpen f.0) f.1 ∷ parts_words words ps) b _ g tt (λ c d y h. (h, p))))
 
-pub command_full : (s : CommandSection) → IsCommand s → (tail : Words) → Any tail → (k : Span) × (rest : Words) × (command_words s ++ tail ≡ keyword (codes "command") k ∷ rest) × (r.command k rest ≡ Ok (s, tail))
-unfolding r.command
+pub command_full : (s : CommandSection) → IsCommand s → (tail : Words) → Any tail → (k : Span) × (rest : Words) × (command_words s ++ tail ≡ keyword (codes "command") k ∷ rest) × (decls.command k rest ≡ Ok (s, tail))
+unfolding decls.command
 command_full s p tail q =
     let last : Words = at kind.CommandClose s.closing ∷ tail in
     let text : command_words s ++ tail ≡ keyword (codes "command") s.keyword ∷ at (kind.CommandOpen s.fence) s.opening ∷ (parts_words words s.parts ++ last) = simp append_assoc in (
@@ -283,4 +285,4 @@ command_full s p tail q =
     )
 
 abbrev pub a_command_section : Worded CommandSection (codes "command")
-a_command_section = record { is = IsCommand; words = command_words; read = r.command; before = Any; stands = Stands ctx.a_task_element; sound = command_sound; full = command_full }
+a_command_section = record { is = IsCommand; words = command_words; read = decls.command; before = Any; stands = Stands ctx.a_task_element; sound = command_sound; full = command_full }

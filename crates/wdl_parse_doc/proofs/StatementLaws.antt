@@ -14,19 +14,21 @@ use Rattle.wdl_ast.specs.declared.workflow.Statement.TheVariants as st
 use Rattle.wdl_ast.specs.Words.{Words, at, marked, keyword, ident, words, type_words}
 use Rattle.wdl_ast.specs.DocumentWords.{each, maybe, declaration_words, call_words, statement_words}
 use Rattle.wdl_ast.proofs.StatementLaws.{words_declaration, words_call, words_scatter, words_conditional}
-use Rattle.wdl_parse_expr.specs.Outcome.{Outcome, Parser, then_, found, is_mark, sees, eat, eat_word}
-use Rattle.wdl_parse_expr.proofs.Steps.{ate_word, then_is, found_some, found_none, cond_false}
-use Rattle.wdl_parse_expr.proofs.Says.{Says, Takes, says_then, says_found}
-use Rattle.wdl_parse_doc.specs.declared.head.ScatterHead.{ScatterHead}
-use Rattle.wdl_parse_doc.specs.declared.head.ConditionalHead.{ConditionalHead}
-use Rattle.wdl_parse_doc.specs.declared.head.BlockHead.{BlockHead}
-use Rattle.wdl_parse_doc.specs.declared.head.BlockHead.TheVariants as head
+use Rattle.token_reading.specs.Outcome.{Outcome, Parser, then_, found, is_mark, sees, eat, eat_word}
+use Rattle.token_reading.proofs.Steps.{ate_word, then_is, found_some, found_none, cond_false}
+use Rattle.token_reading.proofs.Says.{Says, Takes, says_then, says_found}
+use Rattle.wdl_parse_parts.specs.declared.heads.ScatterHead.{ScatterHead}
+use Rattle.wdl_parse_parts.specs.declared.heads.ConditionalHead.{ConditionalHead}
+use Rattle.wdl_parse_parts.specs.declared.heads.BlockHead.{BlockHead}
+use Rattle.wdl_parse_parts.specs.declared.heads.BlockHead.TheVariants as head
 use Rattle.wdl_parse_doc.specs.Context as ctx
 use Rattle.wdl_parse_doc.specs.Context.{Stands}
 use Rattle.wdl_parse_doc.specs.Grammar as g
-use Rattle.wdl_parse_doc.specs.Grammar.{Each, IfThere, IsIdent, IsDeclaration, IsCall, AreStatements, IsStatement}
+use Rattle.wdl_parse_parts.specs.Grammar.{Each, IfThere, IsIdent, IsDeclaration}
+use Rattle.wdl_parse_doc.specs.Grammar.{IsCall, AreStatements, IsStatement}
 use Rattle.wdl_parse_doc.specs.Reading.Blocks as r
-use Rattle.wdl_parse_doc.specs.Reading.Blocks.{closed, there}
+use Rattle.wdl_parse_parts.specs.Reading.Heads as heads
+use Rattle.wdl_parse_parts.specs.Reading.Heads.{closed, there}
 use Rattle.wdl_parse_expr.specs.Grammar.{IsExpr}
 use Rattle.wdl_parse_doc.proofs.Formats.{Doc, SoundAt, Format, Worded, starts_some, next, at_once, goes, says_worded}
 use Rattle.wdl_parse_doc.proofs.Leaves.{Any, a_mark, a_word, a_name, an_expr}
@@ -46,8 +48,8 @@ abbrev pub IsHead : BlockHead → Type 0
 IsHead (head.Scatter h) = IsIdent h.item × IsExpr h.over
 IsHead (head.Conditional h) = IsExpr h.condition
 
-scatter_sound : (doc front : Words) (k : Span) (ts : Words) → doc ≡ front ++ keyword (codes "scatter") k ∷ ts → Stands ctx.a_statement front → Says (Doc doc) (Takes IsHead head_words (keyword (codes "scatter") k ∷ ts)) (r.scatter_head k ts)
-unfolding r.scatter_head
+scatter_sound : (doc front : Words) (k : Span) (ts : Words) → doc ≡ front ++ keyword (codes "scatter") k ∷ ts → Stands ctx.a_statement front → Says (Doc doc) (Takes IsHead head_words (keyword (codes "scatter") k ∷ ts)) (heads.scatter_head k ts)
+unfolding heads.scatter_head
 scatter_sound doc front k ts eq here =
     let all : Words = keyword (codes "scatter") k ∷ ts in
     let R : BlockHead → Words → Type 0 = Takes IsHead head_words all in
@@ -59,8 +61,8 @@ scatter_sound doc front k ts eq here =
     next (a_mark mark.OpenBrace refl) R doc front all eq ((keyword (codes "scatter") k ∷ marked mark.OpenParen p ∷ ident n ∷ keyword (codes "in") i ∷ words x) ++ marked mark.CloseParen q ∷ []) y _ t5 tt (λ o z _ t6.
     (t6 ∙ simp append_assoc, (named, over))))))))
 
-conditional_sound : (doc front : Words) (k : Span) (ts : Words) → doc ≡ front ++ keyword (codes "if") k ∷ ts → Stands ctx.a_statement front → Says (Doc doc) (Takes IsHead head_words (keyword (codes "if") k ∷ ts)) (r.conditional_head k ts)
-unfolding r.conditional_head
+conditional_sound : (doc front : Words) (k : Span) (ts : Words) → doc ≡ front ++ keyword (codes "if") k ∷ ts → Stands ctx.a_statement front → Says (Doc doc) (Takes IsHead head_words (keyword (codes "if") k ∷ ts)) (heads.conditional_head k ts)
+unfolding heads.conditional_head
 conditional_sound doc front k ts eq here =
     let all : Words = keyword (codes "if") k ∷ ts in
     let R : BlockHead → Words → Type 0 = Takes IsHead head_words all in
@@ -76,16 +78,16 @@ HeadOf ts x rest = (ts ≡ maybe head_words x ++ rest) × IfThere IsHead x
 there_says : (doc ts rest : Words) (o : Outcome BlockHead) → Says (Doc doc) (Takes IsHead head_words ts) o → Says (Doc doc) (HeadOf ts) (there o)
 there_says doc ts rest o s = says_then (Doc doc) (Takes IsHead head_words ts) (HeadOf ts) o _ s (λ x r t. t)
 
-pub head_sound : (doc front ts : Words) → doc ≡ front ++ ts → Stands ctx.a_statement front → Says (Doc doc) (HeadOf ts) (r.head_at ts)
-unfolding r.head_at
+pub head_sound : (doc front ts : Words) → doc ≡ front ++ ts → Stands ctx.a_statement front → Says (Doc doc) (HeadOf ts) (heads.head_at ts)
+unfolding heads.head_at
 head_sound doc front ts eq here =
-    says_found (Doc doc) (HeadOf ts) (eat_word (codes "scatter") ts) _ _ (λ k h. there_says doc ts k.1 (r.scatter_head k.0 k.1) (subst (λ z. Says (Doc doc) (Takes IsHead head_words z) (r.scatter_head k.0 k.1)) (sym (ate_word (codes "scatter") ts k h)) (scatter_sound doc front k.0 k.1 (eq ∙ ap (λ z. front ++ z) (ate_word (codes "scatter") ts k h)) here))) (λ _.
-    says_found (Doc doc) (HeadOf ts) (eat_word (codes "if") ts) _ _ (λ k h. there_says doc ts k.1 (r.conditional_head k.0 k.1) (subst (λ z. Says (Doc doc) (Takes IsHead head_words z) (r.conditional_head k.0 k.1)) (sym (ate_word (codes "if") ts k h)) (conditional_sound doc front k.0 k.1 (eq ∙ ap (λ z. front ++ z) (ate_word (codes "if") ts k h)) here))) (λ _.
+    says_found (Doc doc) (HeadOf ts) (eat_word (codes "scatter") ts) _ _ (λ k h. there_says doc ts k.1 (heads.scatter_head k.0 k.1) (subst (λ z. Says (Doc doc) (Takes IsHead head_words z) (heads.scatter_head k.0 k.1)) (sym (ate_word (codes "scatter") ts k h)) (scatter_sound doc front k.0 k.1 (eq ∙ ap (λ z. front ++ z) (ate_word (codes "scatter") ts k h)) here))) (λ _.
+    says_found (Doc doc) (HeadOf ts) (eat_word (codes "if") ts) _ _ (λ k h. there_says doc ts k.1 (heads.conditional_head k.0 k.1) (subst (λ z. Says (Doc doc) (Takes IsHead head_words z) (heads.conditional_head k.0 k.1)) (sym (ate_word (codes "if") ts k h)) (conditional_sound doc front k.0 k.1 (eq ∙ ap (λ z. front ++ z) (ate_word (codes "if") ts k h)) here))) (λ _.
     (refl, tt)))
 
 scatter_full : (h : ScatterHead) → IsIdent h.item → IsExpr h.over → (tail : Words)
-    → r.scatter_head h.keyword (marked mark.OpenParen h.opening_paren ∷ ident h.item ∷ keyword (codes "in") h.in_word ∷ (words h.over ++ marked mark.CloseParen h.closing_paren ∷ marked mark.OpenBrace h.opening ∷ tail)) ≡ Ok (head.Scatter h, tail)
-unfolding r.scatter_head
+    → heads.scatter_head h.keyword (marked mark.OpenParen h.opening_paren ∷ ident h.item ∷ keyword (codes "in") h.in_word ∷ (words h.over ++ marked mark.CloseParen h.closing_paren ∷ marked mark.OpenBrace h.opening ∷ tail)) ≡ Ok (head.Scatter h, tail)
+unfolding heads.scatter_head
 scatter_full h named over tail =
     let last : Words = marked mark.CloseParen h.closing_paren ∷ marked mark.OpenBrace h.opening ∷ tail in
     goes (a_mark mark.OpenParen refl) h.opening_paren (ident h.item ∷ keyword (codes "in") h.in_word ∷ (words h.over ++ last)) _ tt tt
@@ -96,8 +98,8 @@ scatter_full h named over tail =
     ∙ goes (a_mark mark.OpenBrace refl) h.opening tail _ tt tt
 
 conditional_full : (h : ConditionalHead) → IsExpr h.condition → (tail : Words)
-    → r.conditional_head h.keyword (marked mark.OpenParen h.opening_paren ∷ (words h.condition ++ marked mark.CloseParen h.closing_paren ∷ marked mark.OpenBrace h.opening ∷ tail)) ≡ Ok (head.Conditional h, tail)
-unfolding r.conditional_head
+    → heads.conditional_head h.keyword (marked mark.OpenParen h.opening_paren ∷ (words h.condition ++ marked mark.CloseParen h.closing_paren ∷ marked mark.OpenBrace h.opening ∷ tail)) ≡ Ok (head.Conditional h, tail)
+unfolding heads.conditional_head
 conditional_full h condition tail =
     let last : Words = marked mark.CloseParen h.closing_paren ∷ marked mark.OpenBrace h.opening ∷ tail in
     goes (a_mark mark.OpenParen refl) h.opening_paren (words h.condition ++ last) _ tt tt
@@ -105,24 +107,24 @@ conditional_full h condition tail =
     ∙ goes (a_mark mark.CloseParen refl) h.closing_paren (marked mark.OpenBrace h.opening ∷ tail) _ tt tt
     ∙ goes (a_mark mark.OpenBrace refl) h.opening tail _ tt tt
 
-pub head_full : (h : BlockHead) → IsHead h → (tail : Words) → r.head_at (head_words h ++ tail) ≡ Ok (Some h, tail)
-unfolding r.head_at
+pub head_full : (h : BlockHead) → IsHead h → (tail : Words) → heads.head_at (head_words h ++ tail) ≡ Ok (Some h, tail)
+unfolding heads.head_at
 head_full (head.Scatter h) p tail =
     let rest : Words = marked mark.OpenParen h.opening_paren ∷ ident h.item ∷ keyword (codes "in") h.in_word ∷ (words h.over ++ marked mark.CloseParen h.closing_paren ∷ marked mark.OpenBrace h.opening ∷ tail) in
     let text : head_words (head.Scatter h) ++ tail ≡ keyword (codes "scatter") h.keyword ∷ rest = simp append_assoc in
-    ap r.head_at text
+    ap heads.head_at text
     ∙ found_some (eat_word (codes "scatter") (keyword (codes "scatter") h.keyword ∷ rest)) _ _ (h.keyword, rest) refl
-    ∙ then_is (r.scatter_head h.keyword rest) _ (head.Scatter h, tail) (scatter_full h p.0 p.1 tail)
+    ∙ then_is (heads.scatter_head h.keyword rest) _ (head.Scatter h, tail) (scatter_full h p.0 p.1 tail)
 head_full (head.Conditional h) p tail =
     let rest : Words = marked mark.OpenParen h.opening_paren ∷ (words h.condition ++ marked mark.CloseParen h.closing_paren ∷ marked mark.OpenBrace h.opening ∷ tail) in
     let text : head_words (head.Conditional h) ++ tail ≡ keyword (codes "if") h.keyword ∷ rest = simp append_assoc in
-    ap r.head_at text
+    ap heads.head_at text
     ∙ found_none (eat_word (codes "scatter") (keyword (codes "if") h.keyword ∷ rest)) _ _ refl
     ∙ found_some (eat_word (codes "if") (keyword (codes "if") h.keyword ∷ rest)) _ _ (h.keyword, rest) refl
-    ∙ then_is (r.conditional_head h.keyword rest) _ (head.Conditional h, tail) (conditional_full h p tail)
+    ∙ then_is (heads.conditional_head h.keyword rest) _ (head.Conditional h, tail) (conditional_full h p tail)
 
-pub no_head : (ts : Words) → eat_word (codes "scatter") ts ≡ None → eat_word (codes "if") ts ≡ None → r.head_at ts ≡ Ok (None, ts)
-unfolding r.head_at
+pub no_head : (ts : Words) → eat_word (codes "scatter") ts ≡ None → eat_word (codes "if") ts ≡ None → heads.head_at ts ≡ Ok (None, ts)
+unfolding heads.head_at
 no_head ts h q = found_none (eat_word (codes "scatter") ts) _ _ h ∙ found_none (eat_word (codes "if") ts) _ _ q
 
 -- ---- the block of a head
@@ -163,7 +165,7 @@ simple_sound doc front ts eq here =
 -- a statement that is read at once
 pub record Simple (s : Statement) (tail : Words) : Type 0 where
   pub read : r.simple (statement_words s ++ tail) ≡ Ok (s, tail)
-  pub headless : r.head_at (statement_words s ++ tail) ≡ Ok (None, statement_words s ++ tail)
+  pub headless : heads.head_at (statement_words s ++ tail) ≡ Ok (None, statement_words s ++ tail)
   pub goes_on : eat mark.CloseBrace (statement_words s ++ tail) ≡ None
   pub some : 0 < length (statement_words s)
 
@@ -173,13 +175,13 @@ not_closing [] h = refl
 not_closing (t ∷ ts) h = cond_false (is_mark mark.CloseBrace t.kind) _ _ h
 
 pub call_simple : (c : Call) → IsCall c → (tail : Words) → Quiet tail → Simple (st.Call c) tail
-unfolding r.simple r.head_at
+unfolding r.simple heads.head_at
 call_simple c p tail h =
     let b = a_call.full c p tail h in
     let text : statement_words (st.Call c) ++ tail ≡ keyword (codes "call") b.0 ∷ b.1 = ap (λ z. z ++ tail) (words_call c) ∙ b.2 in
     record {
       read = ap r.simple text ∙ found_some (eat_word (codes "call") (keyword (codes "call") b.0 ∷ b.1)) _ _ (b.0, b.1) refl ∙ then_is (a_call.read b.0 b.1) _ (c, tail) b.3;
-      headless = subst (λ z. r.head_at z ≡ Ok (None, z)) (sym text) (no_head (keyword (codes "call") b.0 ∷ b.1) refl refl);
+      headless = subst (λ z. heads.head_at z ≡ Ok (None, z)) (sym text) (no_head (keyword (codes "call") b.0 ∷ b.1) refl refl);
       goes_on = ap (eat mark.CloseBrace) text;
       some = starts_some _ _ _ (words_call c);
     }
@@ -191,7 +193,7 @@ declaration_simple d p tail h =
     let none : (w : List ℕ) → begins_type w ≡ false → eat_word w (declaration_words d ++ tail) ≡ None = λ w q. ap (eat_word w) (append_assoc (type_words d.ty) (ident d.name ∷ marked mark.Assign d.assign ∷ words d.value) tail) ∙ type_word w q d.ty p.0 _ in
     record {
       read = ap r.simple text ∙ found_none (eat_word (codes "call") (declaration_words d ++ tail)) _ _ (none (codes "call") no_call) ∙ goes a_declaration d tail _ p h.settles;
-      headless = subst (λ z. r.head_at z ≡ Ok (None, z)) (sym text) (no_head (declaration_words d ++ tail) (none (codes "scatter") no_scatter) (none (codes "if") no_if));
+      headless = subst (λ z. heads.head_at z ≡ Ok (None, z)) (sym text) (no_head (declaration_words d ++ tail) (none (codes "scatter") no_scatter) (none (codes "if") no_if));
       goes_on = ap (eat mark.CloseBrace) text ∙ not_closing (declaration_words d ++ tail) (declaration_apart d p tail);
       some = subst (λ z. 0 < length z) (sym (words_declaration d)) (type_some d.ty p.0 _);
     }

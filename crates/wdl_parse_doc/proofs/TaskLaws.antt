@@ -16,16 +16,18 @@ use Rattle.wdl_ast.specs.declared.workflow.Workflow.{Workflow}
 use Rattle.wdl_ast.proofs.StatementLaws.{words_declaration, words_call, words_scatter, words_conditional}
 use Rattle.wdl_ast.specs.Words.{Words, marked, keyword, ident, words, type_words}
 use Rattle.wdl_ast.specs.DocumentWords.{each, declaration_words, task_element_words, task_words, statement_words, workflow_element_words, workflow_words}
-use Rattle.wdl_parse_expr.specs.Outcome.{Outcome, Parser, then_, found, is_word, sees, eat, eat_word}
-use Rattle.wdl_parse_expr.proofs.Steps.{then_is, found_some, found_none, cond_true, cond_false}
-use Rattle.wdl_parse_expr.proofs.Says.{Says, Takes, says_cond}
-use Rattle.wdl_parse_doc.specs.declared.part.Braced.{Braced}
+use Rattle.token_reading.specs.Outcome.{Outcome, Parser, then_, found, is_word, sees, eat, eat_word}
+use Rattle.token_reading.proofs.Steps.{then_is, found_some, found_none, cond_true, cond_false}
+use Rattle.token_reading.proofs.Says.{Says, Takes, says_cond}
+use Rattle.wdl_parse_doc.specs.declared.part_list.Braced.{Braced}
 use Rattle.wdl_parse_doc.specs.Context as ctx
 use Rattle.wdl_parse_doc.specs.Context.{Stands}
 use Rattle.wdl_parse_doc.specs.Grammar as g
-use Rattle.wdl_parse_doc.specs.Grammar.{Each, IsDeclaration, IsTaskElement, are_task_sections, IsTask, IsStatement, IsWorkflowElement, are_workflow_sections, IsWorkflow}
-use Rattle.wdl_parse_doc.specs.Reading.Parts.{braced, until}
-use Rattle.wdl_parse_doc.specs.Reading.Metadata.{metadata}
+use Rattle.wdl_parse_parts.specs.Grammar.{Each, IsDeclaration}
+use Rattle.wdl_parse_doc.specs.Grammar.{IsTaskElement, are_task_sections, IsTask, IsStatement, IsWorkflowElement, are_workflow_sections, IsWorkflow}
+use Rattle.wdl_parse_parts.specs.Reading.Parts.{until}
+use Rattle.wdl_parse_doc.specs.Reading.Lists.{braced}
+use Rattle.wdl_parse_doc.specs.Reading.Sections.{metadata}
 use Rattle.wdl_parse_doc.specs.Reading.Tasks as r
 use Rattle.wdl_parse_doc.proofs.Formats.{Doc, SoundAt, Format, Worded, Parts, starts_some, next, at_once, behind_both, goes, says_worded, parts_until, until_ends}
 use Rattle.wdl_parse_doc.proofs.Leaves.{Any, a_name}

@@ -5,7 +5,7 @@ use Rattle.wdl_ast.specs.declared.token.Kind.{Kind}
 use Rattle.wdl_ast.specs.declared.token.Kind.TheVariants as kind
 use Rattle.wdl_ast.specs.declared.token.Token.{Token}
 use Rattle.wdl_ast.specs.Words.{Words, at, keyword}
-use Rattle.wdl_parse_expr.proofs.Steps.{word_is}
+use Rattle.token_reading.proofs.Steps.{word_is}
 use Rattle.wdl_parse_doc.specs.Contract.{is_version, is_number, BehindVersion}
 
 -- a list by its first two elements

@@ -27,8 +27,9 @@ use Rattle.wdl_ast.specs.Words.{Words, at, marked, keyword, ident, word, comma, 
 use Rattle.wdl_ast.specs.DocumentWords.{each, maybe, declaration_words, input_words, task_element_words, workflow_element_words, statement_words, target_words, renaming_words, after_words, argument_words, struct_member_words, section_words}
 use Rattle.wdl_parse_expr.specs.Context.{Part, an_expr, a_part, Points, ExprCause, TypeCause}
 use Rattle.wdl_parse_expr.specs.Grammar.{max_depth, IsExpr}
-use Rattle.wdl_parse_expr.specs.TypeGrammar.{IsType}
-use Rattle.wdl_parse_doc.specs.Grammar.{Each, IfThere, MetaWithin, max_meta_depth, IsIdent, IsDeclaration, IsInput, IsTaskElement, IsTarget, IsRenaming, IsAfter, IsArgument, IsStatement, IsWorkflowElement, IsStructMember, IsSection}
+use Rattle.token_reading.specs.TypeGrammar.{IsType}
+use Rattle.wdl_parse_parts.specs.Grammar.{Each, IfThere, MetaWithin, max_meta_depth, IsIdent, IsDeclaration, IsInput}
+use Rattle.wdl_parse_doc.specs.Grammar.{IsTaskElement, IsTarget, IsRenaming, IsAfter, IsArgument, IsStatement, IsWorkflowElement, IsStructMember, IsSection}
 
 -- what may stand behind some tokens
 pub data Place : Type 0 where

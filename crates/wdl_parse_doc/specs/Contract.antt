@@ -8,7 +8,7 @@ use Rattle.wdl_ast.specs.declared.token.Token.{Token}
 use Rattle.wdl_ast.specs.declared.document.Document.{Document}
 use Rattle.wdl_ast.specs.Words.{Words, at, keyword}
 use Rattle.wdl_ast.specs.DocumentWords.{document_words}
-use Rattle.wdl_parse_expr.specs.Outcome.{is_word}
+use Rattle.token_reading.specs.Outcome.{is_word}
 use Rattle.wdl_parse_expr.specs.Contract.{IsSpanOf}
 use Rattle.wdl_parse_expr.specs.Context.{Points}
 use Rattle.wdl_parse_doc.specs.Grammar.{IsDocument}

@@ -2,4 +2,3 @@ pub mod Grammar
 pub mod Context
 pub mod Contract
 pub mod Reading
-pub mod Nests

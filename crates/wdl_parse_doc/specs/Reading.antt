@@ -1,6 +1,5 @@
 -- Reads the sections of a document.
-pub mod Parts
-pub mod Metadata
+pub mod Lists
 pub mod Sections
 pub mod Calls
 pub mod Blocks

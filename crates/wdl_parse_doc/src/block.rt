@@ -1,19 +1,18 @@
 //! Blocks. Those that are open stand in a list, so that blocks in one another take no stack.
 
 ghost use Rattle.std.specs.Prelude.{◌≡◌, ◌∷◌, Err, IfOk};
-ghost use Rattle.wdl_parse_expr.specs.Outcome.{Reads};
-ghost use Rattle.wdl_parse_expr.specs.declared.fault.Refusal.TheVariants.{Missing};
-ghost use Rattle.wdl_parse_expr.specs.declared.fault.Stop.TheVariants.{Refused};
+ghost use Rattle.token_reading.specs.Outcome.{Reads};
+ghost use Rattle.token_reading.specs.declared.fault.Refusal.TheVariants.{Missing};
+ghost use Rattle.token_reading.specs.declared.fault.Stop.TheVariants.{Refused};
 ghost use Rattle.wdl_parse_doc.specs.Reading.Blocks as spec;
 
-use crate::head::{BlockHead, closed, head};
 use crate::stack::Stack;
 use crate::statement::simple;
-use crate::token::missing;
 use sqlite_items::Items;
 use std::alloc::{AllocError, Global};
+use token_reading::{Cursor, Stop, missing};
 use wdl_ast::{Mark, Statement};
-use wdl_parse_expr::{Cursor, Stop};
+use wdl_parse_parts::{BlockHead, closed, head};
 use wdl_value::Span;
 
 /// A block that another one stands in: its head, and its statements before that one.
@@ -107,7 +106,7 @@ fn ended(block: Block, span: Span) -> Result<Turn, AllocError>
 }
 
 /// The head of a block, or a statement.
-#[tactic(auto, using(std::proofs::lemmas::Grind::common_steps), unfolding(wdl_parse_expr::specs::Outcome::then_, wdl_parse_expr::specs::Outcome::found, crate::specs::Reading::Blocks::opening))]
+#[tactic(auto, using(std::proofs::lemmas::Grind::common_steps), unfolding(token_reading::specs::Outcome::then_, token_reading::specs::Outcome::found, crate::specs::Reading::Blocks::opening))]
 fn opening(alloc: Global, tokens: &mut Cursor<'_>, block: Block) -> Result<Turn, Stop>
     ensures { Reads (spec.opening block tokens.old) result tokens.new }
 {
@@ -118,7 +117,7 @@ fn opening(alloc: Global, tokens: &mut Cursor<'_>, block: Block) -> Result<Turn,
     Ok(longer(block, statement)?)
 }
 
-#[tactic(auto, using(std::proofs::lemmas::Grind::common_steps), unfolding(wdl_parse_expr::specs::Outcome::then_, wdl_parse_expr::specs::Outcome::found, crate::specs::Reading::Blocks::turn_at))]
+#[tactic(auto, using(std::proofs::lemmas::Grind::common_steps), unfolding(token_reading::specs::Outcome::then_, token_reading::specs::Outcome::found, crate::specs::Reading::Blocks::turn_at))]
 fn take_turn(alloc: Global, tokens: &mut Cursor<'_>, block: Block) -> Result<Turn, Stop>
     ensures { Reads (spec.turn_at block tokens.old) result tokens.new }
 {
@@ -136,7 +135,7 @@ fn unended(_block: Block) -> Result<Statement, Stop>
 }
 
 /// Reads a block, behind its head.
-#[tactic(auto, using(std::proofs::lemmas::Grind::common_steps), unfolding(wdl_parse_expr::specs::Outcome::then_, wdl_parse_expr::specs::Outcome::found, crate::specs::Reading::Blocks::block_at, crate::specs::Reading::Blocks::turns_from))]
+#[tactic(auto, using(std::proofs::lemmas::Grind::common_steps), unfolding(token_reading::specs::Outcome::then_, token_reading::specs::Outcome::found, crate::specs::Reading::Blocks::block_at, crate::specs::Reading::Blocks::turns_from))]
 pub fn read_block(
     alloc: Global,
     tokens: &mut Cursor<'_>,

@@ -1,21 +1,20 @@
 //! Calls.
 
 ghost use Rattle.std.specs.Prelude.{◌≡◌, codes};
-ghost use Rattle.wdl_parse_expr.specs.Outcome.{Reads};
+ghost use Rattle.token_reading.specs.Outcome.{Reads};
 ghost use Rattle.wdl_parse_doc.specs.Reading.Calls as spec;
-ghost use Rattle.wdl_parse_doc.specs.Reading.Parts as parts;
+ghost use Rattle.wdl_parse_parts.specs.Reading.Parts as parts;
 
-use crate::declaration::assigned;
-use crate::part::{Part, many};
-use crate::token::{comma_or, commas_fit, missing, take, take_name};
+use crate::part_list::{Part, many};
 use std::alloc::Global;
+use token_reading::{Cursor, Stop, missing};
 use wdl_ast::{
     After, Argument, Call, CallBody, CallInputs, CallTarget, ListItem, Mark, Renaming, TargetMember,
 };
-use wdl_parse_expr::{Cursor, Stop};
+use wdl_parse_parts::{assigned, comma_or, commas_fit, take, take_name};
 use wdl_value::Span;
 
-#[tactic(auto, using(std::proofs::lemmas::Grind::common_steps), unfolding(wdl_parse_expr::specs::Outcome::then_, wdl_parse_expr::specs::Outcome::found, crate::specs::Reading::Calls::target_member))]
+#[tactic(auto, using(std::proofs::lemmas::Grind::common_steps), unfolding(token_reading::specs::Outcome::then_, token_reading::specs::Outcome::found, crate::specs::Reading::Calls::target_member))]
 fn target_member(alloc: Global, tokens: &mut Cursor<'_>) -> Result<Option<TargetMember>, Stop>
     ensures { Reads (spec.target_member tokens.old) result tokens.new }
 {
@@ -26,7 +25,7 @@ fn target_member(alloc: Global, tokens: &mut Cursor<'_>) -> Result<Option<Target
     Ok(Some(TargetMember { dot, name }))
 }
 
-#[tactic(auto, using(std::proofs::lemmas::Grind::common_steps), unfolding(wdl_parse_expr::specs::Outcome::then_, wdl_parse_expr::specs::Outcome::found, crate::specs::Reading::Calls::target))]
+#[tactic(auto, using(std::proofs::lemmas::Grind::common_steps), unfolding(token_reading::specs::Outcome::then_, token_reading::specs::Outcome::found, crate::specs::Reading::Calls::target))]
 fn target(alloc: Global, tokens: &mut Cursor<'_>) -> Result<CallTarget, Stop>
     ensures { Reads (spec.target tokens.old) result tokens.new }
 {
@@ -36,7 +35,7 @@ fn target(alloc: Global, tokens: &mut Cursor<'_>) -> Result<CallTarget, Stop>
 }
 
 /// Reads `as name`, if it stands there.
-#[tactic(auto, using(std::proofs::lemmas::Grind::common_steps), unfolding(wdl_parse_expr::specs::Outcome::then_, wdl_parse_expr::specs::Outcome::found, crate::specs::Reading::Calls::renaming))]
+#[tactic(auto, using(std::proofs::lemmas::Grind::common_steps), unfolding(token_reading::specs::Outcome::then_, token_reading::specs::Outcome::found, crate::specs::Reading::Calls::renaming))]
 pub fn renaming(alloc: Global, tokens: &mut Cursor<'_>) -> Result<Option<Renaming>, Stop>
     ensures { Reads (spec.renaming tokens.old) result tokens.new }
 {
@@ -53,7 +52,7 @@ impl Part for After {
     ghost reading = { spec.after_at };
 
     /// `after` may be the name of a struct too: `after y = 1` is a declaration.
-    #[tactic(auto, using(std::proofs::lemmas::Grind::common_steps), unfolding(wdl_parse_expr::specs::Outcome::then_, wdl_parse_expr::specs::Outcome::found, crate::specs::Reading::Calls::after_at))]
+    #[tactic(auto, using(std::proofs::lemmas::Grind::common_steps), unfolding(token_reading::specs::Outcome::then_, token_reading::specs::Outcome::found, crate::specs::Reading::Calls::after_at))]
     fn read(alloc: Global, tokens: &mut Cursor<'_>) -> Result<Option<After>, Stop> {
         let before = tokens.rest();
         let Some(keyword) = tokens.eat_word("after") else {
@@ -71,7 +70,7 @@ impl Part for After {
     }
 }
 
-#[tactic(auto, using(std::proofs::lemmas::Grind::common_steps), unfolding(wdl_parse_expr::specs::Outcome::then_, wdl_parse_expr::specs::Outcome::found, crate::specs::Reading::Calls::argument))]
+#[tactic(auto, using(std::proofs::lemmas::Grind::common_steps), unfolding(token_reading::specs::Outcome::then_, token_reading::specs::Outcome::found, crate::specs::Reading::Calls::argument))]
 fn argument(alloc: Global, tokens: &mut Cursor<'_>) -> Result<Argument, Stop>
     ensures { Reads (spec.argument tokens.old) result tokens.new }
 {
@@ -80,7 +79,7 @@ fn argument(alloc: Global, tokens: &mut Cursor<'_>) -> Result<Argument, Stop>
     Ok(Argument { name, value })
 }
 
-#[tactic(auto, using(std::proofs::lemmas::Grind::common_steps), unfolding(wdl_parse_expr::specs::Outcome::then_, wdl_parse_expr::specs::Outcome::found, crate::specs::Reading::Parts::item))]
+#[tactic(auto, using(std::proofs::lemmas::Grind::common_steps), unfolding(token_reading::specs::Outcome::then_, token_reading::specs::Outcome::found, wdl_parse_parts::specs::Reading::Parts::item))]
 fn argument_item(alloc: Global, tokens: &mut Cursor<'_>) -> Result<ListItem<Argument>, Stop>
     ensures { Reads (parts.item spec.argument tokens.old) result tokens.new }
 {
@@ -90,13 +89,13 @@ fn argument_item(alloc: Global, tokens: &mut Cursor<'_>) -> Result<ListItem<Argu
 }
 
 impl Part for ListItem<Argument> {
-    ghost use Rattle.wdl_parse_doc.specs.Reading.Parts as parts;
+    ghost use Rattle.wdl_parse_parts.specs.Reading.Parts as parts;
     ghost use Rattle.wdl_parse_doc.specs.Reading.Calls as spec;
     ghost use Rattle.wdl_ast.specs.declared.token.Mark.TheVariants as mark;
 
     ghost reading = { parts.until mark.CloseBrace (parts.item spec.argument) };
 
-    #[tactic(auto, using(std::proofs::lemmas::Grind::common_steps), unfolding(wdl_parse_expr::specs::Outcome::then_, wdl_parse_expr::specs::Outcome::found, crate::specs::Reading::Parts::until))]
+    #[tactic(auto, using(std::proofs::lemmas::Grind::common_steps), unfolding(token_reading::specs::Outcome::then_, token_reading::specs::Outcome::found, wdl_parse_parts::specs::Reading::Parts::until))]
     fn read(alloc: Global, tokens: &mut Cursor<'_>) -> Result<Option<ListItem<Argument>>, Stop> {
         if tokens.sees(Mark::CloseBrace) {
             return Ok(None);
@@ -105,7 +104,7 @@ impl Part for ListItem<Argument> {
     }
 }
 
-#[tactic(auto, using(std::proofs::lemmas::Grind::common_steps), unfolding(wdl_parse_expr::specs::Outcome::then_, wdl_parse_expr::specs::Outcome::found, crate::specs::Reading::Calls::call_inputs))]
+#[tactic(auto, using(std::proofs::lemmas::Grind::common_steps), unfolding(token_reading::specs::Outcome::then_, token_reading::specs::Outcome::found, crate::specs::Reading::Calls::call_inputs))]
 fn call_inputs(alloc: Global, tokens: &mut Cursor<'_>) -> Result<Option<CallInputs>, Stop>
     ensures { Reads (spec.call_inputs tokens.old) result tokens.new }
 {
@@ -124,7 +123,7 @@ fn call_inputs(alloc: Global, tokens: &mut Cursor<'_>) -> Result<Option<CallInpu
     missing()
 }
 
-#[tactic(auto, using(std::proofs::lemmas::Grind::common_steps), unfolding(wdl_parse_expr::specs::Outcome::then_, wdl_parse_expr::specs::Outcome::found, crate::specs::Reading::Calls::call_body))]
+#[tactic(auto, using(std::proofs::lemmas::Grind::common_steps), unfolding(token_reading::specs::Outcome::then_, token_reading::specs::Outcome::found, crate::specs::Reading::Calls::call_body))]
 fn call_body(alloc: Global, tokens: &mut Cursor<'_>) -> Result<Option<CallBody>, Stop>
     ensures { Reads (spec.call_body tokens.old) result tokens.new }
 {
@@ -141,7 +140,7 @@ fn call_body(alloc: Global, tokens: &mut Cursor<'_>) -> Result<Option<CallBody>,
 }
 
 /// Reads a call, behind its word.
-#[tactic(auto, using(std::proofs::lemmas::Grind::common_steps), unfolding(wdl_parse_expr::specs::Outcome::then_, wdl_parse_expr::specs::Outcome::found, crate::specs::Reading::Calls::call))]
+#[tactic(auto, using(std::proofs::lemmas::Grind::common_steps), unfolding(token_reading::specs::Outcome::then_, token_reading::specs::Outcome::found, crate::specs::Reading::Calls::call))]
 pub fn call(alloc: Global, tokens: &mut Cursor<'_>, keyword: Span) -> Result<Call, Stop>
     ensures { Reads (spec.call keyword tokens.old) result tokens.new }
 {

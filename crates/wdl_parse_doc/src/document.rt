@@ -8,8 +8,9 @@ ghost use Rattle.wdl_parse_doc.specs.Contract.{Written, RefusesDocument};
 
 use crate::section::sections;
 use std::alloc::Global;
+use token_reading::{Cursor, ParseFault};
 use wdl_ast::{Document, Kind, Token};
-use wdl_parse_expr::{Cursor, ParseFault, fault_of};
+use wdl_parse_expr::fault_of;
 use wdl_value::Span;
 
 fn is_version(kind: &Kind) -> bool

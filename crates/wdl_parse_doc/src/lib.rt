@@ -2,20 +2,17 @@
 #![tactic(auto)]
 
 mod block;
+mod braced;
 mod call;
-mod declaration;
 mod document;
-mod head;
 mod laws;
-mod metadata;
-mod part;
+mod part_list;
 mod section;
 mod stack;
 mod statement;
 mod task;
-mod token;
 mod workflow;
 
 pub use document::parse;
 pub use laws::one_document_of_tokens;
-pub use wdl_parse_expr::ParseFault;
+pub use token_reading::ParseFault;

@@ -1,18 +1,19 @@
 //! Sections of a document.
 
 ghost use Rattle.std.specs.Prelude.{◌≡◌, codes};
-ghost use Rattle.wdl_parse_expr.specs.Outcome.{Reads};
+ghost use Rattle.token_reading.specs.Outcome.{Reads};
 ghost use Rattle.wdl_parse_doc.specs.Reading.Documents as spec;
 
 use crate::call::renaming;
-use crate::part::{Part, many, read_braced};
+use crate::part_list::{Part, many, read_braced};
 use crate::task::task;
-use crate::token::{missing, take_name, take_word};
 use crate::workflow::workflow;
 use sqlite_items::Items;
 use std::alloc::Global;
+use token_reading::{Cursor, Stop, missing, read_plain};
 use wdl_ast::{Alias, Import, Mark, Section, StructMember, StructSection};
-use wdl_parse_expr::{Cursor, Stop, read_plain, read_type};
+use wdl_parse_expr::read_type;
+use wdl_parse_parts::{take_name, take_word};
 use wdl_value::Span;
 
 impl Part for Alias {
@@ -20,7 +21,7 @@ impl Part for Alias {
 
     ghost reading = { spec.alias_at };
 
-    #[tactic(auto, using(std::proofs::lemmas::Grind::common_steps), unfolding(wdl_parse_expr::specs::Outcome::then_, wdl_parse_expr::specs::Outcome::found, crate::specs::Reading::Documents::alias_at))]
+    #[tactic(auto, using(std::proofs::lemmas::Grind::common_steps), unfolding(token_reading::specs::Outcome::then_, token_reading::specs::Outcome::found, crate::specs::Reading::Documents::alias_at))]
     fn read(alloc: Global, tokens: &mut Cursor<'_>) -> Result<Option<Alias>, Stop> {
         let Some(keyword) = tokens.eat_word("alias") else {
             return Ok(None);
@@ -37,7 +38,7 @@ impl Part for Alias {
     }
 }
 
-#[tactic(auto, using(std::proofs::lemmas::Grind::common_steps), unfolding(wdl_parse_expr::specs::Outcome::then_, wdl_parse_expr::specs::Outcome::found, crate::specs::Reading::Documents::import_))]
+#[tactic(auto, using(std::proofs::lemmas::Grind::common_steps), unfolding(token_reading::specs::Outcome::then_, token_reading::specs::Outcome::found, crate::specs::Reading::Documents::import_))]
 fn import(alloc: Global, tokens: &mut Cursor<'_>, keyword: Span) -> Result<Import, Stop>
     ensures { Reads (spec.import_ keyword tokens.old) result tokens.new }
 {
@@ -52,7 +53,7 @@ fn import(alloc: Global, tokens: &mut Cursor<'_>, keyword: Span) -> Result<Impor
     })
 }
 
-#[tactic(auto, using(std::proofs::lemmas::Grind::common_steps), unfolding(wdl_parse_expr::specs::Outcome::then_, wdl_parse_expr::specs::Outcome::found, crate::specs::Reading::Documents::struct_member))]
+#[tactic(auto, using(std::proofs::lemmas::Grind::common_steps), unfolding(token_reading::specs::Outcome::then_, token_reading::specs::Outcome::found, crate::specs::Reading::Documents::struct_member))]
 fn struct_member(alloc: Global, tokens: &mut Cursor<'_>) -> Result<StructMember, Stop>
     ensures { Reads (spec.struct_member tokens.old) result tokens.new }
 {
@@ -62,13 +63,13 @@ fn struct_member(alloc: Global, tokens: &mut Cursor<'_>) -> Result<StructMember,
 }
 
 impl Part for StructMember {
-    ghost use Rattle.wdl_parse_doc.specs.Reading.Parts as parts;
+    ghost use Rattle.wdl_parse_parts.specs.Reading.Parts as parts;
     ghost use Rattle.wdl_parse_doc.specs.Reading.Documents as spec;
     ghost use Rattle.wdl_ast.specs.declared.token.Mark.TheVariants as mark;
 
     ghost reading = { parts.until mark.CloseBrace spec.struct_member };
 
-    #[tactic(auto, using(std::proofs::lemmas::Grind::common_steps), unfolding(wdl_parse_expr::specs::Outcome::then_, wdl_parse_expr::specs::Outcome::found, crate::specs::Reading::Parts::until))]
+    #[tactic(auto, using(std::proofs::lemmas::Grind::common_steps), unfolding(token_reading::specs::Outcome::then_, token_reading::specs::Outcome::found, wdl_parse_parts::specs::Reading::Parts::until))]
     fn read(alloc: Global, tokens: &mut Cursor<'_>) -> Result<Option<StructMember>, Stop> {
         if tokens.sees(Mark::CloseBrace) {
             return Ok(None);
@@ -77,7 +78,7 @@ impl Part for StructMember {
     }
 }
 
-#[tactic(auto, using(std::proofs::lemmas::Grind::common_steps), unfolding(wdl_parse_expr::specs::Outcome::then_, wdl_parse_expr::specs::Outcome::found, crate::specs::Reading::Documents::struct_))]
+#[tactic(auto, using(std::proofs::lemmas::Grind::common_steps), unfolding(token_reading::specs::Outcome::then_, token_reading::specs::Outcome::found, crate::specs::Reading::Documents::struct_))]
 fn structure(alloc: Global, tokens: &mut Cursor<'_>, keyword: Span) -> Result<StructSection, Stop>
     ensures { Reads (spec.struct_ keyword tokens.old) result tokens.new }
 {
@@ -92,7 +93,7 @@ fn structure(alloc: Global, tokens: &mut Cursor<'_>, keyword: Span) -> Result<St
     })
 }
 
-#[tactic(auto, using(std::proofs::lemmas::Grind::common_steps), unfolding(wdl_parse_expr::specs::Outcome::then_, wdl_parse_expr::specs::Outcome::found, crate::specs::Reading::Documents::section_at))]
+#[tactic(auto, using(std::proofs::lemmas::Grind::common_steps), unfolding(token_reading::specs::Outcome::then_, token_reading::specs::Outcome::found, crate::specs::Reading::Documents::section_at))]
 fn section(alloc: Global, tokens: &mut Cursor<'_>) -> Result<Section, Stop>
     ensures { Reads (spec.section_at tokens.old) result tokens.new }
 {
@@ -116,7 +117,7 @@ impl Part for Section {
 
     ghost reading = { spec.section_part };
 
-    #[tactic(auto, using(std::proofs::lemmas::Grind::common_steps), unfolding(wdl_parse_expr::specs::Outcome::then_, wdl_parse_expr::specs::Outcome::found, crate::specs::Reading::Documents::section_part))]
+    #[tactic(auto, using(std::proofs::lemmas::Grind::common_steps), unfolding(token_reading::specs::Outcome::then_, token_reading::specs::Outcome::found, crate::specs::Reading::Documents::section_part))]
     fn read(alloc: Global, tokens: &mut Cursor<'_>) -> Result<Option<Section>, Stop> {
         if tokens.rest().is_empty() {
             return Ok(None);
@@ -126,7 +127,7 @@ impl Part for Section {
 }
 
 /// Reads all sections, up to the end of the tokens.
-#[tactic(auto, using(std::proofs::lemmas::Grind::common_steps), unfolding(wdl_parse_expr::specs::Outcome::then_, wdl_parse_expr::specs::Outcome::found, crate::specs::Reading::Documents::sections))]
+#[tactic(auto, using(std::proofs::lemmas::Grind::common_steps), unfolding(token_reading::specs::Outcome::then_, token_reading::specs::Outcome::found, crate::specs::Reading::Documents::sections))]
 pub fn sections(alloc: Global, tokens: &mut Cursor<'_>) -> Result<Items<Section>, Stop>
     ensures { Reads (spec.sections tokens.old) result tokens.new }
 {

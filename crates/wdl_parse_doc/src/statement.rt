@@ -1,19 +1,18 @@
 //! Statements.
 
 ghost use Rattle.std.specs.Prelude.{◌≡◌, codes};
-ghost use Rattle.wdl_parse_expr.specs.Outcome.{Reads};
+ghost use Rattle.token_reading.specs.Outcome.{Reads};
 ghost use Rattle.wdl_parse_doc.specs.Reading.Blocks as spec;
 
 use crate::block::read_block;
 use crate::call::call;
-use crate::declaration::declaration;
-use crate::head::head;
 use std::alloc::Global;
+use token_reading::{Cursor, Stop};
 use wdl_ast::Statement;
-use wdl_parse_expr::{Cursor, Stop};
+use wdl_parse_parts::{declaration, head};
 
 /// Reads a call or a declaration.
-#[tactic(auto, using(std::proofs::lemmas::Grind::common_steps), unfolding(wdl_parse_expr::specs::Outcome::then_, wdl_parse_expr::specs::Outcome::found, crate::specs::Reading::Blocks::simple))]
+#[tactic(auto, using(std::proofs::lemmas::Grind::common_steps), unfolding(token_reading::specs::Outcome::then_, token_reading::specs::Outcome::found, crate::specs::Reading::Blocks::simple))]
 pub fn simple(alloc: Global, tokens: &mut Cursor<'_>) -> Result<Statement, Stop>
     ensures { Reads (spec.simple tokens.old) result tokens.new }
 {
@@ -26,7 +25,7 @@ pub fn simple(alloc: Global, tokens: &mut Cursor<'_>) -> Result<Statement, Stop>
 }
 
 /// Reads a statement.
-#[tactic(auto, using(std::proofs::lemmas::Grind::common_steps), unfolding(wdl_parse_expr::specs::Outcome::then_, wdl_parse_expr::specs::Outcome::found, crate::specs::Reading::Blocks::statement))]
+#[tactic(auto, using(std::proofs::lemmas::Grind::common_steps), unfolding(token_reading::specs::Outcome::then_, token_reading::specs::Outcome::found, crate::specs::Reading::Blocks::statement))]
 pub fn statement(alloc: Global, tokens: &mut Cursor<'_>) -> Result<Statement, Stop>
     ensures { Reads (spec.statement tokens.old) result tokens.new }
 {

@@ -2,21 +2,20 @@
 
 ghost use Rattle.std.specs.Prelude.{◌≡◌, ◌==◌, codes};
 ghost use Rattle.std.specs.List.{count_by};
-ghost use Rattle.wdl_parse_expr.specs.Outcome.{Reads};
+ghost use Rattle.token_reading.specs.Outcome.{Reads};
 ghost use Rattle.wdl_parse_doc.specs.Grammar as grammar;
 ghost use Rattle.wdl_parse_doc.specs.Reading.Tasks as spec;
 
-use crate::declaration::{command, declaration, inputs, outputs, runtime};
-use crate::metadata::metadata;
-use crate::part::{Part, read_braced};
-use crate::token::{is_section, is_word, missing, take_name};
+use crate::braced::{inputs, metadata, outputs, runtime};
+use crate::part_list::{Part, read_braced};
 use std::alloc::Global;
+use token_reading::{Cursor, Stop, is_word, missing};
 use wdl_ast::{Kind, Mark, TaskElement, TaskSection};
-use wdl_parse_expr::{Cursor, Stop};
+use wdl_parse_parts::{command, declaration, is_section, take_name};
 use wdl_value::Span;
 
 /// Reads a section of a task, or a private declaration.
-#[tactic(auto, using(std::proofs::lemmas::Grind::common_steps), unfolding(wdl_parse_expr::specs::Outcome::then_, wdl_parse_expr::specs::Outcome::found, crate::specs::Reading::Tasks::task_element))]
+#[tactic(auto, using(std::proofs::lemmas::Grind::common_steps), unfolding(token_reading::specs::Outcome::then_, token_reading::specs::Outcome::found, crate::specs::Reading::Tasks::task_element))]
 fn task_element(alloc: Global, tokens: &mut Cursor<'_>) -> Result<TaskElement, Stop>
     ensures { Reads (spec.task_element tokens.old) result tokens.new }
 {
@@ -42,13 +41,13 @@ fn task_element(alloc: Global, tokens: &mut Cursor<'_>) -> Result<TaskElement, S
 }
 
 impl Part for TaskElement {
-    ghost use Rattle.wdl_parse_doc.specs.Reading.Parts as parts;
+    ghost use Rattle.wdl_parse_parts.specs.Reading.Parts as parts;
     ghost use Rattle.wdl_parse_doc.specs.Reading.Tasks as spec;
     ghost use Rattle.wdl_ast.specs.declared.token.Mark.TheVariants as mark;
 
     ghost reading = { parts.until mark.CloseBrace spec.task_element };
 
-    #[tactic(auto, using(std::proofs::lemmas::Grind::common_steps), unfolding(wdl_parse_expr::specs::Outcome::then_, wdl_parse_expr::specs::Outcome::found, crate::specs::Reading::Parts::until))]
+    #[tactic(auto, using(std::proofs::lemmas::Grind::common_steps), unfolding(token_reading::specs::Outcome::then_, token_reading::specs::Outcome::found, wdl_parse_parts::specs::Reading::Parts::until))]
     fn read(alloc: Global, tokens: &mut Cursor<'_>) -> Result<Option<TaskElement>, Stop> {
         if tokens.sees(Mark::CloseBrace) {
             return Ok(None);
@@ -163,7 +162,7 @@ fn are_task_sections(elements: &[TaskElement]) -> bool
 }
 
 /// Reads a task, behind its word.
-#[tactic(auto, using(std::proofs::lemmas::Grind::common_steps), unfolding(wdl_parse_expr::specs::Outcome::then_, wdl_parse_expr::specs::Outcome::found, crate::specs::Reading::Tasks::task))]
+#[tactic(auto, using(std::proofs::lemmas::Grind::common_steps), unfolding(token_reading::specs::Outcome::then_, token_reading::specs::Outcome::found, crate::specs::Reading::Tasks::task))]
 pub fn task(alloc: Global, tokens: &mut Cursor<'_>, keyword: Span) -> Result<TaskSection, Stop>
     ensures { Reads (spec.task keyword tokens.old) result tokens.new }
 {

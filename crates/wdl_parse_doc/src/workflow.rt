@@ -1,22 +1,21 @@
 //! Workflows.
 
 ghost use Rattle.std.specs.Prelude.{◌≡◌, codes};
-ghost use Rattle.wdl_parse_expr.specs.Outcome.{Reads};
+ghost use Rattle.token_reading.specs.Outcome.{Reads};
 ghost use Rattle.wdl_parse_doc.specs.Grammar as grammar;
 ghost use Rattle.wdl_parse_doc.specs.Reading.Tasks as spec;
 
-use crate::declaration::{inputs, outputs};
-use crate::metadata::metadata;
-use crate::part::{Part, read_braced};
+use crate::braced::{inputs, metadata, outputs};
+use crate::part_list::{Part, read_braced};
 use crate::statement::statement;
-use crate::token::{is_section, is_word, missing, take_name};
 use std::alloc::Global;
+use token_reading::{Cursor, Stop, is_word, missing};
 use wdl_ast::{Kind, Mark, Workflow, WorkflowElement};
-use wdl_parse_expr::{Cursor, Stop};
+use wdl_parse_parts::{is_section, take_name};
 use wdl_value::Span;
 
 /// Reads a section of a workflow, or a statement.
-#[tactic(auto, using(std::proofs::lemmas::Grind::common_steps), unfolding(wdl_parse_expr::specs::Outcome::then_, wdl_parse_expr::specs::Outcome::found, crate::specs::Reading::Tasks::workflow_element))]
+#[tactic(auto, using(std::proofs::lemmas::Grind::common_steps), unfolding(token_reading::specs::Outcome::then_, token_reading::specs::Outcome::found, crate::specs::Reading::Tasks::workflow_element))]
 fn workflow_element(alloc: Global, tokens: &mut Cursor<'_>) -> Result<WorkflowElement, Stop>
     ensures { Reads (spec.workflow_element tokens.old) result tokens.new }
 {
@@ -36,13 +35,13 @@ fn workflow_element(alloc: Global, tokens: &mut Cursor<'_>) -> Result<WorkflowEl
 }
 
 impl Part for WorkflowElement {
-    ghost use Rattle.wdl_parse_doc.specs.Reading.Parts as parts;
+    ghost use Rattle.wdl_parse_parts.specs.Reading.Parts as parts;
     ghost use Rattle.wdl_parse_doc.specs.Reading.Tasks as spec;
     ghost use Rattle.wdl_ast.specs.declared.token.Mark.TheVariants as mark;
 
     ghost reading = { parts.until mark.CloseBrace spec.workflow_element };
 
-    #[tactic(auto, using(std::proofs::lemmas::Grind::common_steps), unfolding(wdl_parse_expr::specs::Outcome::then_, wdl_parse_expr::specs::Outcome::found, crate::specs::Reading::Parts::until))]
+    #[tactic(auto, using(std::proofs::lemmas::Grind::common_steps), unfolding(token_reading::specs::Outcome::then_, token_reading::specs::Outcome::found, wdl_parse_parts::specs::Reading::Parts::until))]
     fn read(alloc: Global, tokens: &mut Cursor<'_>) -> Result<Option<WorkflowElement>, Stop> {
         if tokens.sees(Mark::CloseBrace) {
             return Ok(None);
@@ -133,7 +132,7 @@ fn are_workflow_sections(elements: &[WorkflowElement]) -> bool
 }
 
 /// Reads a workflow, behind its word.
-#[tactic(auto, using(std::proofs::lemmas::Grind::common_steps), unfolding(wdl_parse_expr::specs::Outcome::then_, wdl_parse_expr::specs::Outcome::found, crate::specs::Reading::Tasks::workflow))]
+#[tactic(auto, using(std::proofs::lemmas::Grind::common_steps), unfolding(token_reading::specs::Outcome::then_, token_reading::specs::Outcome::found, crate::specs::Reading::Tasks::workflow))]
 pub fn workflow(alloc: Global, tokens: &mut Cursor<'_>, keyword: Span) -> Result<Workflow, Stop>
     ensures { Reads (spec.workflow keyword tokens.old) result tokens.new }
 {

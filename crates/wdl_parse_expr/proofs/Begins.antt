@@ -14,8 +14,8 @@ use Rattle.wdl_ast.specs.declared.expr.UnaryOperator.{UnaryOperator}
 use Rattle.wdl_ast.specs.declared.expr.UnaryOperator.TheVariants as pre
 use Rattle.wdl_ast.specs.declared.expr.Expr.{Expr}
 use Rattle.wdl_ast.specs.Words.{Words, binary_mark, unary_mark, words}
-use Rattle.wdl_parse_expr.specs.Outcome.{is_mark}
-use Rattle.wdl_parse_expr.proofs.Steps.{marks}
+use Rattle.token_reading.specs.Outcome.{is_mark}
+use Rattle.token_reading.proofs.Steps.{marks}
 
 abbrev pub begins : Kind → Bool
 begins (kind.Word w) = true

@@ -14,19 +14,20 @@ use Rattle.wdl_ast.specs.declared.expr.Expr.{Expr}
 use Rattle.wdl_ast.specs.declared.expr.Expr.TheVariants as e
 use Rattle.wdl_ast.specs.Words.{Words, at, marked, ident, words}
 use Rattle.wdl_ast.proofs.WordLaws.{words_member, words_index, words_true, words_false, words_none, words_int, words_str, words_name, words_call, words_group, words_pair, words_list, words_map, words_struct}
-use Rattle.wdl_parse_expr.specs.declared.fault.Refusal.TheVariants.{Missing, Bad}
-use Rattle.wdl_parse_expr.specs.declared.tall.Tall.{Tall}
-use Rattle.wdl_parse_expr.specs.declared.tall.Chain.{Chain}
-use Rattle.wdl_parse_expr.specs.declared.tall.Rule.{Rule}
-use Rattle.wdl_parse_expr.specs.declared.tall.Rule.TheVariants as rule
-use Rattle.wdl_parse_expr.specs.Outcome.{Outcome, Parser, is_mark, is_word, eat, ident_at, tall, bad}
+use Rattle.token_reading.specs.declared.fault.Refusal.TheVariants.{Missing, Bad}
+use Rattle.token_reading.specs.declared.tall.Tall.{Tall}
+use Rattle.token_reading.specs.declared.tall.Chain.{Chain}
+use Rattle.token_reading.specs.declared.tall.Rule.{Rule}
+use Rattle.token_reading.specs.declared.tall.Rule.TheVariants as rule
+use Rattle.token_reading.specs.Outcome.{Outcome, Parser, is_mark, is_word, eat, ident_at, tall, bad, linked, one_more}
 use Rattle.wdl_parse_expr.specs.Grammar as g
-use Rattle.wdl_parse_expr.specs.Grammar.{looseness, IsPrimary, IsPost, IsUnary, IsRule, IsWhole, IsOf, Tree}
+use Rattle.token_reading.specs.Operators.{looseness, binary_at, unary_at}
+use Rattle.wdl_parse_expr.specs.Grammar.{IsPrimary, IsPost, IsUnary, IsRule, IsWhole, IsOf, Tree}
 use Rattle.wdl_parse_expr.specs.Reading as r
-use Rattle.wdl_parse_expr.specs.Reading.{binary_at, unary_at, chained, linked, one_more, Step, step, turns, expr}
+use Rattle.wdl_parse_expr.specs.Reading.{chained, Step, step, turns, expr}
 use Rattle.wdl_parse_expr.specs.Contract.{continues}
-use Rattle.wdl_parse_expr.proofs.Steps.{ate, ate_ident, sees_ident, cond_true, then_is, then_bad, attempt_is, attempt_bad, attempt_missing, found_some, found_none}
-use Rattle.wdl_parse_expr.proofs.Says.{AnyFault, Takes, said}
+use Rattle.token_reading.proofs.Steps.{ate, ate_ident, sees_ident, cond_true, then_is, then_bad, attempt_is, attempt_bad, attempt_missing, found_some, found_none}
+use Rattle.token_reading.proofs.Says.{AnyFault, Takes, said}
 use Rattle.wdl_parse_expr.proofs.Sound.{IsSound, tall_words}
 use Rattle.wdl_parse_expr.proofs.Begins.{begins, calm, calm_before, Begins, Starts, name_not, if_reserved}
 use Rattle.wdl_parse_expr.proofs.Goes.{Hard, Longer, AtMost, Reaches, IsFull, longer_along, longer_then, calls, calls_go}

@@ -9,17 +9,17 @@ use Rattle.wdl_ast.specs.declared.expr.BinaryOperator.{BinaryOperator}
 use Rattle.wdl_ast.specs.declared.expr.BinaryOperator.TheVariants as op
 use Rattle.wdl_ast.specs.declared.expr.Expr.{Expr}
 use Rattle.wdl_ast.specs.Words.{Words, marked, binary_mark, words}
-use Rattle.wdl_parse_expr.specs.declared.fault.Fault.{Fault}
-use Rattle.wdl_parse_expr.specs.declared.fault.Refusal.TheVariants.{Bad}
-use Rattle.wdl_parse_expr.specs.declared.tall.Tall.{Tall}
-use Rattle.wdl_parse_expr.specs.declared.tall.Rule.{Rule}
-use Rattle.wdl_parse_expr.specs.declared.tall.Rule.TheVariants as rule
-use Rattle.wdl_parse_expr.specs.Outcome.{Outcome, Parser, then_, is_mark, tall, grown, bad}
-use Rattle.wdl_parse_expr.specs.Grammar.{looseness, ends_in_choice}
-use Rattle.wdl_parse_expr.specs.Reading.{binary_of}
+use Rattle.token_reading.specs.declared.fault.Fault.{Fault}
+use Rattle.token_reading.specs.declared.fault.Refusal.TheVariants.{Bad}
+use Rattle.token_reading.specs.declared.tall.Tall.{Tall}
+use Rattle.token_reading.specs.declared.tall.Rule.{Rule}
+use Rattle.token_reading.specs.declared.tall.Rule.TheVariants as rule
+use Rattle.token_reading.specs.Outcome.{Outcome, Parser, then_, is_mark, tall, grown, bad}
+use Rattle.token_reading.specs.Operators.{looseness, binary_of}
+use Rattle.wdl_parse_expr.specs.Grammar.{ends_in_choice}
 use Rattle.wdl_parse_expr.specs.Contract.{is_suffix, is_below, goes_on, continues}
-use Rattle.wdl_parse_expr.proofs.Steps.{then_is, then_bad}
-use Rattle.wdl_parse_expr.proofs.Tables.{binary_back}
+use Rattle.token_reading.proofs.Steps.{then_is, then_bad}
+use Rattle.token_reading.proofs.Tables.{binary_back}
 
 -- The rule that a token behind an expression may go on with: behind a choice, that of whole expressions.
 abbrev pub limit : ℕ → Expr → ℕ

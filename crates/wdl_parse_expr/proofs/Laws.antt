@@ -3,23 +3,23 @@ use Rattle.std.proofs.Common.{◌≡◌, ◌<◌, true, ◌⊎◌, inl, inr, [],
 use Rattle.wdl_ast.specs.declared.expr.Expr.{Expr}
 use Rattle.wdl_ast.specs.declared.type_tree.TypeTree.{TypeTree}
 use Rattle.wdl_ast.specs.Words.{Words, words, type_words}
-use Rattle.wdl_parse_expr.specs.declared.fault.Fault.{Fault}
-use Rattle.wdl_parse_expr.specs.declared.fault.Refusal.{Refusal}
-use Rattle.wdl_parse_expr.specs.declared.fault.Refusal.TheVariants.{Missing, Bad}
-use Rattle.wdl_parse_expr.specs.declared.fault.Stop.{Stop}
-use Rattle.wdl_parse_expr.specs.declared.fault.Stop.TheVariants as stop
-use Rattle.wdl_parse_expr.specs.declared.fault.ParseFault.{ParseFault}
-use Rattle.wdl_parse_expr.specs.declared.tall.Tall.{Tall}
-use Rattle.wdl_parse_expr.specs.declared.tall.Rule.TheVariants as rule
-use Rattle.wdl_parse_expr.specs.Outcome.{tall, then_, Fails}
+use Rattle.token_reading.specs.declared.fault.Fault.{Fault}
+use Rattle.token_reading.specs.declared.fault.Refusal.{Refusal}
+use Rattle.token_reading.specs.declared.fault.Refusal.TheVariants.{Missing, Bad}
+use Rattle.token_reading.specs.declared.fault.Stop.{Stop}
+use Rattle.token_reading.specs.declared.fault.Stop.TheVariants as stop
+use Rattle.token_reading.specs.declared.fault.ParseFault.{ParseFault}
+use Rattle.token_reading.specs.declared.tall.Tall.{Tall}
+use Rattle.token_reading.specs.declared.tall.Rule.TheVariants as rule
+use Rattle.token_reading.specs.Outcome.{tall, then_, Fails}
 use Rattle.wdl_parse_expr.specs.Grammar.{Tree, max_depth, IsExpr}
-use Rattle.wdl_parse_expr.specs.TypeGrammar.{IsType, max_type_depth}
+use Rattle.token_reading.specs.TypeGrammar.{IsType, max_type_depth}
 use Rattle.wdl_parse_expr.specs.Context.{an_expr, root, type_root, Points, ExprCause, TypeCause}
 use Rattle.wdl_parse_expr.specs.Reading.{expr}
-use Rattle.wdl_parse_expr.specs.TypeReading.{type_at}
+use Rattle.token_reading.specs.TypeReading.{type_at}
 use Rattle.wdl_parse_expr.specs.Contract.{expr_continues, Fronts, IsLongest, AtStart, AtFront, StartsNone, MayGoOn, IfBad, RefusesExpr, RefusesType, FaultOf, read_expr}
-use Rattle.wdl_parse_expr.proofs.Steps.{same}
-use Rattle.wdl_parse_expr.proofs.Says.{AnyFault, Takes, said, blamed}
+use Rattle.token_reading.proofs.Steps.{same}
+use Rattle.token_reading.proofs.Says.{AnyFault, Takes, said, blamed}
 use Rattle.wdl_parse_expr.proofs.Sound.{tall_words, expr_sound, expr_takes}
 use Rattle.wdl_parse_expr.proofs.Goes.{Reaches}
 use Rattle.wdl_parse_expr.proofs.Rules.{expr_full}

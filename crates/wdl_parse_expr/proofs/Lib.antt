@@ -1,11 +1,6 @@
-pub mod Turns
 pub mod Ends
 pub mod Told
-pub mod Steps
-pub mod Says
-pub mod Tables
 pub mod Lists
-pub mod Strings
 pub mod Sound
 pub mod Choices
 pub mod Begins

@@ -8,15 +8,15 @@ use Rattle.wdl_ast.specs.declared.token.Kind.TheVariants as kind
 use Rattle.wdl_ast.specs.declared.token.Token.{Token}
 use Rattle.wdl_ast.specs.declared.leaf.ListItem.{ListItem}
 use Rattle.wdl_ast.specs.Words.{Words, marked, comma, items_words}
-use Rattle.wdl_parse_expr.specs.declared.fault.Fault.{Fault}
-use Rattle.wdl_parse_expr.specs.declared.tall.Tall.{Tall}
-use Rattle.wdl_parse_expr.specs.declared.tall.Closed.{Closed}
-use Rattle.wdl_parse_expr.specs.Outcome.{Parser, is_mark, eat, tall}
+use Rattle.token_reading.specs.declared.fault.Fault.{Fault}
+use Rattle.token_reading.specs.declared.tall.Tall.{Tall}
+use Rattle.token_reading.specs.declared.tall.Closed.{Closed}
+use Rattle.token_reading.specs.Outcome.{Parser, is_mark, eat, tall}
 use Rattle.wdl_parse_expr.specs.Grammar.{CommaFits, Listed}
 use Rattle.wdl_parse_expr.specs.Reading.{list_item, closed, list_from, list_of, ended}
 use Rattle.wdl_parse_expr.specs.Contract.{goes_on, continues}
-use Rattle.wdl_parse_expr.proofs.Steps.{ate, then_is, found_some, found_none, cond_false}
-use Rattle.wdl_parse_expr.proofs.Says.{AnyFault, Says, Takes, Sound, carry, says_then, says_found}
+use Rattle.token_reading.proofs.Steps.{ate, then_is, found_some, found_none, cond_false}
+use Rattle.token_reading.proofs.Says.{AnyFault, Says, Takes, Sound, carry, says_then, says_found}
 
 module _ {E : Type 0} (P : ℕ → E → Type 0) (w : E → Words) (one : Parser (Tall E)) (close : Mark) where
   abbrev pub OfElement : Tall E → Type 0

@@ -20,22 +20,24 @@ use Rattle.wdl_ast.specs.declared.expr.Expr.{Expr}
 use Rattle.wdl_ast.specs.declared.expr.Expr.TheVariants as e
 use Rattle.wdl_ast.specs.Words.{Words, at, marked, keyword, ident, entry_words, member_words, items_words, options_words, part_words, parts_words, words}
 use Rattle.wdl_ast.proofs.WordLaws.{words_true, words_false, words_none, words_int, words_str, words_name, words_call, words_group, words_pair, words_list, words_map, words_struct}
-use Rattle.wdl_parse_expr.specs.declared.fault.Refusal.TheVariants.{Missing, Bad}
-use Rattle.wdl_parse_expr.specs.declared.tall.Tall.{Tall}
-use Rattle.wdl_parse_expr.specs.declared.tall.Closed.{Closed}
-use Rattle.wdl_parse_expr.specs.declared.tall.Rule.{Rule}
-use Rattle.wdl_parse_expr.specs.declared.tall.Rule.TheVariants as rule
-use Rattle.wdl_parse_expr.specs.Outcome.{Outcome, Parser, is_mark, is_hole_close, is_str_close, eat_if, eat, ident_at, tall, grown}
-use Rattle.wdl_parse_expr.specs.Forms.{left_out}
+use Rattle.token_reading.specs.declared.fault.Refusal.TheVariants.{Missing, Bad}
+use Rattle.token_reading.specs.declared.tall.Tall.{Tall}
+use Rattle.token_reading.specs.declared.tall.Closed.{Closed}
+use Rattle.token_reading.specs.declared.tall.Rule.{Rule}
+use Rattle.token_reading.specs.declared.tall.Rule.TheVariants as rule
+use Rattle.token_reading.specs.Outcome.{Outcome, Parser, is_mark, is_hole_close, is_str_close, eat_if, eat, ident_at, tall, grown, linked, one_more}
+use Rattle.token_reading.specs.Forms.{left_out}
 use Rattle.wdl_parse_expr.specs.Grammar as g
-use Rattle.wdl_parse_expr.specs.Grammar.{looseness, ends_bare, Listed, IsEntry, IsMember, Parts, IsPrimary, IsPost, IsUnary, IsRule, IsWhole, IsOf, Tree}
+use Rattle.token_reading.specs.Operators.{looseness, binary_of, binary_at, unary_at}
+use Rattle.wdl_parse_expr.specs.Grammar.{ends_bare, Listed, IsEntry, IsMember, Parts, IsPrimary, IsPost, IsUnary, IsRule, IsWhole, IsOf, Tree}
 use Rattle.wdl_parse_expr.specs.Reading as r
-use Rattle.wdl_parse_expr.specs.Reading.{binary_of, binary_at, unary_at, list_of, option_start, options_at, chained, linked, leaf, one_more, Step, step, expr}
+use Rattle.wdl_parse_expr.specs.Reading.{list_of, chained, leaf, Step, step, expr}
+use Rattle.token_reading.specs.Strings.{option_start, options_at}
 use Rattle.wdl_parse_expr.specs.Contract.{goes_on, continues}
-use Rattle.wdl_parse_expr.proofs.Steps.{ate, sees_ident, cond_true, cond_false, then_is, attempt_is, attempt_bad, attempt_missing, found_some, found_none, grown_is}
-use Rattle.wdl_parse_expr.proofs.Says.{AnyFault, said}
+use Rattle.token_reading.proofs.Steps.{ate, sees_ident, cond_true, cond_false, then_is, attempt_is, attempt_bad, attempt_missing, found_some, found_none, grown_is}
+use Rattle.token_reading.proofs.Says.{AnyFault, said}
 use Rattle.wdl_parse_expr.proofs.Lists.{IsList, list_takes, list_is}
-use Rattle.wdl_parse_expr.proofs.Strings.{options_full}
+use Rattle.token_reading.proofs.Strings.{options_full}
 use Rattle.wdl_parse_expr.proofs.Sound.{IsSound, member_takes}
 use Rattle.wdl_parse_expr.proofs.Begins.{begins, no_assign, calm, Begins, Starts, closer_begins, true_reserved, false_reserved, none_reserved}
 use Rattle.wdl_parse_expr.proofs.Goes.{Longer, AtMost, IsFull, longer_along, at_most_grown, exact, calls}

@@ -6,18 +6,18 @@ use Rattle.wdl_ast.specs.declared.string.StringPart.{StringPart}
 use Rattle.wdl_ast.specs.declared.expr.Expr.{Expr}
 use Rattle.wdl_ast.specs.declared.type_tree.TypeTree.{TypeTree}
 use Rattle.wdl_ast.specs.Words.{Words, at, words, type_words, parts_words}
-use Rattle.wdl_parse_expr.specs.declared.fault.Fault.{Fault}
-use Rattle.wdl_parse_expr.specs.declared.tall.Tall.{Tall}
-use Rattle.wdl_parse_expr.specs.declared.tall.Rule.TheVariants as rule
-use Rattle.wdl_parse_expr.specs.Outcome.{tall}
+use Rattle.token_reading.specs.declared.fault.Fault.{Fault}
+use Rattle.token_reading.specs.declared.tall.Tall.{Tall}
+use Rattle.token_reading.specs.declared.tall.Rule.TheVariants as rule
+use Rattle.token_reading.specs.Outcome.{tall}
 use Rattle.wdl_parse_expr.specs.Grammar.{Parts, Tree, max_depth, IsExpr, AreParts}
-use Rattle.wdl_parse_expr.specs.TypeGrammar.{max_type_depth, IsType}
+use Rattle.token_reading.specs.TypeGrammar.{max_type_depth, IsType}
 use Rattle.wdl_parse_expr.specs.Context.{Part, an_expr, a_part, root, type_root, Points, ExprCause, TypeCause}
 use Rattle.wdl_parse_expr.specs.Reading.{parts, expr}
-use Rattle.wdl_parse_expr.specs.TypeReading.{type_at}
+use Rattle.token_reading.specs.TypeReading.{type_at}
 use Rattle.wdl_parse_expr.specs.Contract.{expr_continues, type_continues, read_expr, read_type, read_parts}
-use Rattle.wdl_parse_expr.proofs.Steps.{then_is}
-use Rattle.wdl_parse_expr.proofs.Says.{Says, Takes, says_then}
+use Rattle.token_reading.proofs.Steps.{then_is}
+use Rattle.token_reading.proofs.Says.{Says, Takes, says_then}
 use Rattle.wdl_parse_expr.proofs.Sound.{tall_words, expr_sound, expr_takes, parts_sound}
 use Rattle.wdl_parse_expr.proofs.Goes.{exact}
 use Rattle.wdl_parse_expr.proofs.Primaries.{parts_is}

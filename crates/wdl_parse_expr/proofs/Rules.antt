@@ -7,20 +7,21 @@ use Rattle.wdl_ast.specs.declared.expr.Expr.{Expr}
 use Rattle.wdl_ast.specs.declared.expr.Expr.TheVariants as e
 use Rattle.wdl_ast.specs.Words.{Words, marked, keyword, binary_mark, unary_mark, words}
 use Rattle.wdl_ast.proofs.WordLaws.{words_if, words_binary, words_unary}
-use Rattle.wdl_parse_expr.specs.declared.fault.Refusal.TheVariants.{Missing, Bad}
-use Rattle.wdl_parse_expr.specs.declared.tall.Tall.{Tall}
-use Rattle.wdl_parse_expr.specs.declared.tall.Chain.{Chain}
-use Rattle.wdl_parse_expr.specs.declared.tall.Rule.{Rule}
-use Rattle.wdl_parse_expr.specs.declared.tall.Rule.TheVariants as rule
-use Rattle.wdl_parse_expr.specs.Outcome.{Outcome, Parser, then_, attempt, is_word, eat_word, tall, grown}
+use Rattle.token_reading.specs.declared.fault.Refusal.TheVariants.{Missing, Bad}
+use Rattle.token_reading.specs.declared.tall.Tall.{Tall}
+use Rattle.token_reading.specs.declared.tall.Chain.{Chain}
+use Rattle.token_reading.specs.declared.tall.Rule.{Rule}
+use Rattle.token_reading.specs.declared.tall.Rule.TheVariants as rule
+use Rattle.token_reading.specs.Outcome.{Outcome, Parser, then_, attempt, is_word, eat_word, tall, grown, linked, one_more}
 use Rattle.wdl_parse_expr.specs.Grammar as g
-use Rattle.wdl_parse_expr.specs.Grammar.{looseness, ends_in_choice, IsPrimary, IsPost, IsUnary, IsRule, IsWhole, IsOf, Tree}
+use Rattle.token_reading.specs.Operators.{looseness, binary_at, unary_at}
+use Rattle.wdl_parse_expr.specs.Grammar.{ends_in_choice, IsPrimary, IsPost, IsUnary, IsRule, IsWhole, IsOf, Tree}
 use Rattle.wdl_parse_expr.specs.Reading as r
-use Rattle.wdl_parse_expr.specs.Reading.{binary_at, unary_at, chained, linked, one_more, Step, step, turns, expr}
+use Rattle.wdl_parse_expr.specs.Reading.{chained, Step, step, turns, expr}
 use Rattle.wdl_parse_expr.specs.Contract.{continues}
-use Rattle.wdl_parse_expr.proofs.Steps.{cond_true, cond_false, then_is, then_bad, attempt_is, attempt_bad, attempt_missing, found_some, found_none, grown_is}
-use Rattle.wdl_parse_expr.proofs.Says.{AnyFault, Takes, said}
-use Rattle.wdl_parse_expr.proofs.Tables.{ate_binary, sees_binary, sees_unary}
+use Rattle.token_reading.proofs.Steps.{cond_true, cond_false, then_is, then_bad, attempt_is, attempt_bad, attempt_missing, found_some, found_none, grown_is}
+use Rattle.token_reading.proofs.Says.{AnyFault, Takes, said}
+use Rattle.token_reading.proofs.Tables.{ate_binary, sees_binary, sees_unary}
 use Rattle.wdl_parse_expr.proofs.Sound.{IsSound, tall_words, RuledTree, rule_takes, expr_takes}
 use Rattle.wdl_parse_expr.proofs.Choices.{ends_if, ends_binary, ends_unary}
 use Rattle.wdl_parse_expr.proofs.Begins.{calm_before, Begins, Starts, binary_not_assign, unary_begins, no_assign_begins}

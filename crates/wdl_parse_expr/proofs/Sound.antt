@@ -26,24 +26,26 @@ use Rattle.wdl_ast.specs.declared.expr.Expr.{Expr}
 use Rattle.wdl_ast.specs.declared.expr.Expr.TheVariants as e
 use Rattle.wdl_ast.specs.Words.{Words, at, marked, keyword, ident, entry_words, member_words, options_words, part_words, parts_words, binary_mark, unary_mark, words}
 use Rattle.wdl_ast.proofs.WordLaws.{words_if, words_binary, words_unary, words_member, words_index, words_true, words_false, words_none, words_int, words_str, words_name, words_call, words_group, words_pair, words_list, words_map, words_struct}
-use Rattle.wdl_parse_expr.specs.declared.fault.Fault.{Fault}
-use Rattle.wdl_parse_expr.specs.declared.tall.Tall.{Tall}
-use Rattle.wdl_parse_expr.specs.declared.tall.Chain.{Chain}
-use Rattle.wdl_parse_expr.specs.declared.tall.Rule.{Rule}
-use Rattle.wdl_parse_expr.specs.declared.tall.Rule.TheVariants as rule
-use Rattle.wdl_parse_expr.specs.Outcome.{Parser, too_deep, is_hole_close, is_str_close, eat_if, eat, eat_word, ident_at, tall, bad}
-use Rattle.wdl_parse_expr.specs.Forms.{left_out, is_code, is_open_paren, expr_form}
+use Rattle.token_reading.specs.declared.fault.Fault.{Fault}
+use Rattle.token_reading.specs.declared.tall.Tall.{Tall}
+use Rattle.token_reading.specs.declared.tall.Chain.{Chain}
+use Rattle.token_reading.specs.declared.tall.Rule.{Rule}
+use Rattle.token_reading.specs.declared.tall.Rule.TheVariants as rule
+use Rattle.token_reading.specs.Outcome.{Parser, too_deep, is_hole_close, is_str_close, eat_if, eat, eat_word, ident_at, tall, bad, linked, one_more}
+use Rattle.token_reading.specs.Forms.{left_out, is_code, is_open_paren, expr_form}
 use Rattle.wdl_parse_expr.specs.Grammar as g
-use Rattle.wdl_parse_expr.specs.Grammar.{looseness, ends_bare, ends_in_choice, Listed, IsEntry, IsMember, Parts, IsPrimary, IsPost, IsUnary, IsRule, IsWhole, IsOf, Tree}
+use Rattle.token_reading.specs.Operators.{looseness, binary_at, unary_at}
+use Rattle.wdl_parse_expr.specs.Grammar.{ends_bare, ends_in_choice, Listed, IsEntry, IsMember, Parts, IsPrimary, IsPost, IsUnary, IsRule, IsWhole, IsOf, Tree}
 use Rattle.wdl_parse_expr.specs.Context as ctx
 use Rattle.wdl_parse_expr.specs.Context.{Part, a_rule, an_expr, an_operand, an_item, an_entry, a_member, a_part, Open, IsNode, Link, IsTooDeep, Points, ExprCause}
 use Rattle.wdl_parse_expr.specs.Reading as r
-use Rattle.wdl_parse_expr.specs.Reading.{binary_at, unary_at, list_of, options_at, chained, linked, leaf, one_more, Step, step, turns, expr}
-use Rattle.wdl_parse_expr.proofs.Steps.{ate, ate_word, ate_ident, ate_hole_close, ate_str_close}
-use Rattle.wdl_parse_expr.proofs.Says.{fault, AnyFault, Says, Takes, Sound, carry, says_then, says_attempt, says_found, says_cond, says_grown}
-use Rattle.wdl_parse_expr.proofs.Tables.{ate_binary, ate_unary}
+use Rattle.wdl_parse_expr.specs.Reading.{list_of, chained, leaf, Step, step, turns, expr}
+use Rattle.token_reading.specs.Strings.{options_at}
+use Rattle.token_reading.proofs.Steps.{ate, ate_word, ate_ident, ate_hole_close, ate_str_close}
+use Rattle.token_reading.proofs.Says.{fault, AnyFault, Says, Takes, Sound, carry, says_then, says_attempt, says_found, says_cond, says_grown}
+use Rattle.token_reading.proofs.Tables.{ate_binary, ate_unary}
 use Rattle.wdl_parse_expr.proofs.Lists.{IsList, list_sound}
-use Rattle.wdl_parse_expr.proofs.Strings.{options_sound}
+use Rattle.token_reading.proofs.Strings.{options_sound}
 
 abbrev pub tall_words : Tall Expr → Words
 tall_words t = words t.tree

@@ -1,12 +1,12 @@
 -- What a step along an expression says of what stood there.
 use Rattle.std.proofs.Common.{◌≡◌, Bool, true, false, Some, None, Ok, Err, ap, sym, ◌∙◌}
 use Rattle.wdl_ast.specs.Words.{Words}
-use Rattle.wdl_parse_expr.specs.declared.tall.Chain.{Chain}
-use Rattle.wdl_parse_expr.specs.declared.fault.Stop.{Stop}
-use Rattle.wdl_parse_expr.specs.declared.fault.Stop.TheVariants.{NoMemory, Refused}
-use Rattle.wdl_parse_expr.specs.Outcome.{Outcome, Fails}
+use Rattle.token_reading.specs.declared.tall.Chain.{Chain}
+use Rattle.token_reading.specs.declared.fault.Stop.{Stop}
+use Rattle.token_reading.specs.declared.fault.Stop.TheVariants.{NoMemory, Refused}
+use Rattle.token_reading.specs.Outcome.{Outcome, Fails}
 use Rattle.wdl_parse_expr.specs.Reading.{Step, step, told}
-use Rattle.wdl_parse_expr.proofs.Steps.{same, done}
+use Rattle.token_reading.proofs.Steps.{same, done}
 
 pub told_none : (left y : Chain) (b : Bool) (o : Step) (r : Words) → told left o ≡ done ((y, b), r) → b ≡ false → (o ≡ Ok (None, r)) × (y ≡ left)
 told_none left y b (Ok (None, t)) r h q = let s = same ((left, false), t) ((y, b), r) h in (ap (λ z. Ok (None, z)) s.1, ap (λ (z : Chain × Bool). z.0) (sym s.0))

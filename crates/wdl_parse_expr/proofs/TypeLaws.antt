@@ -14,19 +14,19 @@ use Rattle.wdl_ast.specs.declared.type_tree.BaseType.TheVariants as base
 use Rattle.wdl_ast.specs.declared.type_tree.TypeTree.{TypeTree}
 use Rattle.wdl_ast.specs.Words.{Words, at, marked, mark_words, keyword, base_words, questions_words, type_words}
 use Rattle.wdl_ast.proofs.WordLaws.{words_type}
-use Rattle.wdl_parse_expr.specs.declared.fault.Fault.{Fault}
-use Rattle.wdl_parse_expr.specs.declared.type_reader.Two.{Two}
-use Rattle.wdl_parse_expr.specs.Outcome.{Outcome, Parser, found, too_deep, is_mark, eat}
-use Rattle.wdl_parse_expr.specs.Forms.{type_form}
+use Rattle.token_reading.specs.declared.fault.Fault.{Fault}
+use Rattle.token_reading.specs.declared.type_reader.Two.{Two}
+use Rattle.token_reading.specs.Outcome.{Outcome, Parser, found, too_deep, is_mark, eat}
+use Rattle.token_reading.specs.Forms.{type_form}
 use Rattle.wdl_parse_expr.specs.Context as ctx
 use Rattle.wdl_parse_expr.specs.Context.{OpenType, Points, TypeCause}
-use Rattle.wdl_parse_expr.specs.TypeGrammar as g
-use Rattle.wdl_parse_expr.specs.TypeGrammar.{type_tree, IsBase, IsTypeOver, TypeWithin, max_type_depth}
-use Rattle.wdl_parse_expr.specs.TypeReading as r
-use Rattle.wdl_parse_expr.specs.TypeReading.{optional, questions_from, questions, type_at}
+use Rattle.token_reading.specs.TypeGrammar as g
+use Rattle.token_reading.specs.TypeGrammar.{type_tree, IsBase, IsTypeOver, TypeWithin, max_type_depth}
+use Rattle.token_reading.specs.TypeReading as r
+use Rattle.token_reading.specs.TypeReading.{optional, questions_from, questions, type_at}
 use Rattle.wdl_parse_expr.specs.Contract.{is_type_mark, type_continues}
-use Rattle.wdl_parse_expr.proofs.Steps.{ate, cond_true, cond_false, then_is, found_some, found_none}
-use Rattle.wdl_parse_expr.proofs.Says.{fault, AnyFault, Says, Takes, Sound, says_then, says_found, says_cond}
+use Rattle.token_reading.proofs.Steps.{ate, cond_true, cond_false, then_is, found_some, found_none}
+use Rattle.token_reading.proofs.Says.{fault, AnyFault, Says, Takes, Sound, says_then, says_found, says_cond}
 
 -- ---- marks that may be absent
 

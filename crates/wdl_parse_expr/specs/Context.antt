@@ -20,10 +20,11 @@ use Rattle.wdl_ast.specs.declared.expr.Expr.{Expr}
 use Rattle.wdl_ast.specs.declared.expr.Expr.TheVariants as e
 use Rattle.wdl_ast.specs.declared.type_tree.TypeTree.{TypeTree}
 use Rattle.wdl_ast.specs.Words.{Words, at, marked, keyword, ident, entry_words, member_words, options_words, part_words, binary_mark, unary_mark, words, type_words}
-use Rattle.wdl_parse_expr.specs.declared.tall.Rule.TheVariants as rule
-use Rattle.wdl_parse_expr.specs.Forms.{left_out, expr_form, type_form}
-use Rattle.wdl_parse_expr.specs.Grammar.{looseness, ends_in_choice, IsEntry, IsMember, IsPost, IsRule, Tree}
-use Rattle.wdl_parse_expr.specs.TypeGrammar.{TypeWithin, max_type_depth}
+use Rattle.token_reading.specs.declared.tall.Rule.TheVariants as rule
+use Rattle.token_reading.specs.Forms.{left_out, expr_form, type_form}
+use Rattle.token_reading.specs.Operators.{looseness}
+use Rattle.wdl_parse_expr.specs.Grammar.{ends_in_choice, IsEntry, IsMember, IsPost, IsRule, Tree}
+use Rattle.token_reading.specs.TypeGrammar.{TypeWithin, max_type_depth}
 
 -- What may stand behind some tokens: an expression of a rule, as IsRule counts them, an item of a list or of arguments, an entry of a map, a
 -- member of a struct literal, or a part of a string or a command.

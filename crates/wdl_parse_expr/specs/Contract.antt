@@ -12,18 +12,19 @@ use Rattle.wdl_ast.specs.declared.expr.BinaryOperator.{BinaryOperator}
 use Rattle.wdl_ast.specs.declared.expr.Expr.{Expr}
 use Rattle.wdl_ast.specs.declared.type_tree.TypeTree.{TypeTree}
 use Rattle.wdl_ast.specs.Words.{Words, words, type_words}
-use Rattle.wdl_parse_expr.specs.declared.fault.ParseFault.{ParseFault}
-use Rattle.wdl_parse_expr.specs.declared.fault.ParseFault.TheVariants as fault
-use Rattle.wdl_parse_expr.specs.declared.fault.Refusal.TheVariants as refusal
-use Rattle.wdl_parse_expr.specs.declared.fault.Stop.{Stop}
-use Rattle.wdl_parse_expr.specs.declared.fault.Stop.TheVariants as stop
-use Rattle.wdl_parse_expr.specs.declared.tall.Rule.TheVariants as rule
-use Rattle.wdl_parse_expr.specs.Outcome.{Parser, then_}
-use Rattle.wdl_parse_expr.specs.Grammar.{looseness, max_depth, IsExpr}
-use Rattle.wdl_parse_expr.specs.TypeGrammar.{max_type_depth, IsType}
+use Rattle.token_reading.specs.declared.fault.ParseFault.{ParseFault}
+use Rattle.token_reading.specs.declared.fault.ParseFault.TheVariants as fault
+use Rattle.token_reading.specs.declared.fault.Refusal.TheVariants as refusal
+use Rattle.token_reading.specs.declared.fault.Stop.{Stop}
+use Rattle.token_reading.specs.declared.fault.Stop.TheVariants as stop
+use Rattle.token_reading.specs.declared.tall.Rule.TheVariants as rule
+use Rattle.token_reading.specs.Outcome.{Parser, then_}
+use Rattle.token_reading.specs.Operators.{looseness, binary_of}
+use Rattle.wdl_parse_expr.specs.Grammar.{max_depth, IsExpr}
+use Rattle.token_reading.specs.TypeGrammar.{max_type_depth, IsType}
 use Rattle.wdl_parse_expr.specs.Context.{Part, an_expr, Points, ExprCause, TypeCause}
-use Rattle.wdl_parse_expr.specs.Reading.{binary_of, parts, expr}
-use Rattle.wdl_parse_expr.specs.TypeReading.{type_at}
+use Rattle.wdl_parse_expr.specs.Reading.{parts, expr}
+use Rattle.token_reading.specs.TypeReading.{type_at}
 
 -- ---- where a tree may go on
 

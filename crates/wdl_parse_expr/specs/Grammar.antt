@@ -8,32 +8,16 @@ use Rattle.wdl_ast.specs.declared.leaf.ListItem.{ListItem}
 use Rattle.wdl_ast.specs.declared.string.StringPart.{StringPart}
 use Rattle.wdl_ast.specs.declared.string.StringPart.TheVariants as part
 use Rattle.wdl_ast.specs.declared.expr.BinaryOperator.{BinaryOperator}
-use Rattle.wdl_ast.specs.declared.expr.BinaryOperator.TheVariants as op
 use Rattle.wdl_ast.specs.declared.expr.UnaryOperator.{UnaryOperator}
 use Rattle.wdl_ast.specs.declared.expr.MapEntry.{MapEntry}
 use Rattle.wdl_ast.specs.declared.expr.MemberEntry.{MemberEntry}
 use Rattle.wdl_ast.specs.declared.expr.Expr.{Expr, Expr-F, fold-Expr}
 use Rattle.wdl_ast.specs.declared.expr.Expr.TheOpen as layer
 use Rattle.wdl_ast.specs.declared.expr.Expr.TheVariants as e
-use Rattle.wdl_parse_expr.specs.declared.tall.Rule.{Rule}
-use Rattle.wdl_parse_expr.specs.declared.tall.Rule.TheVariants as rule
-use Rattle.wdl_parse_expr.specs.Forms.{left_out}
-
--- how loosely an operator binds
-abbrev pub looseness : BinaryOperator → ℕ
-looseness op.Multiply = 0
-looseness op.Divide = 0
-looseness op.Remainder = 0
-looseness op.Add = 1
-looseness op.Subtract = 1
-looseness op.Less = 2
-looseness op.LessEqual = 2
-looseness op.Greater = 2
-looseness op.GreaterEqual = 2
-looseness op.Equal = 3
-looseness op.NotEqual = 3
-looseness op.And = 4
-looseness op.Or = 5
+use Rattle.token_reading.specs.declared.tall.Rule.{Rule}
+use Rattle.token_reading.specs.declared.tall.Rule.TheVariants as rule
+use Rattle.token_reading.specs.Forms.{left_out}
+use Rattle.token_reading.specs.Operators.{looseness}
 
 -- ---- lists that commas separate
 

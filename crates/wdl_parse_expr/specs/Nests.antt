@@ -1,16 +1,14 @@
--- A function value that reads expressions, or types, to a depth.
+-- A function value that reads expressions to a depth.
 use Rattle.std.specs.Prelude.{ℕ, ◌<◌, Result}
 use Rattle.std.specs.declared.alloc.Global.{Global}
 use denote.Ref.{MutBor}
 use Rattle.wdl_ast.specs.declared.expr.Expr.{Expr}
-use Rattle.wdl_ast.specs.declared.type_tree.TypeTree.{TypeTree}
 use Rattle.wdl_ast.specs.Words.{Words}
-use Rattle.wdl_parse_expr.specs.declared.fault.Stop.{Stop}
-use Rattle.wdl_parse_expr.specs.declared.tall.Tall.{Tall}
-use Rattle.wdl_parse_expr.specs.declared.tall.Rule.{Rule}
-use Rattle.wdl_parse_expr.specs.Outcome.{Reads}
+use Rattle.token_reading.specs.declared.fault.Stop.{Stop}
+use Rattle.token_reading.specs.declared.tall.Tall.{Tall}
+use Rattle.token_reading.specs.declared.tall.Rule.{Rule}
+use Rattle.token_reading.specs.Outcome.{Reads}
 use Rattle.wdl_parse_expr.specs.Reading.{expr}
-use Rattle.wdl_parse_expr.specs.TypeReading.{type_at}
 
 pub record Nests (depth : ℕ) (pre : Global → MutBor Words → ℕ → Rule → Type 0)
     (post : Global → MutBor Words → ℕ → Rule → Result (Tall Expr) Stop → MutBor Words → Type 0) : Type 0 where
@@ -18,9 +16,3 @@ pub record Nests (depth : ℕ) (pre : Global → MutBor Words → ℕ → Rule �
   pub callable : (alloc : Global) (old : MutBor Words) (k : Rule) → pre alloc old depth k
   pub reads : (alloc : Global) (old new : MutBor Words) (k : Rule) (r : Result (Tall Expr) Stop) → post alloc old depth k r new
       → Reads (expr depth k old.now) r new.now
-
-pub record NestsTypes (depth : ℕ) (pre : Global → MutBor Words → ℕ → Type 0)
-    (post : Global → MutBor Words → ℕ → Result TypeTree Stop → MutBor Words → Type 0) : Type 0 where
-  pub callable : (alloc : Global) (old : MutBor Words) → pre alloc old depth
-  pub reads : (alloc : Global) (old new : MutBor Words) (r : Result TypeTree Stop) → post alloc old depth r new
-      → Reads (type_at depth old.now) r new.now

@@ -1,5 +1,5 @@
 -- Reads the longest expression at the front of a list of tokens.
-use Rattle.std.specs.Prelude.{ℕ, zero, suc, ◌+◌, max, Bool, true, false, ◌==◌, if◌then◌else◌, nat_le, List, [], ◌∷◌, ◌++◌, length, Option, Some, None, Ok, Err, codes}
+use Rattle.std.specs.Prelude.{ℕ, zero, suc, ◌+◌, max, Bool, true, false, if◌then◌else◌, List, [], ◌∷◌, ◌++◌, length, Option, Some, None, Ok, Err, codes}
 use Rattle.std.specs.Str.{bytes_eq}
 use Rattle.wdl_base.specs.declared.span.Span.{Span}
 use Rattle.wdl_base.specs.Names.{is_name}
@@ -10,82 +10,24 @@ use Rattle.wdl_ast.specs.declared.token.HoleMark.{HoleMark}
 use Rattle.wdl_ast.specs.declared.token.Kind.{Kind}
 use Rattle.wdl_ast.specs.declared.token.Kind.TheVariants as kind
 use Rattle.wdl_ast.specs.declared.leaf.Ident.{Ident}
-use Rattle.wdl_ast.specs.declared.leaf.Chars.{Chars}
-use Rattle.wdl_ast.specs.declared.leaf.PlainString.{PlainString}
 use Rattle.wdl_ast.specs.declared.leaf.ListItem.{ListItem}
 use Rattle.wdl_ast.specs.declared.string.StringPart.{StringPart}
 use Rattle.wdl_ast.specs.declared.string.StringPart.TheVariants as part
-use Rattle.wdl_ast.specs.declared.string.PlaceholderOption.{PlaceholderOption}
-use Rattle.wdl_ast.specs.declared.string.PlaceholderOptions.{PlaceholderOptions}
-use Rattle.wdl_ast.specs.declared.string.PlaceholderOptions.TheVariants as options
-use Rattle.wdl_ast.specs.declared.expr.BinaryOperator.{BinaryOperator}
-use Rattle.wdl_ast.specs.declared.expr.BinaryOperator.TheVariants as op
-use Rattle.wdl_ast.specs.declared.expr.UnaryOperator.{UnaryOperator}
-use Rattle.wdl_ast.specs.declared.expr.UnaryOperator.TheVariants as pre
 use Rattle.wdl_ast.specs.declared.expr.MapEntry.{MapEntry}
 use Rattle.wdl_ast.specs.declared.expr.MemberEntry.{MemberEntry}
 use Rattle.wdl_ast.specs.declared.expr.Expr.{Expr}
 use Rattle.wdl_ast.specs.declared.expr.Expr.TheVariants as e
 use Rattle.wdl_ast.specs.Words.{Words, at}
-use Rattle.wdl_parse_expr.specs.declared.tall.Tall.{Tall}
-use Rattle.wdl_parse_expr.specs.declared.tall.Closed.{Closed}
-use Rattle.wdl_parse_expr.specs.declared.tall.Chain.{Chain}
-use Rattle.wdl_parse_expr.specs.declared.tall.Rule.{Rule}
-use Rattle.wdl_parse_expr.specs.declared.tall.Rule.TheVariants as rule
-use Rattle.wdl_parse_expr.specs.declared.operator.OptionWord.{OptionWord}
-use Rattle.wdl_parse_expr.specs.declared.operator.OptionWord.TheVariants as word
-use Rattle.wdl_parse_expr.specs.Outcome.{Outcome, Parser, missing, bad, then_, attempt, found, too_deep, is_hole_close, is_str_close, eat_if, eat, eat_word, ident_at, tall, grown}
-use Rattle.wdl_parse_expr.specs.Forms.{left_out}
-use Rattle.wdl_parse_expr.specs.Grammar.{looseness, ends_bare, ends_in_choice}
-
--- ---- operators
-
-abbrev pub binary_of : Mark → Option BinaryOperator
-binary_of mark.Or = Some op.Or
-binary_of mark.And = Some op.And
-binary_of mark.Equal = Some op.Equal
-binary_of mark.NotEqual = Some op.NotEqual
-binary_of mark.Less = Some op.Less
-binary_of mark.LessEqual = Some op.LessEqual
-binary_of mark.Greater = Some op.Greater
-binary_of mark.GreaterEqual = Some op.GreaterEqual
-binary_of mark.Plus = Some op.Add
-binary_of mark.Minus = Some op.Subtract
-binary_of mark.Star = Some op.Multiply
-binary_of mark.Slash = Some op.Divide
-binary_of mark.Percent = Some op.Remainder
-binary_of _ = None
-
-abbrev pub unary_of : Mark → Option UnaryOperator
-unary_of mark.Not = Some pre.Not
-unary_of mark.Minus = Some pre.Negate
-unary_of mark.Plus = Some pre.Plus
-unary_of _ = None
-
-abbrev pub leveled : ℕ → Option BinaryOperator → Span → Words → Option ((BinaryOperator × Span) × Words)
-leveled k (Some o) s ts = if looseness o == k then Some ((o, s), ts) else None
-leveled k None s ts = None
-
-abbrev pub binary_from : ℕ → Kind → Span → Words → Option ((BinaryOperator × Span) × Words)
-binary_from k (kind.Mark m) s ts = leveled k (binary_of m) s ts
-binary_from k _ s ts = None
-
--- an operator that binds so loosely
-abbrev pub binary_at : ℕ → Words → Option ((BinaryOperator × Span) × Words)
-binary_at k [] = None
-binary_at k (t ∷ ts) = binary_from k t.kind t.span ts
-
-abbrev pub signs : Option UnaryOperator → Span → Words → Option ((UnaryOperator × Span) × Words)
-signs (Some o) s ts = Some ((o, s), ts)
-signs None s ts = None
-
-abbrev pub unary_from : Kind → Span → Words → Option ((UnaryOperator × Span) × Words)
-unary_from (kind.Mark m) s ts = signs (unary_of m) s ts
-unary_from _ s ts = None
-
-abbrev pub unary_at : Words → Option ((UnaryOperator × Span) × Words)
-unary_at [] = None
-unary_at (t ∷ ts) = unary_from t.kind t.span ts
+use Rattle.token_reading.specs.declared.tall.Tall.{Tall}
+use Rattle.token_reading.specs.declared.tall.Closed.{Closed}
+use Rattle.token_reading.specs.declared.tall.Chain.{Chain}
+use Rattle.token_reading.specs.declared.tall.Rule.{Rule}
+use Rattle.token_reading.specs.declared.tall.Rule.TheVariants as rule
+use Rattle.token_reading.specs.Outcome.{Outcome, Parser, missing, bad, then_, attempt, found, too_deep, is_hole_close, is_str_close, eat_if, eat, eat_word, ident_at, tall, grown, linked, one_more}
+use Rattle.token_reading.specs.Operators.{binary_at, unary_at}
+use Rattle.token_reading.specs.Strings.{options_at}
+use Rattle.token_reading.specs.Forms.{left_out}
+use Rattle.wdl_parse_expr.specs.Grammar.{ends_bare, ends_in_choice}
 
 -- ---- lists that commas separate
 
@@ -111,88 +53,13 @@ module _ {E : Type 0} (one : Parser (Tall E)) (close : Mark) where
   abbrev pub list_of : Parser (Closed E)
   list_of ts = list_from (length ts) [] 0 ts
 
--- ---- plain strings and the options of placeholders
-
-abbrev pub quote_of : Kind → Span → Words → Option ((Quote × Span) × Words)
-quote_of (kind.StrOpen q) s ts = Some ((q, s), ts)
-quote_of _ s ts = None
-
-abbrev pub quote_at : Words → Option ((Quote × Span) × Words)
-quote_at [] = None
-quote_at (t ∷ ts) = quote_of t.kind t.span ts
-
-abbrev pub chars_of : Kind → Span → Words → Option Chars × Words
-chars_of (kind.Chars w) s ts = (Some (record { text = w; span = s }), ts)
-chars_of k s ts = (None, at k s ∷ ts)
-
--- characters, if they stand there
-abbrev pub chars_at : Words → Option Chars × Words
-chars_at [] = (None, [])
-chars_at (t ∷ ts) = chars_of t.kind t.span ts
-
-abbrev pub plain_end : Quote × Span → Option Chars → Parser PlainString
-plain_end q ch ts = found (eat_if is_str_close ts) (λ c rest. Ok (record { quote = q.0; opening = q.1; chars = ch; closing = c }, rest)) missing
-
-unfoldable pub plain : Parser PlainString
-plain ts = found (quote_at ts) (λ q rest. plain_end q (chars_at rest).0 (chars_at rest).1) missing
-
-abbrev pub option_word : List ℕ → OptionWord
-option_word w =
-    if bytes_eq w (codes "sep") then word.Sep
-    else if bytes_eq w (codes "default") then word.Default
-    else if bytes_eq w (codes "true") then word.True
-    else if bytes_eq w (codes "false") then word.False
-    else word.Other
-
-abbrev pub option_behind : OptionWord → Span → Words → Option ((OptionWord × (Span × Span)) × Words)
-option_behind w s ts = found (eat mark.Assign ts) (λ a rest. Some ((w, (s, a)), rest)) None
-
-abbrev pub option_from : Kind → Span → Words → Option ((OptionWord × (Span × Span)) × Words)
-option_from (kind.Word w) s ts = option_behind (option_word w) s ts
-option_from _ s ts = None
-
--- a word before `=`
-abbrev pub option_start : Words → Option ((OptionWord × (Span × Span)) × Words)
-option_start [] = None
-option_start (t ∷ ts) = option_from t.kind t.span ts
-
-unfoldable pub option_end : Span × Span → Parser PlaceholderOption
-option_end s ts = then_ (plain ts) (λ v rest. Ok (record { word = s.0; assign = s.1; value = v }, rest))
-
-abbrev pub same_option : OptionWord → OptionWord → Bool
-same_option word.True word.True = true
-same_option word.False word.False = true
-same_option _ _ = false
-
--- the second of `true` and `false`
-unfoldable pub other_option : OptionWord → Parser PlaceholderOption
-other_option w ts = found (option_start ts) (λ o rest. if same_option o.0 w then option_end o.1 rest else missing) missing
-
-abbrev pub options_by : OptionWord → Span × Span → Parser PlaceholderOptions
-options_by word.Sep s ts = then_ (option_end s ts) (λ o rest. Ok (options.Sep o, rest))
-options_by word.Default s ts = then_ (option_end s ts) (λ o rest. Ok (options.Default o, rest))
-options_by word.True s ts = then_ (option_end s ts) (λ o rest. then_ (other_option word.False rest) (λ p more. Ok (options.TrueFalse o p, more)))
-options_by word.False s ts = then_ (option_end s ts) (λ o rest. then_ (other_option word.True rest) (λ p more. Ok (options.FalseTrue o p, more)))
-options_by word.Other s ts = missing
-
-unfoldable pub options_at : Parser PlaceholderOptions
-options_at ts = found (option_start ts) (λ o rest. options_by o.0 o.1 rest) (Ok (options.Plain, ts))
-
 -- ---- expressions; inner reads one, one level deeper
 
 abbrev pub chained : Tall Expr → Chain
 chained x = record { left = x; links = 0; inside = x.depth }
 
--- one more link
-unfoldable pub linked : ℕ → Span → ℕ → ℕ → Expr → Parser Chain
-linked depth s links inside x ts = if nat_le (links + inside) depth then Ok (record { left = tall x (suc (links + inside)); links = suc links; inside = inside }, ts) else bad 111 s
-
 abbrev pub leaf : {A : Type 0} → A → Parser (Tall A)
 leaf x ts = Ok (tall x 1, ts)
-
-abbrev pub one_more : {A B : Type 0} → Option A → (A → B) → B → B
-one_more (Some x) f other = f x
-one_more None f other = other
 
 module _ (inner : Rule → Parser (Tall Expr)) where
   unfoldable pub entry : Parser (Tall (MapEntry Expr))

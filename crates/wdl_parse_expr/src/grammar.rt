@@ -1,10 +1,10 @@
 //! The rules take the reader of expressions as a parameter, so that each is proved by itself.
-#![tactic(auto, using(std::proofs::lemmas::Grind::common_steps), unfolding(crate::specs::Outcome::then_, crate::specs::Outcome::attempt, crate::specs::Outcome::found))]
+#![tactic(auto, using(std::proofs::lemmas::Grind::common_steps), unfolding(token_reading::specs::Outcome::then_, token_reading::specs::Outcome::attempt, token_reading::specs::Outcome::found))]
 
 ghost use Rattle.std.specs.Prelude.{◌≡◌, List};
 ghost use Rattle.wdl_ast.specs.declared.token.Token.{Token};
-ghost use Rattle.wdl_parse_expr.specs.Outcome as outcome;
-ghost use Rattle.wdl_parse_expr.specs.Outcome.{Reads};
+ghost use Rattle.token_reading.specs.Outcome as outcome;
+ghost use Rattle.token_reading.specs.Outcome.{Reads};
 ghost use Rattle.wdl_parse_expr.specs.Reading as spec;
 ghost use Rattle.wdl_parse_expr.specs.Grammar as grammar;
 ghost use Rattle.wdl_parse_expr.specs.Nests.{Nests};
@@ -12,17 +12,12 @@ ghost use Rattle.wdl_parse_expr.specs.Nests.{Nests};
 mod chain;
 mod choice;
 mod list;
-mod plain_string;
 mod primary;
 mod string;
 mod whole;
 
-use crate::cursor::Cursor;
-use crate::fault::Stop;
-use crate::read::grown;
-use crate::tall::{Rule, Tall};
-pub use plain_string::plain;
 use std::alloc::Global;
+use token_reading::{Cursor, Rule, Stop, Tall, grown};
 use wdl_ast::Expr;
 use wdl_value::Span;
 pub use whole::expr;

@@ -1,15 +1,12 @@
 ghost use Rattle.std.specs.Prelude.{◌≡◌, ◌≤◌, length, drop, Ok, IfOk};
 ghost use Rattle.wdl_ast.specs.Words.{words, type_words};
 ghost use Rattle.wdl_parse_expr.specs.Grammar.{IsExpr};
-ghost use Rattle.wdl_parse_expr.specs.TypeGrammar.{IsType};
+ghost use Rattle.token_reading.specs.TypeGrammar.{IsType};
 ghost use Rattle.wdl_parse_expr.specs.Contract.{Fronts, IsLongest, IsPlaced, IfBad, RefusesExpr, RefusesType, FaultOf, read_expr};
 
-use crate::cursor::Cursor;
-use crate::fault::{ParseFault, Refusal, Stop};
 use crate::grammar::expr;
-use crate::tall::Rule;
-use crate::type_reader::type_at;
 use std::alloc::Global;
+use token_reading::{Cursor, ParseFault, Refusal, Rule, Stop, type_at};
 use wdl_ast::{Expr, Token, TypeTree};
 use wdl_value::Span;
 

@@ -1,21 +1,18 @@
 //! Readers over a cursor, for whoever reads what expressions and types are parts of.
-#![tactic(auto, using(std::proofs::lemmas::Grind::common_steps), unfolding(crate::specs::Outcome::then_))]
+#![tactic(auto, using(std::proofs::lemmas::Grind::common_steps), unfolding(token_reading::specs::Outcome::then_))]
 
-ghost use Rattle.wdl_parse_expr.specs.Outcome.{Reads};
+ghost use Rattle.token_reading.specs.Outcome.{Reads};
 ghost use Rattle.wdl_parse_expr.specs.Contract as contract;
 
-use crate::cursor::Cursor;
-use crate::fault::Stop;
 use crate::grammar::{Grammar, expr};
 use crate::parse::{MAX_DEPTH, MAX_TYPE_DEPTH};
-use crate::tall::Rule;
-use crate::type_reader::type_at;
 use sqlite_items::Items;
 use std::alloc::Global;
+use token_reading::{Cursor, Rule, Stop, type_at};
 use wdl_ast::{Expr, StringPart, TypeTree};
 
 /// Reads the longest expression at the cursor, of a depth of at most 64.
-#[tactic(auto, using(std::proofs::lemmas::Grind::common_steps), unfolding(crate::specs::Outcome::then_, crate::specs::Contract::read_expr))]
+#[tactic(auto, using(std::proofs::lemmas::Grind::common_steps), unfolding(token_reading::specs::Outcome::then_, crate::specs::Contract::read_expr))]
 pub fn read_expr(alloc: Global, tokens: &mut Cursor<'_>) -> Result<Expr, Stop>
     ensures { Reads (contract.read_expr tokens.old) result tokens.new }
 {
@@ -32,7 +29,7 @@ pub fn read_type(alloc: Global, tokens: &mut Cursor<'_>) -> Result<TypeTree, Sto
 }
 
 /// Reads the characters and placeholders of a command, up to its end.
-#[tactic(auto, using(std::proofs::lemmas::Grind::common_steps), unfolding(crate::specs::Outcome::then_, crate::specs::Contract::read_parts))]
+#[tactic(auto, using(std::proofs::lemmas::Grind::common_steps), unfolding(token_reading::specs::Outcome::then_, crate::specs::Contract::read_parts))]
 pub fn read_parts(alloc: Global, tokens: &mut Cursor<'_>) -> Result<Items<StringPart<Expr>>, Stop>
     ensures { Reads (contract.read_parts tokens.old) result tokens.new }
 {

@@ -1,8 +1,9 @@
 use sqlite_items::Items;
 use std::alloc::Global;
 use std::test::Fail;
+use token_reading::ParseFault;
 use wdl_ast::{Expr, HoleMark, Kind, Mark, Quote, Token};
-use wdl_parse_expr::{ParseFault, parse_expr, parse_type};
+use wdl_parse_expr::{parse_expr, parse_type};
 use wdl_value::{NoMemory, Span, Text};
 
 /// The word that a letter of a row stands for.

@@ -6,8 +6,8 @@ use Rattle.wdl_ast.specs.declared.document.Document.{Document}
 use Rattle.wdl_ast.specs.Spelled.{Spelled}
 use Rattle.wdl_lex.specs.Limits.{IsWithinLimits}
 use Rattle.wdl_lex.specs.Faults.{IsFault}
-use Rattle.wdl_parse_expr.specs.declared.fault.ParseFault.{ParseFault}
-use Rattle.wdl_parse_expr.specs.declared.fault.ParseFault.TheVariants as fault
+use Rattle.token_reading.specs.declared.fault.ParseFault.{ParseFault}
+use Rattle.token_reading.specs.declared.fault.ParseFault.TheVariants as fault
 use Rattle.wdl_parse_doc.specs.Contract.{Written, RefusesDocument}
 
 -- the bytes are the text of the document of that number

@@ -3,8 +3,10 @@
 
 mod fault;
 mod source;
+mod sources;
 mod walk;
 
 pub use fault::ImportFault;
 pub use source::{Source, SourceFault};
+pub use sources::Sources;
 pub use walk::{Step, read_all};

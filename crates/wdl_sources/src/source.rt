@@ -7,10 +7,10 @@ ghost use Rattle.wdl_sources.specs.Walks.{FetchCounts, Fetches};
 
 use std::alloc::Global;
 use thiserror::Error;
+use token_reading::ParseFault;
 use wdl_ast::Document;
 use wdl_lex::{LexFault, lex};
 use wdl_parse_doc::parse;
-use wdl_parse_expr::ParseFault;
 use wdl_port::{ReadFault, Shelf};
 use wdl_value::{Span, Text};
 

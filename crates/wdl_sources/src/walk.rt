@@ -1,6 +1,6 @@
 //! The documents that imports lead to, depth first.
 
-ghost use Rattle.std.specs.Prelude.{◌≡◌, ◌↔◌, ◌≤◌, ◌++◌, ◌∷◌, [], ℕ, List, false, length, map, reverse, IfOk, OnOk};
+ghost use Rattle.std.specs.Prelude.{◌≡◌, ◌↔◌, ◌≤◌, ◌++◌, ℕ, List, false, length, reverse, IfOk, OnOk};
 ghost use Rattle.wdl_base.specs.Names.{is_among};
 ghost use Rattle.wdl_base.specs.Plain.{has_nul};
 ghost use Rattle.wdl_sources.specs.Walks as spec;
@@ -8,6 +8,7 @@ ghost use Rattle.wdl_port.specs.Causes.{Rose};
 
 use crate::fault::ImportFault;
 use crate::source::{Source, SourceFault, fetch};
+use crate::sources::Sources;
 use sqlite_items::Items;
 use std::alloc::Global;
 use wdl_links::{LinkFault, Want, wants_of};
@@ -23,18 +24,6 @@ pub struct Step {
     pub path: Text,
     pub base: Text,
     pub span: Span,
-}
-
-/// Whether a document was read at a path.
-fn is_read(sources: &[Source], path: &Text) -> bool
-    ensures { result ≡ is_among path.now (spec.paths sources.now) }
-{
-    for source in sources {
-        if source.path.same(path) {
-            return true;
-        }
-    }
-    false
 }
 
 /// The step to an imported document.
@@ -101,14 +90,16 @@ fn with_wants(alloc: Global, source: Source) -> Result<(Source, Items<Want>), Im
     }
 }
 
-/// Reads the document at a step, and puts what it imports before the steps that wait. 205 is answered where there are 64 documents.
+/// Reads the document at a step, whose path was not read yet, and puts what it imports before the steps that wait. 205 is answered
+/// where there are 64 documents.
 fn take<F: Shelf>(
     alloc: Global,
     shelf: &mut F,
-    sources: &mut Items<Source>,
+    sources: &mut Sources,
     waiting: &mut Vec<Step>,
     step: Step,
 ) -> Result<(), ImportFault>
+    requires { is_among step.path (spec.paths sources.old) ≡ false }
     ensures outcome { spec.Takes (F.tells shelf.old step.path) (F.refuses shelf.old step.path) (Rose (F.faults shelf.old) (F.faults shelf.new)) step
         sources.old sources.new (reverse waiting.old.items) (reverse waiting.new.items) result }
     ensures counted { spec.Counts result (F.faults shelf.old) (F.faults shelf.new) }
@@ -128,18 +119,14 @@ fn take<F: Shelf>(
     let source = source_at(alloc, shelf, path, sources.len() as u32)?;
     let (source, wants) = with_wants(alloc, source)?;
     put_before(alloc, &source.path, wants, waiting)?;
-    sources.push(source)?;
+    sources.push(alloc, source)?;
     Ok(())
 }
 
 /// All documents that the one at a path leads to, depth first in the order of the imports, each once. `Read` is answered only for a
 /// path that the shelf refuses, and only where its count of faults rose; it is the given path, or that of an import of a document
 /// that was read before. With documents, or with `Bad`, each read succeeded: the shelf has counted no fault.
-pub fn read_all<F: Shelf>(
-    alloc: Global,
-    shelf: &mut F,
-    path: &str,
-) -> Result<Items<Source>, ImportFault>
+pub fn read_all<F: Shelf>(alloc: Global, shelf: &mut F, path: &str) -> Result<Sources, ImportFault>
     requires { has_nul path.now ≡ false }
     ensures outcome { spec.Gathers (F.tells shelf.old) (F.refuses shelf.old) (Rose (F.faults shelf.old) (F.faults shelf.new)) path.now result }
     ensures counted { spec.Counts result (F.faults shelf.old) (F.faults shelf.new) }
@@ -147,11 +134,11 @@ pub fn read_all<F: Shelf>(
     ensures same_files { (p : List ℕ) → F.tells shelf.new p ≡ F.tells shelf.old p }
     ensures same_refusals { (p : List ℕ) → F.refuses shelf.new p ↔ F.refuses shelf.old p }
 {
-    let mut sources = Items::new(alloc);
+    let mut sources = Sources::empty(alloc);
     let mut waiting = Vec::new(alloc);
     waiting.push(first_step(alloc, path)?)?;
     'walk: while let Some(step) = waiting.pop() {
-        if is_read(sources.as_slice(), &step.path) {
+        if sources.has(&step.path) {
             continue;
         }
         take(alloc, shelf, &mut sources, &mut waiting, step)?;

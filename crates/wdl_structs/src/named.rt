@@ -12,10 +12,10 @@ ghost use Rattle.wdl_structs.specs.Ready.{IsReady, IsFull, HasStructsBy, stood_b
 ghost use Rattle.wdl_structs.specs.Tables.{names_of};
 
 use crate::identity::classes_of;
-use crate::keep::{keep_all, structs_of};
+use crate::kept_members::{keep_all, structs_of};
 use crate::known::unknown_alias;
 use crate::seen::tables_of;
-use crate::stand::{all_stands, with_stands};
+use crate::struct_names::{all_stands, with_stands};
 use crate::table::{Table, entries_at};
 use sqlite_items::Items;
 use std::alloc::Global;
@@ -24,7 +24,7 @@ use wdl_links::LinkFault;
 use wdl_value::{NoMemory, Structs};
 
 /// The documents with the names that stand for theirs.
-fn stood(
+fn with_standing_names(
     alloc: Global,
     docs: Items<Doc>,
     tables: &[Table],
@@ -66,7 +66,7 @@ fn identified(
     ensures { spec.IsAnswer docs result }
 {
     let classes = classes_of(alloc, docs.as_slice(), tables)?;
-    let docs = stood(alloc, docs, tables, classes.parents.as_slice())?;
+    let docs = with_standing_names(alloc, docs, tables, classes.parents.as_slice())?;
     let structs = structs_by(alloc, docs.as_slice(), tables, classes.parents.as_slice())?;
     Ok((docs, structs))
 }

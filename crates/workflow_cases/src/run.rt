@@ -11,7 +11,8 @@ use std::thread::Threads;
 use std::time::Clock;
 use wdl_port::{Keeper, Launcher, MapKeeper, MemoryShelf, MemorySink, TableLauncher};
 use wdl_value::Steps;
-use workflow_cli::{Ended, RecallingShelf, workflow};
+use workflow_cli::{Ended, workflow};
+use workflow_stages::RecallingShelf;
 
 /// How a call ended, what was written, and the journal's keeper.
 pub struct Outcome {

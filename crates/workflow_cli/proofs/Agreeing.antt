@@ -6,10 +6,10 @@ use Rattle.wdl_typed.specs.declared.flow.FlowDef.{FlowDef}
 use Rattle.wdl_json.specs.Inputs.{main_of}
 use Rattle.wdl_same.specs.Forms.{same_but_names}
 use Rattle.wdl_same.proofs.SameForms.{forms_agree}
-use Rattle.workflow_cli.specs.Bundling.{IsSameForm}
-use Rattle.workflow_cli.specs.Documents.{HasMain, Tells}
+use Rattle.workflow_stages.specs.Documents.{HasMain, Tells}
+use Rattle.workflow_texts.specs.Bundling.{IsSameForm}
+use Rattle.workflow_texts.specs.Translating.{library_of}
 use Rattle.workflow_cli.specs.Meaning.{BundlesAgree, HasTwin}
-use Rattle.workflow_cli.specs.Translating.{library_of}
 use Rattle.workflow_cli.proofs.Simulated.{main_is}
 
 -- what has the same form has the same main workflow

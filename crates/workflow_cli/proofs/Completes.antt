@@ -15,24 +15,24 @@ use Rattle.wdl_json.specs.Inputs.{inputs_in, main_of}
 use Rattle.wdl_json.specs.declared.fault.InputFault.{InputFault}
 use Rattle.wdl_json.specs.declared.fault.InputFault.TheVariants.{Bad}
 use Rattle.wdl_port.specs.Causes.{Rose}
+use Rattle.workflow_stages.specs.Documents.{HasChecked, HasNoMain, IsRefused, Tells}
+use Rattle.workflow_stages.specs.Preparing.{IsInputsText}
+use Rattle.workflow_texts.specs.Translating.{GivesAll, IsCwlText, IsInSubset}
 use Rattle.workflow_cli.specs.declared.asking.Command.{Command}
 use Rattle.workflow_cli.specs.declared.asking.Command.TheVariants as command
 use Rattle.workflow_cli.specs.declared.asking.Page.{Page}
 use Rattle.workflow_cli.specs.declared.asking.RunOptions.{RunOptions}
 use Rattle.workflow_cli.specs.Asking.{IsBundleOf, IsCheckOf, IsCommand, IsCwlOf, IsForFlow, IsForInputs, IsForMain, IsPrintOf, IsRunOf, Words, asked}
-use Rattle.workflow_cli.specs.Bundling.{IsBundled, IsRuledOut, IsUnbundled}
+use Rattle.workflow_cli.specs.Texts.{IsBundled, IsFormed, IsOutside, IsRuledOut, IsTranslated, IsUnbundled}
 use Rattle.workflow_cli.specs.Causes.{CauseOf, IsFinished, Names}
 use Rattle.workflow_cli.specs.Complete.{BundleIsComplete, CheckIsComplete, CwlIsComplete, DocumentIsComplete, FormIsComplete, InputsIsComplete, IsOr, IsSomeDocument, IsSomeExclusion, MainIsComplete, MustGive, MustHave, MustLack, PrintIsComplete, RunIsComplete, UsageIsComplete}
-use Rattle.workflow_cli.specs.Documents.{HasChecked, HasNoMain, IsRefused, Tells}
-use Rattle.workflow_cli.specs.Printing.{IsFormed}
-use Rattle.workflow_cli.specs.Running.{IsBadInputs, IsInputsText, IsStarted, Main, Trace, flow_of}
-use Rattle.workflow_cli.specs.Translating.{GivesAll, IsCwlText, IsInSubset, IsOutside, IsTranslated}
+use Rattle.workflow_cli.specs.Running.{IsBadInputs, IsStarted, Main, Trace, flow_of}
 use Rattle.workflow_cli.specs.Writing.{IsCut, Told}
+use Rattle.workflow_texts.proofs.Excluded.{not_outside}
 use Rattle.workflow_cli.proofs.Commands.{main_naming, named_inputs, naming, no_check, no_flow, no_print, no_run, one_file, one_inputs, print_names, readable, same_command}
 use Rattle.workflow_cli.proofs.Forms.{one_form}
 use Rattle.workflow_cli.proofs.Outcomes.{Outcome}
 use Rattle.workflow_cli.proofs.Works.{for_main}
-use Rattle.workflow_cli.proofs.Excluded.{not_outside}
 
 none_within : {A : Type 0} (x : A) → Contains [] x → ⊥
 none_within x c = omega (arith, c.1)

@@ -8,15 +8,15 @@ use Rattle.wdl_words.specs.declared.wants.Wants.{Wants}
 use Rattle.wdl_words.specs.declared.wants.Wants.TheVariants.{Run, Check, Inputs, Cwl, Load, Bundle, Help, Version}
 use Rattle.work_desk.specs.declared.stop.Stop.{Stop}
 use Rattle.work_desk.specs.declared.stop.Stop.TheVariants as end
+use Rattle.workflow_stages.specs.declared.ended.Work.{Work}
+use Rattle.workflow_stages.specs.Documents.{Tells}
 use Rattle.workflow_cli.specs.declared.asking.Command.{Command}
 use Rattle.workflow_cli.specs.declared.asking.Command.TheVariants as command
 use Rattle.workflow_cli.specs.declared.asking.Report.{Report}
 use Rattle.workflow_cli.specs.declared.asking.Report.TheVariants as report
 use Rattle.workflow_cli.specs.declared.asking.RunOptions.{RunOptions}
-use Rattle.workflow_cli.specs.declared.ended.Work.{Work}
 use Rattle.workflow_cli.specs.Asking.{IsRunOf, Words, command_of}
 use Rattle.workflow_cli.specs.Causes.{Cause, CauseOf, IsWork}
-use Rattle.workflow_cli.specs.Documents.{Tells}
 use Rattle.workflow_cli.specs.Reporting.{report_line}
 use Rattle.workflow_cli.specs.Running.{IsRun, IsStarted, IsUnkept, KeepsRows, Main, Trace, core_of}
 use Rattle.workflow_cli.specs.Stages.{IsFailedAs, RunsMain, StopsAs, Turns}

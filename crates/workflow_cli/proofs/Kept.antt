@@ -13,7 +13,7 @@ use Rattle.work_desk.specs.Keeping.{AreFrom, AreKept, AreLeft, KeeperView, RowsW
 use Rattle.work_desk.specs.declared.stop.Stop.{Stop}
 use Rattle.work_desk.specs.declared.stop.Stop.TheVariants as end
 use Rattle.workflow_cli.specs.Stages.{IsOpened, OpenStops, Opens}
-use Rattle.workflow_cli.proofs.Started.{rose_later}
+use Rattle.workflow_stages.proofs.Started.{rose_later}
 
 no_entry : (e : Entry) → Contains [] e → ⊥
 no_entry e c = omega (arith, c.1)

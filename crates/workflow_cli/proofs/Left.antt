@@ -18,7 +18,7 @@ use Rattle.work_desk.specs.Run.{IsGiven}
 use Rattle.work_desk.specs.Views.{AllEqual}
 use Rattle.work_desk.specs.declared.stop.Stop.{Stop}
 use Rattle.work_desk.specs.declared.stop.Stop.TheVariants as end
-use Rattle.workflow_cli.specs.declared.ended.Work.{Work}
+use Rattle.workflow_stages.specs.declared.ended.Work.{Work}
 use Rattle.workflow_cli.specs.Running.{AreRowsOf, IsIdle, IsOn, KeepsRows, Main, Trace, core_of, origin_of}
 use Rattle.workflow_cli.specs.Stages.{HasLeft, IsOpened, OpenStops, RunsMain, Turns, stops}
 use Rattle.workflow_cli.proofs.Kept.{went_from, went_none}

@@ -17,18 +17,19 @@ use Rattle.wdl_load.specs.Loads.{AreLoadRows}
 use Rattle.ready_core.specs.Cores.{CoreState}
 use Rattle.work_desk.specs.declared.stop.Stop.{Stop as Why}
 use Rattle.work_desk.specs.declared.stop.Stop.TheVariants as end
+use Rattle.workflow_stages.specs.declared.ended.Stop.{Stop}
+use Rattle.workflow_stages.specs.declared.ended.Work.{Work}
+use Rattle.workflow_stages.specs.declared.ended.Work.TheVariants as work
+use Rattle.workflow_stages.specs.declared.prepare.Prepared.{Prepared}
+use Rattle.workflow_stages.specs.Preparing.{IsPrepared, PrepareStops, Prepares}
 use Rattle.workflow_cli.specs.declared.asking.Command.{Command}
 use Rattle.workflow_cli.specs.declared.asking.Command.TheVariants as command
 use Rattle.workflow_cli.specs.declared.asking.RunOptions.{RunOptions}
-use Rattle.workflow_cli.specs.declared.ended.Stop.{Stop}
-use Rattle.workflow_cli.specs.declared.ended.Work.{Work}
-use Rattle.workflow_cli.specs.declared.ended.Work.TheVariants as work
-use Rattle.workflow_cli.specs.declared.prepare.Prepared.{Prepared}
 use Rattle.workflow_cli.specs.Asking.{AskStops, IsCommand, IsForMain, IsLoad, IsLoadOf, Words}
 use Rattle.workflow_cli.specs.Causes.{Names}
 use Rattle.workflow_cli.specs.Loading.{IsLoaded, IsLoadWritten, LoadsAs, RunsLoad, Starts, load_file, load_files, load_options, load_refused, load_tells, table_gives, table_refuses}
 use Rattle.workflow_cli.specs.Running.{IsIdle, Leaves, Main, Trace, core_of}
-use Rattle.workflow_cli.specs.Stages.{IsFailedAs, IsFitting, IsPrepared, PrepareStops, Prepares, RunsMain, StopsAs, Turns, main_with, stops}
+use Rattle.workflow_cli.specs.Stages.{IsFailedAs, IsFitting, RunsMain, StopsAs, Turns, main_with, stops}
 use Rattle.workflow_cli.specs.Writing.{Finishes, Reports, Told}
 use Rattle.workflow_cli.proofs.Commands.{readable, same_command}
 

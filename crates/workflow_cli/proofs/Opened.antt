@@ -6,11 +6,11 @@ use Rattle.report_text.specs.declared.status.Status.{Status}
 use Rattle.report_text.specs.declared.status.Status.TheVariants as status
 use Rattle.work_desk.specs.declared.stop.Stop.{Stop}
 use Rattle.work_desk.specs.declared.stop.Stop.TheVariants as end
+use Rattle.workflow_stages.specs.Documents.{Tells}
 use Rattle.workflow_cli.specs.declared.asking.Command.TheVariants as command
 use Rattle.workflow_cli.specs.declared.asking.RunOptions.{RunOptions}
 use Rattle.workflow_cli.specs.Asking.{IsJournal, Words}
 use Rattle.workflow_cli.specs.Causes.{CauseOf, IsFinished, IsOfRun, IsStartedOn}
-use Rattle.workflow_cli.specs.Documents.{Tells}
 use Rattle.workflow_cli.specs.Running.{IsIdle, IsRun, IsStarted, KeepsRows, Main, SomeRun, Trace, core_of}
 use Rattle.workflow_cli.specs.Writing.{Told}
 use Rattle.workflow_cli.proofs.Commands.{same_command}

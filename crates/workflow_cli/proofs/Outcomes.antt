@@ -8,11 +8,11 @@ use Rattle.report_text.specs.declared.status.Status.{Status}
 use Rattle.report_text.specs.declared.status.Status.TheVariants as status
 use Rattle.report_text.specs.Lines.{line_of}
 use Rattle.wdl_port.specs.Told.{grown}
-use Rattle.workflow_cli.specs.declared.ended.Work.{Work}
-use Rattle.workflow_cli.specs.declared.ended.Work.TheVariants as work
+use Rattle.workflow_stages.specs.declared.ended.Work.{Work}
+use Rattle.workflow_stages.specs.declared.ended.Work.TheVariants as work
+use Rattle.workflow_stages.specs.Documents.{Tells}
 use Rattle.workflow_cli.specs.Asking.{Words}
 use Rattle.workflow_cli.specs.Causes.{Cause, CauseOf}
-use Rattle.workflow_cli.specs.Documents.{Tells}
 use Rattle.workflow_cli.specs.Running.{Trace}
 use Rattle.workflow_cli.specs.Writing.{Finishes, IsCut, IsExcluded, IsReported, IsWritten, Lines, Reports, TellsLine, Told}
 

@@ -10,12 +10,12 @@ use Rattle.wdl_json.specs.Inputs.{main_of}
 use Rattle.ready_core.specs.Cores.{CoreState, started}
 use Rattle.report_text.specs.declared.status.Status.{Status}
 use Rattle.work_desk.specs.declared.stop.Stop.{Stop as Why}
+use Rattle.workflow_stages.specs.declared.ended.Stop.{Stop}
+use Rattle.workflow_stages.specs.declared.ended.Work.{Work}
+use Rattle.workflow_stages.specs.declared.ended.Work.TheVariants as work
 use Rattle.workflow_cli.specs.declared.asking.Report.{Report}
-use Rattle.workflow_cli.specs.declared.ended.Stop.{Stop}
-use Rattle.workflow_cli.specs.declared.ended.Work.{Work}
-use Rattle.workflow_cli.specs.declared.ended.Work.TheVariants as work
 use Rattle.workflow_cli.specs.Stages.{IsBegun, IsFitting, StopsAs, Turns, stops}
-use Rattle.workflow_cli.proofs.Started.{has_number, is_numbered}
+use Rattle.workflow_stages.proofs.Started.{has_number, is_numbered}
 
 some_same : {A : Type 0} {x y : A} → Some x ≡ Some y → x ≡ y
 some_same e = cc

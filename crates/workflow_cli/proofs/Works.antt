@@ -4,19 +4,21 @@ use Rattle.wdl_base.specs.declared.answer.Answer.{Answer}
 use Rattle.wdl_base.specs.declared.request.Request.{Request}
 use Rattle.report_text.specs.declared.status.Status.{Status}
 use Rattle.report_text.specs.declared.status.Status.TheVariants as status
+use Rattle.workflow_stages.specs.declared.ended.Stop.{Stop}
+use Rattle.workflow_stages.specs.declared.ended.Work.{Work}
+use Rattle.workflow_stages.specs.declared.ended.Work.TheVariants as work
+use Rattle.workflow_stages.specs.Documents.{CheckStops, MainStops, Tells}
+use Rattle.workflow_stages.specs.Preparing.{PrepareStops}
+use Rattle.workflow_texts.specs.Bundling.{BundleStops, WritesBundle}
+use Rattle.workflow_texts.specs.Forming.{WritesForm}
+use Rattle.workflow_texts.specs.Translating.{DocumentStops, ObjectStops, Translates, WritesDocument, WritesObject}
 use Rattle.workflow_cli.specs.declared.asking.Page.{Page}
 use Rattle.workflow_cli.specs.declared.asking.RunOptions.{RunOptions}
-use Rattle.workflow_cli.specs.declared.ended.Stop.{Stop}
-use Rattle.workflow_cli.specs.declared.ended.Work.{Work}
-use Rattle.workflow_cli.specs.declared.ended.Work.TheVariants as work
 use Rattle.workflow_cli.specs.Asking.{AskStops, IsBundleOf, IsCheckOf, IsCwlOf, IsForInputs, IsForMain, IsFormOf, IsPrintOf, IsRunOf, Words}
-use Rattle.workflow_cli.specs.Bundling.{BundleStops, WritesBundle}
 use Rattle.workflow_cli.specs.Causes.{Cause, CauseOf, IsWork, Names, UsesJournal}
-use Rattle.workflow_cli.specs.Documents.{CheckStops, MainStops, Tells}
-use Rattle.workflow_cli.specs.Printing.{Prints, WritesForm}
+use Rattle.workflow_cli.specs.Printing.{Prints}
 use Rattle.workflow_cli.specs.Running.{IsIdle, IsStarted, NamesJournal, Trace}
-use Rattle.workflow_cli.specs.Stages.{Accepts, HasStopped, PrepareStops, RunsFile, main_with}
-use Rattle.workflow_cli.specs.Translating.{DocumentStops, ObjectStops, Translates, WritesDocument, WritesObject}
+use Rattle.workflow_cli.specs.Stages.{Accepts, HasStopped, RunsFile, main_with}
 use Rattle.workflow_cli.proofs.Ends.{main_is_work}
 
 -- whose inputs are read has a main workflow

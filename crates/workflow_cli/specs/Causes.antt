@@ -7,13 +7,12 @@ use Rattle.wdl_base.specs.declared.span.Span.{Span}
 use Rattle.report_text.specs.declared.status.Status.{Status}
 use Rattle.report_text.specs.declared.status.Status.TheVariants as status
 use Rattle.wdl_typed.specs.declared.checked.Checked.{Checked}
-use Rattle.workflow_cli.specs.declared.ended.Work.{Work}
-use Rattle.workflow_cli.specs.declared.ended.Work.TheVariants as work
+use Rattle.workflow_stages.specs.declared.ended.Work.{Work}
+use Rattle.workflow_stages.specs.declared.ended.Work.TheVariants as work
+use Rattle.workflow_stages.specs.Documents.{HasChecked, HasNoMain, IsRefused, IsUnreadDocument, Tells}
 use Rattle.workflow_cli.specs.Asking.{IsCheckOf, IsForMain, IsJournal, Words, asked}
-use Rattle.workflow_cli.specs.Bundling.{IsBundled, IsRuledOut}
-use Rattle.workflow_cli.specs.Documents.{HasChecked, HasNoMain, IsRefused, IsUnreadDocument, Tells}
-use Rattle.workflow_cli.specs.Printing.{IsFormed, IsPrinted}
-use Rattle.workflow_cli.specs.Translating.{IsTranslated}
+use Rattle.workflow_cli.specs.Texts.{IsBundled, IsFormed, IsRuledOut, IsTranslated}
+use Rattle.workflow_cli.specs.Printing.{IsPrinted}
 use Rattle.workflow_cli.specs.Running.{IsBadInputs, IsDone, IsFailed, IsIdle, IsOn, IsTooMany, IsUnkept, IsUnlaunched, IsUnreadInputs, SomeRun, Trace}
 
 -- the words name the document at this path

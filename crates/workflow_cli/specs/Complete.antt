@@ -18,10 +18,11 @@ use Rattle.wdl_json.specs.Inputs.{inputs_in, main_of}
 use Rattle.workflow_cli.specs.declared.asking.Page.{Page}
 use Rattle.workflow_cli.specs.Asking.{IsBundleOf, IsCheckOf, IsCwlOf, IsForInputs, IsForMain, IsFormOf, IsPrintOf, IsRunOf, Words, asked}
 use Rattle.wdl_json.specs.declared.fault.InputFault.TheVariants.{Bad}
+use Rattle.workflow_stages.specs.Documents.{Tells}
+use Rattle.workflow_stages.specs.Preparing.{IsInputsText}
+use Rattle.workflow_texts.specs.Translating.{IsInSubset}
 use Rattle.workflow_cli.specs.Causes.{Names}
-use Rattle.workflow_cli.specs.Documents.{Tells}
-use Rattle.workflow_cli.specs.Running.{IsInputsText, Main, Trace, flow_of}
-use Rattle.workflow_cli.specs.Translating.{IsInSubset}
+use Rattle.workflow_cli.specs.Running.{Main, Trace, flow_of}
 
 abbrev pub IsOr : Status → Status → Type 0
 IsOr s r = (r ≡ s) ⊎ (r ≡ status.NoMemory)

@@ -1,12 +1,9 @@
 pub mod Asking
-pub mod Documents
 pub mod Running
+pub mod Texts
 pub mod Causes
-pub mod Counting
 pub mod Reporting
 pub mod Stages
-pub mod Translating
-pub mod Bundling
 pub mod Printing
 pub mod Meaning
 pub mod Writing

@@ -16,16 +16,17 @@ use Rattle.wdl_load.specs.Loads.{AreLoadRows, load_text}
 use Rattle.wdl_json.specs.Inputs.{inputs_in, main_of}
 use Rattle.ready_core.specs.Cores.{cost_at}
 use Rattle.ready_core.specs.Flows.{outputs_in}
+use Rattle.workflow_stages.specs.declared.ended.Stop.{Stop}
+use Rattle.workflow_stages.specs.declared.ended.Work.{Work}
+use Rattle.workflow_stages.specs.declared.prepare.Prepared.{Prepared}
+use Rattle.workflow_stages.specs.Alone.{alone, alone_refused, only_file}
+use Rattle.workflow_stages.specs.Documents.{HasChecked, Tells}
+use Rattle.workflow_stages.specs.Preparing.{IsPrepared, Prepares}
 use Rattle.workflow_cli.specs.declared.asking.Report.TheVariants as report
 use Rattle.workflow_cli.specs.declared.asking.RunOptions.{RunOptions}
-use Rattle.workflow_cli.specs.declared.ended.Stop.{Stop}
-use Rattle.workflow_cli.specs.declared.ended.Work.{Work}
-use Rattle.workflow_cli.specs.declared.prepare.Prepared.{Prepared}
-use Rattle.workflow_cli.specs.Bundling.{alone, alone_refused, only_file}
-use Rattle.workflow_cli.specs.Documents.{HasChecked, Tells}
 use Rattle.workflow_cli.specs.Reporting.{load_line}
 use Rattle.workflow_cli.specs.Running.{IsIdle, Leaves, Main, Trace, flow_of, origin_of}
-use Rattle.workflow_cli.specs.Stages.{HasStopped, IsPrepared, Prepares, RunsMain, main_with, stops}
+use Rattle.workflow_cli.specs.Stages.{HasStopped, RunsMain, main_with, stops}
 use Rattle.workflow_cli.specs.Writing.{Finishes, Told}
 
 -- ---- its own shelf, launcher and options

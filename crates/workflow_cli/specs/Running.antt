@@ -9,7 +9,6 @@ use Rattle.wdl_base.specs.declared.step.Counts.{Counts}
 use Rattle.wdl_base.specs.declared.step.Step.{Step}
 use Rattle.wdl_value.specs.declared.env.Bind.{Bind}
 use Rattle.wdl_port.specs.Causes.{Rose}
-use Rattle.wdl_port.specs.Files.{IsFile}
 use Rattle.wdl_port.specs.Rows.{AreRows}
 use Rattle.wdl_typed.specs.declared.checked.Checked.{Checked}
 use Rattle.wdl_typed.specs.declared.flow.FlowDef.{FlowDef}
@@ -27,11 +26,12 @@ use Rattle.work_desk.specs.Stops.{is_strict}
 use Rattle.work_desk.specs.Views.{AllEqual}
 use Rattle.work_desk.specs.declared.stop.Stop.{Stop}
 use Rattle.work_desk.specs.declared.stop.Stop.TheVariants as end
+use Rattle.workflow_stages.specs.Documents.{HasChecked, Tells}
+use Rattle.workflow_stages.specs.Preparing.{IsInputsText}
 use Rattle.workflow_cli.specs.declared.asking.RunOptions.{RunOptions}
 use Rattle.workflow_cli.specs.declared.ended.Ended.{Ended}
 use Rattle.workflow_cli.specs.declared.ended.Worked.{Worked}
 use Rattle.workflow_cli.specs.Asking.{IsForInputs, IsRunOf, Words}
-use Rattle.workflow_cli.specs.Documents.{HasChecked, Tells}
 
 -- ---- what a run leaves
 
@@ -65,12 +65,7 @@ pub record IsIdle (t : Trace) : Type 0 where
   pub no_step : t.now ≡ t.before
   pub no_row : t.keeper_now.kept ≡ t.keeper.kept
 
--- ---- the inputs
-
--- the text of the inputs: that of the file, or `{}` where none is named
-abbrev pub IsInputsText : Tells → Option (List ℕ) → List ℕ → Type 0
-IsInputsText tells None text = text ≡ codes "{}"
-IsInputsText tells (Some path) text = IsFile (tells path) text
+-- ---- the main workflow
 
 -- the main workflow of a checked library, its inputs, and the options of its run
 pub record Main : Type 0 where

@@ -5,15 +5,15 @@ use Rattle.wdl_base.specs.declared.request.Request.{Request}
 use Rattle.wdl_base.specs.declared.span.Span.{Span}
 use Rattle.report_text.specs.declared.status.Status.{Status}
 use Rattle.report_text.specs.declared.status.Status.TheVariants as status
-use Rattle.report_text.specs.Lines.{line_of, HasPath}
+use Rattle.report_text.specs.Lines.{line_of}
 use Rattle.wdl_port.specs.Told.{grown}
-use Rattle.workflow_cli.specs.declared.ended.Work.{Work}
-use Rattle.workflow_cli.specs.declared.ended.Work.TheVariants as work
+use Rattle.workflow_stages.specs.declared.ended.Work.{Work}
+use Rattle.workflow_stages.specs.declared.ended.Work.TheVariants as work
+use Rattle.workflow_stages.specs.Documents.{Tells}
 use Rattle.workflow_cli.specs.Asking.{Words}
-use Rattle.workflow_cli.specs.Documents.{Tells}
 use Rattle.workflow_cli.specs.Running.{IsIdle, Trace}
 use Rattle.workflow_cli.specs.Causes.{CauseOf, IsBadDocument, IsFinished}
-use Rattle.workflow_cli.specs.Bundling.{IsRuledOut}
+use Rattle.workflow_cli.specs.Texts.{IsRuledOut}
 
 -- what a sink tells that it holds
 abbrev pub Told : Type 0
@@ -49,11 +49,6 @@ abbrev pub Finishes : Work → Told → Told → Told → Told → Type 0 → Ty
 Finishes (work.Text text) out out' err err' rose_out rose_err r =
     ((r ≡ status.Ok) × (out' ≡ grown out text) × (err' ≡ err)) ⊎ ((r ≡ status.Write) × IsCutText text out out' err err' rose_out rose_err)
 Finishes (work.Stop stop) out out' err err' rose_out rose_err r = (out' ≡ out) × Reports stop.status stop.paths err err' rose_err r
-
--- each span of the line's status lies in a document with a path
-abbrev pub HasPaths : Work → Type 0
-HasPaths (work.Text text) = ⊤
-HasPaths (work.Stop stop) = HasPath stop.status stop.paths
 
 -- ---- with each status
 

@@ -133,7 +133,7 @@ fn wants_of(alloc: Global, words: &[String]) -> Result<Wants, Status>
 }
 
 /// What the words ask for: `Usage` where they have no reading.
-pub fn asked(alloc: Global, words: &[String]) -> Result<Command, Status>
+pub fn read_command(alloc: Global, words: &[String]) -> Result<Command, Status>
     ensures value { Asks words.now result }
     ensures limits { IfOk result spec.IsWithin }
     ensures paths { IfErr result (λ s. HasPath s []) }

@@ -1,12 +1,12 @@
 ghost use Rattle.report_text.specs.Lines.{HasPath, line_of as line};
 ghost use Rattle.wdl_port.specs.Causes.{Rose};
-ghost use Rattle.workflow_cli.specs.Writing.{TellsLine, Reports, Finishes, HasPaths};
+ghost use Rattle.workflow_stages.specs.Paths.{HasPaths};
+ghost use Rattle.workflow_cli.specs.Writing.{TellsLine, Reports, Finishes};
 
-use crate::ended::{Stop, Work};
-use crate::writing::write_all;
 use report_text::{Status, line_of, no_memory_line, write_line};
 use std::alloc::Global;
 use wdl_port::Sink;
+use workflow_stages::{Stop, Work, write_all};
 
 /// Writes the line of a status.
 fn tell_line<E: Sink>(status: Status, text: &str, err: &mut E) -> Status

@@ -1,18 +1,27 @@
 //! What the documents mean that are written: laws of the definitions, which say nothing of code.
 
-ghost use Rattle.workflow_cli.specs.Meaning.{BundlesAgree, DocumentsMean, DocumentsRead, ObjectsMean, ObjectsRead};
+ghost use Rattle.workflow_cli.specs.Meaning.{BundlesAgree, DocumentsMean, DocumentsRead, FormsMean, ObjectsMean, ObjectsRead, PlainDocumentsMean};
 
 /// The CWL document that `cwl` writes is the text of a JSON value that reads as the process of the
-/// main workflow, and a newline. The process means what the workflow does (CWL v1.2, Workflow;
-/// OpenWDL 1.1, "Workflow Definition"): for inputs that fit and keep the limits, any site, and any
-/// table of answers with statuses below 256, the flow of the main workflow is clean exactly where
-/// the meaning of the process is complete, and then both have the same jobs and the same outputs.
-/// The same holds of the inputs whose CWL input object `cwl --inputs` writes: that is the text of a
-/// JSON value that reads, by the types of the inputs of the process, as the object with which the
-/// process means this (CWL v1.2, "Executing CWL documents as scripts"), and a newline.
+/// main workflow without aliases and struct inputs, and a newline; where struct inputs were
+/// replaced by their members, as a process with records round it (CWL v1.2, Workflow,
+/// "InputRecordSchema"). The process means what the workflow does (CWL v1.2, Workflow; OpenWDL 1.1,
+/// "Workflow Definition"): for inputs that fit and keep the limits, any site, and any table of
+/// answers with statuses below 256, the flow of that main workflow, for the members of these
+/// inputs, is clean exactly where the meaning of the process is complete, and then both have the
+/// same jobs and the same outputs. So are the flow of the workflow as it was read, for these inputs
+/// themselves, and the meaning of the process, where the files that answers tell of keep the limits
+/// of values; and in any case where there was nothing to replace.
+///
+/// The same holds of the inputs whose CWL input object `cwl --inputs` writes: where none is a
+/// struct, that is the text of a JSON value that reads, by the types of the inputs of the process,
+/// as the object with which the process means this (CWL v1.2, "Executing CWL documents as
+/// scripts"), and a newline.
 pub fn documents_mean()
     ensures read { DocumentsRead }
     ensures documents { DocumentsMean }
+    ensures forms { FormsMean }
+    ensures plain { PlainDocumentsMean }
     ensures objects { ObjectsMean }
     ensures objects_read { ObjectsRead }
 {}

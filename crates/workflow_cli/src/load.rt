@@ -6,17 +6,13 @@ ghost use Rattle.report_text.specs.Lines.{HasPath};
 ghost use Rattle.wdl_load.specs.Loads.{AreLoadRows};
 ghost use Rattle.wdl_typed.specs.declared.flow.FlowDef.{FlowDef as Flow};
 ghost use Rattle.work_desk.specs.Keeping.{KeeperView};
+ghost use Rattle.workflow_stages.specs.Paths.{HasPaths};
 ghost use Rattle.workflow_cli.specs.Loading as spec;
 ghost use Rattle.workflow_cli.specs.Running.{work_trace};
 ghost use Rattle.workflow_cli.specs.Stages.{IsFitting, main_with};
-ghost use Rattle.workflow_cli.specs.Writing.{HasPaths};
 
-use crate::alone::shelf_of;
 use crate::asking::{Report, RunOptions};
-use crate::checking::stop;
-use crate::ended::{Stop, Work, Worked};
-use crate::prepare::{Prepared, start_of};
-use crate::recall::RecallingShelf;
+use crate::ended::Worked;
 use crate::run::{idle, run_plain};
 use report_text::Status;
 use run_notes::Style;
@@ -28,6 +24,7 @@ use std::time::Clock;
 use wdl_load::{load_table, load_text};
 use wdl_port::{MemoryShelf, MemorySink, TableLauncher};
 use wdl_value::{Items, NoMemory, Steps, Text};
+use workflow_stages::{Prepared, RecallingShelf, Stop, Work, shelf_of, start_of, stop_of};
 
 /// The path of the document on its shelf.
 const FILE: &str = "load.wdl";
@@ -66,7 +63,7 @@ fn load_start(alloc: Global, number: u32) -> Result<Prepared, Stop>
     ensures paths { IfErr result (λ s. HasPath s.status s.paths) }
 {
     let Ok(Source { file, mut shelf }) = source_of(alloc, number) else {
-        return Err(stop(alloc, Status::NoMemory));
+        return Err(stop_of(alloc, Status::NoMemory));
     };
     start_of(alloc, &file, &None, &mut shelf)
 }
@@ -127,7 +124,7 @@ fn run_load<R: Threads + Wait + Clock + Sync, S: Ledger>(
         },
     ) = means_of(alloc, number)
     else {
-        return idle(alloc, Work::Stop(stop(alloc, Status::NoMemory)));
+        return idle(alloc, Work::Stop(stop_of(alloc, Status::NoMemory)));
     };
     run_plain(
         rt,

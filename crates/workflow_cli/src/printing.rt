@@ -1,67 +1,15 @@
-//! The inputs of the main workflow as a form, and the program's own texts.
+//! The program's own texts.
 
-ghost use Rattle.std.specs.Prelude.{◌≡◌, IfOk, IsSome, Some};
-ghost use Rattle.wdl_port.specs.Causes.{Rose};
-ghost use Rattle.wdl_typed.specs.declared.flow.FlowDef.{FlowDef as Flow};
-ghost use Rattle.wdl_json.specs.Inputs.{main_of as main_in};
-ghost use Rattle.workflow_cli.specs.Counting.{WorkCounts};
+ghost use Rattle.std.specs.Prelude.{◌≡◌};
+ghost use Rattle.workflow_stages.specs.Paths.{HasPaths};
 ghost use Rattle.workflow_cli.specs.Printing as spec;
-ghost use Rattle.workflow_cli.specs.Writing.{HasPaths};
 
 use crate::asking::Page;
-use crate::checking::stop;
-use crate::ended::Work;
-use crate::prepare::{main_flow, main_of};
-use crate::recall::Recall;
 use help_text::{help_of, version_text};
-use input_form::inputs_form;
 use report_text::Status;
 use std::alloc::Global;
-use wdl_port::Shelf;
-use wdl_typed::{Checked, FlowDef};
-use wdl_value::{NoMemory, Text};
-
-/// The form of a workflow's inputs, and a newline.
-fn form_line(alloc: Global, flow: &FlowDef) -> Result<Text, NoMemory>
-    ensures value { IfOk result (spec.IsFormLine flow.now) }
-{
-    let mut text = inputs_form(alloc, flow)?;
-    text.push_ascii(b'\n')?;
-    Ok(text)
-}
-
-fn form_work(alloc: Global, flow: &FlowDef) -> Work
-    ensures value { spec.FormWork flow.now result }
-    ensures paths { HasPaths result }
-{
-    match form_line(alloc, flow) {
-        Ok(text) => Work::Text(text),
-        Err(_) => Work::Stop(stop(alloc, Status::NoMemory)),
-    }
-}
-
-fn form_in(alloc: Global, checked: &Checked) -> Work
-    requires main { IsSome (main_in checked.now.flows checked.now.main) }
-    ensures value { (f : Flow) → main_in checked.now.flows checked.now.main ≡ Some f → spec.FormWork f result }
-    ensures paths { HasPaths result }
-{
-    let Some(flow) = main_flow(checked) else {
-        unreachable!();
-    };
-    form_work(alloc, flow)
-}
-
-/// The form of the inputs of the main workflow of the document at a path.
-pub fn form<F: Shelf + Recall>(alloc: Global, file: &Text, shelf: &mut F) -> Work
-    ensures value { spec.WritesForm (F.tells shelf.old) (F.refuses shelf.old) (Rose (F.faults shelf.old) (F.faults shelf.new)) file.now result }
-    ensures counted { WorkCounts result (F.faults shelf.old) (F.faults shelf.new) }
-    ensures paths { HasPaths result }
-{
-    match main_of(alloc, file, shelf) {
-        Ok(located) => form_in(alloc, &located.checked),
-        Err(stop) => Work::Stop(stop),
-    }
-}
+use wdl_value::Text;
+use workflow_stages::{Work, stop_of};
 
 /// The text of a page.
 #[tactic(auto, unfolding(crate::specs::Printing::page_text))]
@@ -82,6 +30,6 @@ pub fn printed(alloc: Global, page: Page) -> Work
     // No page holds NUL, so only memory can be lacking.
     match Text::new(alloc, text_of(page)) {
         Ok(text) => Work::Text(text),
-        Err(_) => Work::Stop(stop(alloc, Status::NoMemory)),
+        Err(_) => Work::Stop(stop_of(alloc, Status::NoMemory)),
     }
 }

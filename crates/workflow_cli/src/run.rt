@@ -12,19 +12,16 @@ ghost use Rattle.work_desk.specs.Keeping.{IsReady, KeeperView, keeper_view};
 ghost use Rattle.work_desk.specs.Ran.{IsDone};
 ghost use Rattle.work_desk.specs.Views.{AllEqual};
 ghost use Rattle.work_desk.specs.declared.stop.Stop.TheVariants as end;
-ghost use Rattle.workflow_cli.specs.Counting.{WorkCounts};
+ghost use Rattle.workflow_stages.specs.Counting.{WorkCounts};
+ghost use Rattle.workflow_stages.specs.Paths.{HasPaths};
 ghost use Rattle.workflow_cli.specs.Reporting.{report_line};
 ghost use Rattle.workflow_cli.specs.Running.{NamesJournal, work_trace};
 ghost use Rattle.workflow_cli.specs.Stages.{IsBegun, IsFailedAs, IsFitting, IsOpened, RunsFile, RunsMain, StopsAs, Turns, main_with};
-ghost use Rattle.workflow_cli.specs.Writing.{HasPaths};
 
 use crate::asking::{Report, RunOptions};
-use crate::checking::stop;
-use crate::ended::{Work, Worked};
+use crate::ended::Worked;
 use crate::journal::rows_of;
 use crate::load_line::load_line;
-use crate::prepare::{Prepared, main_flow, start_of};
-use crate::recall::Recall;
 use ready_core::{Core, History};
 use report_text::Status;
 use run_notes::{RunNotes, Style};
@@ -37,6 +34,7 @@ use wdl_json::outputs_text;
 use wdl_port::{Keeper, Launcher, NoKeeper, Shelf, Sink};
 use wdl_value::{Bind, Counts, Entry, Items, Name, NoMemory, Steps, Text};
 use work_desk::{Ran, Stop, run_all};
+use workflow_stages::{Prepared, Recall, Work, main_flow, start_of, stop_of};
 
 /// The outputs as one JSON object, and a newline.
 fn text_of(alloc: Global, name: &Name, outputs: &[Bind]) -> Result<Text, NoMemory>
@@ -76,7 +74,7 @@ fn outputs_work(alloc: Global, report: Report, name: &Name, core: &Core) -> Work
     };
     match report_of(alloc, report, name, core, outputs.as_slice()) {
         Ok(text) => Work::Text(text),
-        Err(_) => Work::Stop(stop(alloc, Status::NoMemory)),
+        Err(_) => Work::Stop(stop_of(alloc, Status::NoMemory)),
     }
 }
 
@@ -121,7 +119,7 @@ fn work_of(alloc: Global, report: Report, name: &Name, core: &Core, why: Option<
 {
     match why {
         None => outputs_work(alloc, report, name, core),
-        Some(why) => Work::Stop(stop(alloc, status_of(alloc, core, why))),
+        Some(why) => Work::Stop(stop_of(alloc, status_of(alloc, core, why))),
     }
 }
 
@@ -220,7 +218,7 @@ pub fn run_plain<L: Launcher + Sync, N: Sink, R: Threads + Wait + Clock + Sync, 
     ensures paths { HasPaths result.work }
 {
     let Ok(Begun { core, name }) = begin(alloc, prepared, &options.root, steps) else {
-        return idle(alloc, Work::Stop(stop(alloc, Status::NoMemory)));
+        return idle(alloc, Work::Stop(stop_of(alloc, Status::NoMemory)));
     };
     let mut progress = RunNotes::new(alloc, notes, rt, style);
     let ran = run_all(
@@ -264,7 +262,7 @@ fn run_over<L: Launcher + Sync, K: Keeper, N: Sink, R: Threads + Wait + Clock + 
     ensures path { K.path keeper.new ≡ K.path keeper.old }
 {
     let Ok(Begun { core, name }) = begin(alloc, prepared, &options.root, steps) else {
-        return idle(alloc, Work::Stop(stop(alloc, Status::NoMemory)));
+        return idle(alloc, Work::Stop(stop_of(alloc, Status::NoMemory)));
     };
     let mut progress = RunNotes::new(alloc, notes, rt, style);
     let ran = run_all(
@@ -310,7 +308,7 @@ fn run_main<L: Launcher + Sync, K: Keeper, N: Sink, R: Threads + Wait + Clock + 
         Ok(rows) => run_over(
             rt, alloc, prepared, options, rows, launcher, keeper, notes, style, steps,
         ),
-        Err(status) => idle(alloc, Work::Stop(stop(alloc, status))),
+        Err(status) => idle(alloc, Work::Stop(stop_of(alloc, status))),
     }
 }
 

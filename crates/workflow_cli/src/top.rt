@@ -4,9 +4,9 @@ ghost use Rattle.wdl_base.specs.declared.fault.Fault.{Fault as FaultOf};
 ghost use Rattle.wdl_base.specs.declared.place.Segment.{Segment as SegmentOf};
 ghost use Rattle.wdl_base.specs.declared.span.Span.{Span as SpanOf};
 ghost use Rattle.report_text.specs.declared.status.Status.TheVariants as status;
+ghost use Rattle.workflow_stages.specs.Counting.{StatusCounts};
 ghost use Rattle.workflow_cli.specs.Asking.{IsLoad, IsLoadOf, asked};
 ghost use Rattle.workflow_cli.specs.Causes.{IsStartedOn, IsUnread, UsesJournal};
-ghost use Rattle.workflow_cli.specs.Counting.{StatusCounts};
 ghost use Rattle.workflow_cli.specs.Loading.{IsLoadWritten, LoadEnds};
 ghost use Rattle.workflow_cli.specs.Running.{IsBadInputs, IsFailed, IsIdle, IsTooMany, IsUnkept, IsUnlaunched, SomeRun, trace_by};
 ghost use Rattle.workflow_cli.specs.Writing.{IsCut, IsExcluded, IsReported, IsWritten, Lines};
@@ -14,8 +14,6 @@ ghost use Rattle.workflow_cli.specs.Complete.{BundleIsComplete, CheckIsComplete,
 
 use crate::ended::{Ended, Worked};
 use crate::finish::finish;
-use crate::note::write_note;
-use crate::recall::Recall;
 use crate::work::work;
 use run_notes::Style;
 use std::alloc::Global;
@@ -25,6 +23,7 @@ use std::thread::Threads;
 use std::time::Clock;
 use wdl_port::{Keeper, Launcher, Shelf, Sink};
 use wdl_value::Steps;
+use workflow_stages::{Recall, write_note};
 
 /// All that the program does. `run [--inputs FILE] [--workers N] [--root DIR] [--journal FILE] FILE` reads the document of that
 /// file and its imports from the shelf, checks them, reads the inputs, runs the main workflow by N workers, which launch its jobs

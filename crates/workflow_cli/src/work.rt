@@ -1,22 +1,18 @@
 ghost use Rattle.std.specs.Prelude.{◌≡◌, ◌⊎◌, ℕ, None};
 ghost use Rattle.wdl_port.specs.Causes.{Rose};
 ghost use Rattle.work_desk.specs.Keeping.{keeper_view};
+ghost use Rattle.workflow_stages.specs.Counting.{WorkCounts};
+ghost use Rattle.workflow_stages.specs.Paths.{HasPaths};
 ghost use Rattle.workflow_cli.specs.Asking.{IsLoad, IsLoadOf};
 ghost use Rattle.workflow_cli.specs.Causes.{IsWork, UsesJournal};
-ghost use Rattle.workflow_cli.specs.Counting.{WorkCounts};
 ghost use Rattle.workflow_cli.specs.Loading.{LoadsAs};
 ghost use Rattle.workflow_cli.specs.Running.{work_trace};
 ghost use Rattle.workflow_cli.specs.Stages.{Accepts};
-ghost use Rattle.workflow_cli.specs.Writing.{HasPaths};
 
-use crate::asking::{Command, asked};
-use crate::bundling::bundled;
-use crate::checking::{checked_of, stop};
-use crate::cwl::cwl;
-use crate::ended::{Work, Worked};
+use crate::asking::{Command, read_command};
+use crate::ended::Worked;
 use crate::load::load;
-use crate::printing::{form, printed};
-use crate::recall::Recall;
+use crate::printing::printed;
 use crate::run::{idle, run};
 use report_text::Status;
 use run_notes::Style;
@@ -27,6 +23,8 @@ use std::thread::Threads;
 use std::time::Clock;
 use wdl_port::{Keeper, Launcher, Shelf, Sink};
 use wdl_value::{Steps, Text};
+use workflow_stages::{Recall, Work, checked_of, stop_of};
+use workflow_texts::{bundled, cwl, form};
 
 /// Checks the document at a path.
 fn accepted<F: Shelf + Recall>(alloc: Global, file: &Text, shelf: &mut F) -> Work
@@ -37,7 +35,7 @@ fn accepted<F: Shelf + Recall>(alloc: Global, file: &Text, shelf: &mut F) -> Wor
     match checked_of(alloc, file, shelf) {
         Ok(_) => match Text::from_plain(alloc, "ok\n") {
             Ok(text) => Work::Text(text),
-            Err(_) => Work::Stop(stop(alloc, Status::NoMemory)),
+            Err(_) => Work::Stop(stop_of(alloc, Status::NoMemory)),
         },
         Err(stop) => Work::Stop(stop),
     }
@@ -74,7 +72,7 @@ pub fn work<
     ensures paths { HasPaths result.work }
     ensures keeper { (keeper.new ≡ keeper.old) ⊎ UsesJournal words.now (K.path keeper.new) }
 {
-    match asked(alloc, words) {
+    match read_command(alloc, words) {
         Ok(
             Command::Run {
                 file,
@@ -90,6 +88,6 @@ pub fn work<
         Ok(Command::Bundle { file }) => idle(alloc, bundled(alloc, &file, shelf)),
         Ok(Command::Load { number }) => load(rt, alloc, number, style, steps),
         Ok(Command::Print { page }) => idle(alloc, printed(alloc, page)),
-        Err(status) => idle(alloc, Work::Stop(stop(alloc, status))),
+        Err(status) => idle(alloc, Work::Stop(stop_of(alloc, status))),
     }
 }

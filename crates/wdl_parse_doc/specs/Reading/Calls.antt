@@ -13,10 +13,10 @@ use Rattle.wdl_ast.specs.declared.workflow.CallInputs.{CallInputs}
 use Rattle.wdl_ast.specs.declared.workflow.CallBody.{CallBody}
 use Rattle.wdl_ast.specs.declared.workflow.Call.{Call}
 use Rattle.wdl_ast.specs.Words.{Words}
-use Rattle.wdl_parse_expr.specs.Outcome.{Parser, missing, then_, found, sees, eat, eat_word, ident_at}
-use Rattle.wdl_parse_doc.specs.Grammar.{commas_fit}
-use Rattle.wdl_parse_doc.specs.Reading.Parts.{mark_at, name_at, many, until, item}
-use Rattle.wdl_parse_doc.specs.Reading.Sections.{assigned}
+use Rattle.token_reading.specs.Outcome.{Parser, missing, then_, found, sees, eat, eat_word, ident_at}
+use Rattle.wdl_parse_parts.specs.Grammar.{commas_fit}
+use Rattle.wdl_parse_parts.specs.Reading.Parts.{mark_at, name_at, many, until, item}
+use Rattle.wdl_parse_parts.specs.Reading.Declarations.{assigned}
 
 -- `.name`, if it stands there
 unfoldable pub target_member : Parser (Option TargetMember)

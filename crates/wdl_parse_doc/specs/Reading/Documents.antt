@@ -10,10 +10,11 @@ use Rattle.wdl_ast.specs.declared.document.StructSection.{StructSection}
 use Rattle.wdl_ast.specs.declared.document.Section.{Section}
 use Rattle.wdl_ast.specs.declared.document.Section.TheVariants as section
 use Rattle.wdl_ast.specs.Words.{Words}
-use Rattle.wdl_parse_expr.specs.Outcome.{Outcome, Parser, missing, then_, found, eat_word}
-use Rattle.wdl_parse_expr.specs.Reading.{plain}
+use Rattle.token_reading.specs.Outcome.{Outcome, Parser, missing, then_, found, eat_word}
+use Rattle.token_reading.specs.Strings.{plain}
 use Rattle.wdl_parse_expr.specs.Contract.{read_type}
-use Rattle.wdl_parse_doc.specs.Reading.Parts.{name_at, word_at, many, until, braced}
+use Rattle.wdl_parse_parts.specs.Reading.Parts.{name_at, word_at, many, until}
+use Rattle.wdl_parse_doc.specs.Reading.Lists.{braced}
 use Rattle.wdl_parse_doc.specs.Reading.Calls.{renaming}
 use Rattle.wdl_parse_doc.specs.Reading.Tasks as tasks
 use Rattle.wdl_parse_doc.specs.Reading.Tasks.{mapped}

@@ -1,35 +1,18 @@
--- Reads declarations, and the sections that tasks and workflows have.
-use Rattle.std.specs.Prelude.{List, [], ◌∷◌, Option, Some, None, Ok}
+-- Reads the sections that tasks and workflows have, behind their words.
+use Rattle.std.specs.Prelude.{Ok}
 use Rattle.wdl_base.specs.declared.span.Span.{Span}
 use Rattle.wdl_ast.specs.declared.token.Mark.TheVariants as mark
-use Rattle.wdl_ast.specs.declared.token.Fence.{Fence}
-use Rattle.wdl_ast.specs.declared.token.Kind.{Kind}
-use Rattle.wdl_ast.specs.declared.token.Kind.TheVariants as kind
-use Rattle.wdl_ast.specs.declared.token.Token.{Token}
-use Rattle.wdl_ast.specs.declared.section.Declaration.{Declaration}
-use Rattle.wdl_ast.specs.declared.section.Assigned.{Assigned}
-use Rattle.wdl_ast.specs.declared.section.InputDeclaration.{InputDeclaration}
 use Rattle.wdl_ast.specs.declared.section.InputSection.{InputSection}
 use Rattle.wdl_ast.specs.declared.section.OutputSection.{OutputSection}
 use Rattle.wdl_ast.specs.declared.task.RuntimeSection.{RuntimeSection}
-use Rattle.wdl_ast.specs.declared.task.CommandSection.{CommandSection}
-use Rattle.wdl_ast.specs.Words.{Words}
-use Rattle.wdl_parse_expr.specs.Outcome.{Parser, missing, then_, found, eat, eat_if}
-use Rattle.wdl_parse_expr.specs.Contract.{read_expr, read_type, read_parts}
-use Rattle.wdl_parse_doc.specs.Reading.Parts.{need, mark_at, name_at, until, braced, attribute}
-
-unfoldable pub declaration : Parser Declaration
-declaration ts = then_ (read_type ts) (λ t rest. then_ (name_at rest) (λ n more. then_ (mark_at mark.Assign more) (λ s after. then_ (read_expr after)
-    (λ v last. Ok (record { ty = t; name = n; assign = s; value = v }, last)))))
-
--- `= expr`, if it stands there
-unfoldable pub assigned : Parser (Option Assigned)
-assigned ts = found (eat mark.Assign ts) (λ s rest. then_ (read_expr rest) (λ v more. Ok (Some (record { assign = s; value = v }), more))) (Ok (None, ts))
-
-unfoldable pub input : Parser InputDeclaration
-input ts = then_ (read_type ts) (λ t rest. then_ (name_at rest) (λ n more. then_ (assigned more) (λ v after. Ok (record { ty = t; name = n; preset = v }, after))))
-
--- ---- sections, behind their words
+use Rattle.token_reading.specs.Outcome.{Parser, then_}
+use Rattle.wdl_parse_expr.specs.Contract.{read_expr}
+use Rattle.wdl_parse_parts.specs.Reading.Parts.{until, attribute}
+use Rattle.wdl_parse_doc.specs.Reading.Lists.{braced}
+use Rattle.wdl_ast.specs.declared.meta.MetaSection.{MetaSection}
+use Rattle.wdl_parse_parts.specs.Grammar.{max_meta_depth}
+use Rattle.wdl_parse_parts.specs.Reading.Declarations.{declaration, input}
+use Rattle.wdl_parse_parts.specs.Reading.Metadata.{meta_at}
 
 unfoldable pub inputs : Span → Parser InputSection
 inputs k ts = then_ (braced (until mark.CloseBrace input) ts) (λ b rest. Ok (record { keyword = k; opening = b.opening; inputs = b.items; closing = b.closing }, rest))
@@ -40,23 +23,5 @@ outputs k ts = then_ (braced (until mark.CloseBrace declaration) ts) (λ b rest.
 unfoldable pub runtime : Span → Parser RuntimeSection
 runtime k ts = then_ (braced (until mark.CloseBrace (attribute read_expr)) ts) (λ b rest. Ok (record { keyword = k; opening = b.opening; attributes = b.items; closing = b.closing }, rest))
 
-abbrev pub fence_of : Kind → Span → Parser (Fence × Span)
-fence_of (kind.CommandOpen f) s ts = Ok ((f, s), ts)
-fence_of _ s ts = missing
-
--- the opening of a command
-unfoldable pub fence_at : Parser (Fence × Span)
-fence_at [] = missing
-fence_at (t ∷ ts) = fence_of t.kind t.span ts
-
-abbrev pub fence_end_of : Kind → Span → Parser Span
-fence_end_of kind.CommandClose s ts = Ok (s, ts)
-fence_end_of _ s ts = missing
-
-unfoldable pub fence_end_at : Parser Span
-fence_end_at [] = missing
-fence_end_at (t ∷ ts) = fence_end_of t.kind t.span ts
-
-unfoldable pub command : Span → Parser CommandSection
-command k ts = then_ (fence_at ts) (λ f rest. then_ (read_parts rest) (λ ps more. then_ (fence_end_at more)
-    (λ c after. Ok (record { keyword = k; fence = f.0; opening = f.1; parts = ps; closing = c }, after))))
+unfoldable pub metadata : Span → Parser MetaSection
+metadata k ts = then_ (braced (until mark.CloseBrace (attribute (meta_at max_meta_depth))) ts) (λ b rest. Ok (record { keyword = k; opening = b.opening; attributes = b.items; closing = b.closing }, rest))

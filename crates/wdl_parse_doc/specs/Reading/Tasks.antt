@@ -10,12 +10,13 @@ use Rattle.wdl_ast.specs.declared.workflow.WorkflowElement.{WorkflowElement}
 use Rattle.wdl_ast.specs.declared.workflow.WorkflowElement.TheVariants as flow
 use Rattle.wdl_ast.specs.declared.workflow.Workflow.{Workflow}
 use Rattle.wdl_ast.specs.Words.{Words}
-use Rattle.wdl_parse_expr.specs.Outcome.{Outcome, Parser, missing, then_, found, eat_word}
-use Rattle.wdl_parse_doc.specs.declared.part.Braced.{Braced}
+use Rattle.token_reading.specs.Outcome.{Outcome, Parser, missing, then_, found, eat_word}
+use Rattle.wdl_parse_doc.specs.declared.part_list.Braced.{Braced}
 use Rattle.wdl_parse_doc.specs.Grammar.{are_task_sections, are_workflow_sections}
-use Rattle.wdl_parse_doc.specs.Reading.Parts.{name_at, until, braced}
-use Rattle.wdl_parse_doc.specs.Reading.Metadata.{metadata}
-use Rattle.wdl_parse_doc.specs.Reading.Sections.{declaration, inputs, outputs, runtime, command}
+use Rattle.wdl_parse_parts.specs.Reading.Parts.{name_at, until}
+use Rattle.wdl_parse_doc.specs.Reading.Lists.{braced}
+use Rattle.wdl_parse_doc.specs.Reading.Sections.{metadata, inputs, outputs, runtime}
+use Rattle.wdl_parse_parts.specs.Reading.Declarations.{declaration, command}
 use Rattle.wdl_parse_doc.specs.Reading.Blocks.{statement}
 
 abbrev pub mapped : {A B : Type 0} → (A → B) → Outcome A → Outcome B

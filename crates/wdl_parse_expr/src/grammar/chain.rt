@@ -1,18 +1,16 @@
 ghost use Rattle.std.specs.Prelude.{◌≡◌, IfOk, List, codes};
 ghost use Rattle.wdl_ast.specs.declared.token.Token.{Token};
-ghost use Rattle.wdl_parse_expr.specs.Outcome.{Reads};
+ghost use Rattle.token_reading.specs.Outcome as outcome;
+ghost use Rattle.token_reading.specs.Outcome.{Reads};
 ghost use Rattle.wdl_parse_expr.specs.Reading as spec;
 ghost use Rattle.wdl_parse_expr.specs.Nests.{Nests};
-ghost use Rattle.wdl_parse_expr.specs.declared.tall.Chain.{Chain};
+ghost use Rattle.token_reading.specs.declared.tall.Chain.{Chain};
 
-use crate::cursor::Cursor;
-use crate::fault::{Refusal, Stop};
 use crate::grammar::Grammar;
 use crate::grammar::choice::ends_in_choice;
-use crate::read::{deeper, linked};
-use crate::tall::{Chain, Rule, Tall};
 use sqlite_items::Boxed;
 use std::alloc::Global;
+use token_reading::{Chain, Cursor, Refusal, Rule, Stop, Tall, deeper, linked};
 use wdl_ast::{BinaryOperator, Expr, Ident, Mark, UnaryOperator};
 use wdl_value::{NoMemory, Span};
 
@@ -95,7 +93,7 @@ impl<F: Fn(Global, &mut Cursor<'_>, usize, Rule) -> Result<Tall<Expr>, Stop>> Gr
         tree: Expr,
     ) -> Result<(Chain, bool), Stop>
         requires { Nests self.now.depth (F.pre self.now.expr) (F.post self.now.expr) }
-        ensures { (chain : Chain) (ts : List Token) → Reads (spec.told chain (spec.step (spec.linked self.now.depth span links inside tree ts))) result ts }
+        ensures { (chain : Chain) (ts : List Token) → Reads (spec.told chain (spec.step (outcome.linked self.now.depth span links inside tree ts))) result ts }
     {
         match linked(self.depth, span, links, inside, tree) {
             Ok(chain) => Ok((chain, true)),
@@ -104,7 +102,7 @@ impl<F: Fn(Global, &mut Cursor<'_>, usize, Rule) -> Result<Tall<Expr>, Stop>> Gr
     }
 
     /// The member or the index behind an expression, and whether one stands there.
-    #[tactic(auto, using(std::proofs::lemmas::Grind::common_steps), unfolding(crate::specs::Outcome::attempt, crate::specs::Outcome::found, crate::specs::Reading::suffix))]
+    #[tactic(auto, using(std::proofs::lemmas::Grind::common_steps), unfolding(token_reading::specs::Outcome::attempt, token_reading::specs::Outcome::found, crate::specs::Reading::suffix))]
     fn suffix(&self, tokens: &mut Cursor<'_>, chain: Chain) -> Result<(Chain, bool), Stop>
         requires { Nests self.now.depth (F.pre self.now.expr) (F.post self.now.expr) }
         ensures { Reads (spec.told chain (spec.suffix self.now.depth (spec.expr self.now.depth) chain tokens.old)) result tokens.new }
@@ -145,7 +143,7 @@ impl<F: Fn(Global, &mut Cursor<'_>, usize, Rule) -> Result<Tall<Expr>, Stop>> Gr
         }
     }
 
-    #[tactic(auto, using(std::proofs::lemmas::Grind::common_steps), unfolding(crate::specs::Outcome::then_, crate::specs::Reading::post, crate::specs::Reading::turns))]
+    #[tactic(auto, using(std::proofs::lemmas::Grind::common_steps), unfolding(token_reading::specs::Outcome::then_, crate::specs::Reading::post, crate::specs::Reading::turns))]
     fn post(&self, tokens: &mut Cursor<'_>) -> Result<Tall<Expr>, Stop>
         requires { Nests self.now.depth (F.pre self.now.expr) (F.post self.now.expr) }
         ensures { Reads (spec.post self.now.depth (spec.expr self.now.depth) tokens.old) result tokens.new }
@@ -162,7 +160,7 @@ impl<F: Fn(Global, &mut Cursor<'_>, usize, Rule) -> Result<Tall<Expr>, Stop>> Gr
     }
 
     /// Reads a unary expression: one with signs, a choice, or a primary with its members and indices.
-    #[tactic(auto, using(std::proofs::lemmas::Grind::common_steps), unfolding(crate::specs::Outcome::then_, crate::specs::Outcome::found, crate::specs::Reading::unary))]
+    #[tactic(auto, using(std::proofs::lemmas::Grind::common_steps), unfolding(token_reading::specs::Outcome::then_, token_reading::specs::Outcome::found, crate::specs::Reading::unary))]
     pub fn unary(&self, tokens: &mut Cursor<'_>) -> Result<Tall<Expr>, Stop>
         requires { Nests self.now.depth (F.pre self.now.expr) (F.post self.now.expr) }
         ensures { Reads (spec.unary self.now.depth (spec.expr self.now.depth) tokens.old) result tokens.new }
@@ -183,7 +181,7 @@ impl<F: Fn(Global, &mut Cursor<'_>, usize, Rule) -> Result<Tall<Expr>, Stop>> Gr
 
     /// One more operand, and whether its operator stands there. None stands behind a choice, which took all that goes on.
     #[cycle(rules)]
-    #[tactic(auto, using(std::proofs::lemmas::Grind::common_steps), unfolding(crate::specs::Outcome::attempt, crate::specs::Outcome::found, crate::specs::Reading::operation))]
+    #[tactic(auto, using(std::proofs::lemmas::Grind::common_steps), unfolding(token_reading::specs::Outcome::attempt, token_reading::specs::Outcome::found, crate::specs::Reading::operation))]
     fn operation(
         &self,
         tokens: &mut Cursor<'_>,
@@ -216,7 +214,7 @@ impl<F: Fn(Global, &mut Cursor<'_>, usize, Rule) -> Result<Tall<Expr>, Stop>> Gr
 
     /// Reads rule `k`: 0 is a unary expression, 1 a product, and 6 a disjunction.
     #[cycle(rules)]
-    #[tactic(auto, using(std::proofs::lemmas::Grind::common_steps), unfolding(crate::specs::Outcome::then_, crate::specs::Reading::turns, crate::specs::Reading::rule_at))]
+    #[tactic(auto, using(std::proofs::lemmas::Grind::common_steps), unfolding(token_reading::specs::Outcome::then_, crate::specs::Reading::turns, crate::specs::Reading::rule_at))]
     pub fn rule(&self, tokens: &mut Cursor<'_>, k: usize) -> Result<Tall<Expr>, Stop>
         requires { Nests self.now.depth (F.pre self.now.expr) (F.post self.now.expr) }
         ensures { Reads (spec.rule_at self.now.depth (spec.expr self.now.depth) k tokens.old) result tokens.new }

@@ -1,16 +1,13 @@
 ghost use Rattle.std.specs.Prelude.{◌≡◌, IfOk, codes};
-ghost use Rattle.wdl_parse_expr.specs.Outcome.{Reads};
+ghost use Rattle.token_reading.specs.Outcome.{Reads};
 ghost use Rattle.wdl_parse_expr.specs.Reading as spec;
 ghost use Rattle.wdl_parse_expr.specs.Grammar as grammar;
 ghost use Rattle.wdl_parse_expr.specs.Nests.{Nests};
 
-use crate::cursor::Cursor;
-use crate::fault::Stop;
 use crate::grammar::Grammar;
-use crate::read::{deeper, missing};
-use crate::tall::{Rule, Tall};
 use sqlite_items::Boxed;
 use std::alloc::Global;
+use token_reading::{Cursor, Rule, Stop, Tall, deeper, missing};
 use wdl_ast::Expr;
 use wdl_value::{NoMemory, Span};
 
@@ -50,7 +47,7 @@ pub fn ends_in_choice(expr: &Expr) -> bool
 
 impl<F: Fn(Global, &mut Cursor<'_>, usize, Rule) -> Result<Tall<Expr>, Stop>> Grammar<F> {
     /// The branch behind `else`, with the spans of the three words.
-    #[tactic(auto, using(std::proofs::lemmas::Grind::common_steps), unfolding(crate::specs::Outcome::then_, crate::specs::Reading::other_choice))]
+    #[tactic(auto, using(std::proofs::lemmas::Grind::common_steps), unfolding(token_reading::specs::Outcome::then_, crate::specs::Reading::other_choice))]
     fn other_choice(
         &self,
         tokens: &mut Cursor<'_>,
@@ -71,7 +68,7 @@ impl<F: Fn(Global, &mut Cursor<'_>, usize, Rule) -> Result<Tall<Expr>, Stop>> Gr
     }
 
     /// `if` with its two branches.
-    #[tactic(auto, using(std::proofs::lemmas::Grind::common_steps), unfolding(crate::specs::Outcome::then_, crate::specs::Outcome::found, crate::specs::Reading::choice))]
+    #[tactic(auto, using(std::proofs::lemmas::Grind::common_steps), unfolding(token_reading::specs::Outcome::then_, token_reading::specs::Outcome::found, crate::specs::Reading::choice))]
     pub fn choice(&self, tokens: &mut Cursor<'_>, keyword: Span) -> Result<Tall<Expr>, Stop>
         requires { Nests self.now.depth (F.pre self.now.expr) (F.post self.now.expr) }
         ensures { Reads (spec.choice self.now.depth (spec.expr self.now.depth) keyword tokens.old) result tokens.new }

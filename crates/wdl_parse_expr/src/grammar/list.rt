@@ -1,16 +1,13 @@
 ghost use Rattle.std.specs.Prelude.{◌≡◌, ℕ, is_none as none};
-ghost use Rattle.wdl_parse_expr.specs.Outcome.{Reads};
+ghost use Rattle.token_reading.specs.Outcome.{Reads};
 ghost use Rattle.wdl_parse_expr.specs.Reading as spec;
 ghost use Rattle.wdl_parse_expr.specs.Grammar as grammar;
 ghost use Rattle.wdl_parse_expr.specs.Nests.{Nests};
 
-use crate::cursor::Cursor;
-use crate::fault::Stop;
 use crate::grammar::Grammar;
-use crate::read::{deeper, missing};
-use crate::tall::{Closed, Rule, Tall};
 use sqlite_items::Items;
 use std::alloc::Global;
+use token_reading::{Closed, Cursor, Rule, Stop, Tall, deeper, missing};
 use wdl_ast::{Expr, ListItem, MapEntry, Mark, MemberEntry};
 use wdl_value::Span;
 
@@ -33,8 +30,8 @@ pub fn ends_bare(items: &[ListItem<Expr>]) -> bool
 /// What a list in an expression is made of.
 pub trait Element: Sized {
     ghost use Rattle.std.specs.Prelude.{ℕ};
-    ghost use Rattle.wdl_parse_expr.specs.Outcome.{Parser};
-    ghost use Rattle.wdl_parse_expr.specs.declared.tall.Tall.{Tall};
+    ghost use Rattle.token_reading.specs.Outcome.{Parser};
+    ghost use Rattle.token_reading.specs.declared.tall.Tall.{Tall};
 
     ghost reading: { ℕ → Parser (Tall Self) };
 
@@ -48,7 +45,7 @@ pub trait Element: Sized {
 
 impl Element for Expr {
     ghost use Rattle.wdl_parse_expr.specs.Reading as spec;
-    ghost use Rattle.wdl_parse_expr.specs.declared.tall.Rule.TheVariants as rule;
+    ghost use Rattle.token_reading.specs.declared.tall.Rule.TheVariants as rule;
 
     ghost reading = { λ d. spec.expr d rule.Expr };
 
@@ -65,7 +62,7 @@ impl Element for MapEntry<Expr> {
 
     ghost reading = { λ d. spec.entry (spec.expr d) };
 
-    #[tactic(auto, using(std::proofs::lemmas::Grind::common_steps), unfolding(crate::specs::Outcome::then_, crate::specs::Outcome::found, crate::specs::Reading::entry))]
+    #[tactic(auto, using(std::proofs::lemmas::Grind::common_steps), unfolding(token_reading::specs::Outcome::then_, token_reading::specs::Outcome::found, crate::specs::Reading::entry))]
     fn read<F: Fn(Global, &mut Cursor<'_>, usize, Rule) -> Result<Tall<Expr>, Stop>>(
         grammar: &Grammar<F>,
         tokens: &mut Cursor<'_>,
@@ -91,7 +88,7 @@ impl Element for MemberEntry<Expr> {
 
     ghost reading = { λ d. spec.member (spec.expr d) };
 
-    #[tactic(auto, using(std::proofs::lemmas::Grind::common_steps), unfolding(crate::specs::Outcome::then_, crate::specs::Outcome::found, crate::specs::Reading::member))]
+    #[tactic(auto, using(std::proofs::lemmas::Grind::common_steps), unfolding(token_reading::specs::Outcome::then_, token_reading::specs::Outcome::found, crate::specs::Reading::member))]
     fn read<F: Fn(Global, &mut Cursor<'_>, usize, Rule) -> Result<Tall<Expr>, Stop>>(
         grammar: &Grammar<F>,
         tokens: &mut Cursor<'_>,
@@ -115,7 +112,7 @@ impl Element for MemberEntry<Expr> {
 }
 
 /// A list that ends here, where its closing mark stands.
-#[tactic(auto, using(std::proofs::lemmas::Grind::common_steps), unfolding(crate::specs::Outcome::found, crate::specs::Reading::ended))]
+#[tactic(auto, using(std::proofs::lemmas::Grind::common_steps), unfolding(token_reading::specs::Outcome::found, crate::specs::Reading::ended))]
 fn ended<E: Element + Drop>(
     tokens: &mut Cursor<'_>,
     close: Mark,
@@ -136,7 +133,7 @@ fn ended<E: Element + Drop>(
 
 impl<F: Fn(Global, &mut Cursor<'_>, usize, Rule) -> Result<Tall<Expr>, Stop>> Grammar<F> {
     /// The elements up to a closing mark.
-    #[tactic(auto, using(std::proofs::lemmas::Grind::common_steps), unfolding(crate::specs::Outcome::then_, crate::specs::Outcome::found, crate::specs::Reading::list_from))]
+    #[tactic(auto, using(std::proofs::lemmas::Grind::common_steps), unfolding(token_reading::specs::Outcome::then_, token_reading::specs::Outcome::found, crate::specs::Reading::list_from))]
     pub fn list<E: Element + Drop>(
         &self,
         tokens: &mut Cursor<'_>,

@@ -1,18 +1,14 @@
 ghost use Rattle.std.specs.Prelude.{◌≡◌, suc, codes, List, IfOk};
 ghost use Rattle.wdl_ast.specs.declared.token.Token.{Token};
-ghost use Rattle.wdl_parse_expr.specs.Outcome.{Reads};
+ghost use Rattle.token_reading.specs.Outcome.{Reads};
 ghost use Rattle.wdl_parse_expr.specs.Reading as spec;
 ghost use Rattle.wdl_parse_expr.specs.Nests.{Nests};
 
-use crate::cursor::Cursor;
-use crate::fault::{Refusal, Stop};
 use crate::grammar::Grammar;
 use crate::grammar::list::ends_bare;
-use crate::operator::left_out;
-use crate::read::{bad, deeper, missing};
-use crate::tall::{Rule, Tall};
 use sqlite_items::Boxed;
 use std::alloc::Global;
+use token_reading::{Cursor, Refusal, Rule, Stop, Tall, bad, deeper, left_out, missing};
 use wdl_ast::{Expr, Ident, Kind, MapEntry, Mark, MemberEntry, Token};
 use wdl_value::{Name, NameFault, NoMemory, Span, Text};
 
@@ -53,7 +49,7 @@ fn pair(
 
 impl<F: Fn(Global, &mut Cursor<'_>, usize, Rule) -> Result<Tall<Expr>, Stop>> Grammar<F> {
     /// A call. Where its arguments do not follow, reading goes back, and the name stands alone.
-    #[tactic(auto, using(std::proofs::lemmas::Grind::common_steps), unfolding(crate::specs::Outcome::attempt, crate::specs::Reading::arguments))]
+    #[tactic(auto, using(std::proofs::lemmas::Grind::common_steps), unfolding(token_reading::specs::Outcome::attempt, crate::specs::Reading::arguments))]
     fn arguments<'a>(
         &self,
         tokens: &mut Cursor<'a>,
@@ -105,7 +101,7 @@ impl<F: Fn(Global, &mut Cursor<'_>, usize, Rule) -> Result<Tall<Expr>, Stop>> Gr
     }
 
     /// A struct literal. Where its members do not follow, reading goes back, and the name stands alone.
-    #[tactic(auto, using(std::proofs::lemmas::Grind::common_steps), unfolding(crate::specs::Outcome::attempt, crate::specs::Reading::struct_literal))]
+    #[tactic(auto, using(std::proofs::lemmas::Grind::common_steps), unfolding(token_reading::specs::Outcome::attempt, crate::specs::Reading::struct_literal))]
     fn struct_literal<'a>(
         &self,
         tokens: &mut Cursor<'a>,
@@ -135,7 +131,7 @@ impl<F: Fn(Global, &mut Cursor<'_>, usize, Rule) -> Result<Tall<Expr>, Stop>> Gr
     }
 
     /// What begins with a name.
-    #[tactic(auto, using(std::proofs::lemmas::Grind::common_steps), unfolding(crate::specs::Outcome::found, crate::specs::Reading::named))]
+    #[tactic(auto, using(std::proofs::lemmas::Grind::common_steps), unfolding(token_reading::specs::Outcome::found, crate::specs::Reading::named))]
     fn named(&self, tokens: &mut Cursor<'_>, name: Ident) -> Result<Tall<Expr>, Stop>
         requires { Nests self.now.depth (F.pre self.now.expr) (F.post self.now.expr) }
         ensures { Reads (spec.named self.now.depth (spec.expr self.now.depth) name tokens.old) result tokens.new }
@@ -151,7 +147,7 @@ impl<F: Fn(Global, &mut Cursor<'_>, usize, Rule) -> Result<Tall<Expr>, Stop>> Gr
     }
 
     /// The second part of a pair.
-    #[tactic(auto, using(std::proofs::lemmas::Grind::common_steps), unfolding(crate::specs::Outcome::then_, crate::specs::Outcome::found, crate::specs::Reading::pair_end))]
+    #[tactic(auto, using(std::proofs::lemmas::Grind::common_steps), unfolding(token_reading::specs::Outcome::then_, token_reading::specs::Outcome::found, crate::specs::Reading::pair_end))]
     fn pair_end(
         &self,
         tokens: &mut Cursor<'_>,
@@ -172,7 +168,7 @@ impl<F: Fn(Global, &mut Cursor<'_>, usize, Rule) -> Result<Tall<Expr>, Stop>> Gr
     }
 
     /// An expression in parentheses, or a pair.
-    #[tactic(auto, using(std::proofs::lemmas::Grind::common_steps), unfolding(crate::specs::Outcome::then_, crate::specs::Outcome::found, crate::specs::Reading::paren))]
+    #[tactic(auto, using(std::proofs::lemmas::Grind::common_steps), unfolding(token_reading::specs::Outcome::then_, token_reading::specs::Outcome::found, crate::specs::Reading::paren))]
     fn paren(&self, tokens: &mut Cursor<'_>, opening: Span) -> Result<Tall<Expr>, Stop>
         requires { Nests self.now.depth (F.pre self.now.expr) (F.post self.now.expr) }
         ensures { Reads (spec.paren self.now.depth (spec.expr self.now.depth) opening tokens.old) result tokens.new }
@@ -189,7 +185,7 @@ impl<F: Fn(Global, &mut Cursor<'_>, usize, Rule) -> Result<Tall<Expr>, Stop>> Gr
         }
     }
 
-    #[tactic(auto, using(std::proofs::lemmas::Grind::common_steps), unfolding(crate::specs::Outcome::then_, crate::specs::Reading::list))]
+    #[tactic(auto, using(std::proofs::lemmas::Grind::common_steps), unfolding(token_reading::specs::Outcome::then_, crate::specs::Reading::list))]
     fn list_literal(&self, tokens: &mut Cursor<'_>, opening: Span) -> Result<Tall<Expr>, Stop>
         requires { Nests self.now.depth (F.pre self.now.expr) (F.post self.now.expr) }
         ensures { Reads (spec.list self.now.depth (spec.expr self.now.depth) opening tokens.old) result tokens.new }
@@ -203,7 +199,7 @@ impl<F: Fn(Global, &mut Cursor<'_>, usize, Rule) -> Result<Tall<Expr>, Stop>> Gr
         self.grown(opening, list.inside, literal)
     }
 
-    #[tactic(auto, using(std::proofs::lemmas::Grind::common_steps), unfolding(crate::specs::Outcome::then_, crate::specs::Reading::map_literal))]
+    #[tactic(auto, using(std::proofs::lemmas::Grind::common_steps), unfolding(token_reading::specs::Outcome::then_, crate::specs::Reading::map_literal))]
     fn map_literal(&self, tokens: &mut Cursor<'_>, opening: Span) -> Result<Tall<Expr>, Stop>
         requires { Nests self.now.depth (F.pre self.now.expr) (F.post self.now.expr) }
         ensures { Reads (spec.map_literal self.now.depth (spec.expr self.now.depth) opening tokens.old) result tokens.new }

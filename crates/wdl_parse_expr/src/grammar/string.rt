@@ -1,21 +1,17 @@
 ghost use Rattle.std.specs.Prelude.{◌≡◌, [], length};
-ghost use Rattle.wdl_parse_expr.specs.Outcome.{Reads};
+ghost use Rattle.token_reading.specs.Outcome.{Reads};
 ghost use Rattle.wdl_parse_expr.specs.Reading as spec;
 ghost use Rattle.wdl_parse_expr.specs.Nests.{Nests};
 
-use crate::cursor::Cursor;
-use crate::fault::Stop;
 use crate::grammar::Grammar;
-use crate::grammar::plain_string::options;
-use crate::read::{deeper, grown, missing};
-use crate::tall::{Rule, Tall};
 use sqlite_items::Items;
 use std::alloc::Global;
+use token_reading::{Cursor, Rule, Stop, Tall, deeper, grown, missing, read_options};
 use wdl_ast::{Chars, Expr, HoleMark, Kind, Placeholder, Quote, StringPart, StringTree};
 use wdl_value::Span;
 
 impl<F: Fn(Global, &mut Cursor<'_>, usize, Rule) -> Result<Tall<Expr>, Stop>> Grammar<F> {
-    #[tactic(auto, using(std::proofs::lemmas::Grind::common_steps), unfolding(crate::specs::Outcome::then_, crate::specs::Outcome::found, crate::specs::Reading::hole))]
+    #[tactic(auto, using(std::proofs::lemmas::Grind::common_steps), unfolding(token_reading::specs::Outcome::then_, token_reading::specs::Outcome::found, crate::specs::Reading::hole))]
     fn hole(
         &self,
         tokens: &mut Cursor<'_>,
@@ -25,7 +21,7 @@ impl<F: Fn(Global, &mut Cursor<'_>, usize, Rule) -> Result<Tall<Expr>, Stop>> Gr
         requires { Nests self.now.depth (F.pre self.now.expr) (F.post self.now.expr) }
         ensures { Reads (spec.hole (spec.expr self.now.depth) mark opening tokens.old) result tokens.new }
     {
-        let options = options(self.alloc, tokens)?;
+        let options = read_options(self.alloc, tokens)?;
         let inner = self.inner(tokens, Rule::Expr)?;
         let Some(closing) = tokens.hole_end() else {
             return missing();
@@ -42,7 +38,7 @@ impl<F: Fn(Global, &mut Cursor<'_>, usize, Rule) -> Result<Tall<Expr>, Stop>> Gr
         })
     }
 
-    #[tactic(auto, using(std::proofs::lemmas::Grind::common_steps), unfolding(crate::specs::Outcome::then_))]
+    #[tactic(auto, using(std::proofs::lemmas::Grind::common_steps), unfolding(token_reading::specs::Outcome::then_))]
     fn part(&self, tokens: &mut Cursor<'_>) -> Result<Option<Tall<StringPart<Expr>>>, Stop>
         requires { Nests self.now.depth (F.pre self.now.expr) (F.post self.now.expr) }
         ensures { Reads (spec.part_at (spec.expr self.now.depth) tokens.old) result tokens.new }
@@ -71,7 +67,7 @@ impl<F: Fn(Global, &mut Cursor<'_>, usize, Rule) -> Result<Tall<Expr>, Stop>> Gr
     }
 
     /// The parts of a string or a command, up to its end.
-    #[tactic(auto, using(std::proofs::lemmas::Grind::common_steps), unfolding(crate::specs::Outcome::then_, crate::specs::Reading::parts_from))]
+    #[tactic(auto, using(std::proofs::lemmas::Grind::common_steps), unfolding(token_reading::specs::Outcome::then_, crate::specs::Reading::parts_from))]
     pub fn parts(&self, tokens: &mut Cursor<'_>) -> Result<Tall<Items<StringPart<Expr>>>, Stop>
         requires { Nests self.now.depth (F.pre self.now.expr) (F.post self.now.expr) }
         ensures { Reads (spec.parts (spec.expr self.now.depth) tokens.old) result tokens.new }
@@ -95,7 +91,7 @@ impl<F: Fn(Global, &mut Cursor<'_>, usize, Rule) -> Result<Tall<Expr>, Stop>> Gr
     }
 
     /// A string, with its placeholders.
-    #[tactic(auto, using(std::proofs::lemmas::Grind::common_steps), unfolding(crate::specs::Outcome::then_, crate::specs::Outcome::found, crate::specs::Reading::text))]
+    #[tactic(auto, using(std::proofs::lemmas::Grind::common_steps), unfolding(token_reading::specs::Outcome::then_, token_reading::specs::Outcome::found, crate::specs::Reading::text))]
     pub fn text(
         &self,
         tokens: &mut Cursor<'_>,

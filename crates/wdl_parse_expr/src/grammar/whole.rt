@@ -1,13 +1,10 @@
-ghost use Rattle.wdl_parse_expr.specs.Outcome.{Reads};
+ghost use Rattle.token_reading.specs.Outcome.{Reads};
 ghost use Rattle.wdl_parse_expr.specs.Reading as spec;
 ghost use Rattle.wdl_parse_expr.specs.Nests.{Nests};
 
-use crate::cursor::Cursor;
-use crate::fault::Stop;
 use crate::grammar::Grammar;
-use crate::read::too_deep;
-use crate::tall::{Rule, Tall};
 use std::alloc::Global;
+use token_reading::{Cursor, Rule, Stop, Tall, too_deep};
 use wdl_ast::Expr;
 
 impl<F: Fn(Global, &mut Cursor<'_>, usize, Rule) -> Result<Tall<Expr>, Stop>> Grammar<F> {

@@ -1,5 +1,5 @@
 use Rattle.std.proofs.Common.{[]}
-use Rattle.scatter_plan.specs.Doing.{state}
+use Rattle.plan_steps.specs.Doing.{state}
 use Rattle.scatter_plan.proofs.Beginning.{asks_bare, began, begins_past, starts_now}
 use Rattle.scatter_plan.proofs.begin.begin.Goals as goal
 

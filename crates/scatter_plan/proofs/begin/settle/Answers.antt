@@ -1,6 +1,6 @@
 use Rattle.std.proofs.Common.{[], ◌∷◌, ◌++◌}
 use Rattle.scatter_plan.specs.Calls.{row}
-use Rattle.scatter_plan.specs.Doing.{state}
+use Rattle.plan_steps.specs.Doing.{state}
 use Rattle.scatter_plan.proofs.Told.{settles, takes_past, turns_past}
 use Rattle.scatter_plan.proofs.begin.settle.Goals as goal
 

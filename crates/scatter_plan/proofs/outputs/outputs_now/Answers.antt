@@ -4,7 +4,7 @@ use Rattle.wdl_typed.specs.declared.flow.FlowDef.{FlowDef}
 use Rattle.value_net.specs.Nets.{view}
 use Rattle.plan_layout.specs.declared.layout.BodyLayout.{BodyLayout}
 use Rattle.plan_layout.specs.declared.layout.FlowLayout.{FlowLayout}
-use Rattle.scatter_plan.specs.Doing.{state}
+use Rattle.plan_steps.specs.Doing.{state}
 use Rattle.scatter_plan.proofs.Beginning.{body_found, body_within, found_in, is_over_if, main_of, outputs_shown, room_there}
 use Rattle.scatter_plan.proofs.outputs.outputs_now.Goals as goal
 

@@ -1,6 +1,6 @@
 use Rattle.std.proofs.lemmas.Result.{err_from_is_err_and}
 use Rattle.value_net.specs.Nets.{view}
-use Rattle.scatter_plan.specs.Doing.{state}
+use Rattle.plan_steps.specs.Doing.{state}
 use Rattle.scatter_plan.proofs.TurnLoop.{begins, ends, next, none_of, past, taken_of}
 use Rattle.scatter_plan.proofs.Turns as turns
 use Rattle.scatter_plan.proofs.turning.turn.Goals as goal

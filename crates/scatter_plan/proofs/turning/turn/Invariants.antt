@@ -1,4 +1,4 @@
-use Rattle.scatter_plan.specs.Doing.{state}
+use Rattle.plan_steps.specs.Doing.{state}
 use Rattle.scatter_plan.proofs.TurnLoop.{IsTurning}
 use Rattle.scatter_plan.proofs.turning.turn.Given as goal
 

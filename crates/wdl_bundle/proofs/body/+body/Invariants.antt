@@ -1,5 +1,5 @@
 use Rattle.std.proofs.Common.{◌≡◌, ◌++◌, drop, map}
-use Rattle.wdl_check_types.specs.Locals.{stands_for}
+use Rattle.wdl_check_rules.specs.Locals.{stands_for}
 use Rattle.wdl_bundle.specs.Bodies.{statement_with}
 use Rattle.wdl_bundle.specs.Called.{reach_of}
 use Rattle.wdl_bundle.specs.TaskNames.{name_of}

@@ -1,6 +1,6 @@
 use Rattle.std.proofs.Common.{option_map, sym, ap, ◌∙◌}
 use Rattle.std.specs.Option.{option_copied}
-use Rattle.wdl_check_types.specs.Locals.{stands_for}
+use Rattle.wdl_check_rules.specs.Locals.{stands_for}
 use Rattle.wdl_bundle.specs.StructSections.{declared_of}
 use Rattle.wdl_bundle.proofs.FindLaws.{declared_found, no_declared}
 use Rattle.wdl_bundle.proofs.structs.declared_for.Goals as goal

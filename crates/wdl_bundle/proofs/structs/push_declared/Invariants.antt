@@ -1,6 +1,6 @@
 use Rattle.std.proofs.Common.{◌≡◌, ◌++◌, drop, map}
 use Rattle.wdl_library.specs.Sections.{structs_in}
-use Rattle.wdl_check_types.specs.Locals.{stands_for}
+use Rattle.wdl_check_rules.specs.Locals.{stands_for}
 use Rattle.wdl_bundle.specs.StructSections.{declared_in, declared_of}
 use Rattle.wdl_bundle.proofs.structs.push_declared.Given as goal
 

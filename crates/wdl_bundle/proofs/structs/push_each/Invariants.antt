@@ -1,5 +1,5 @@
 use Rattle.std.proofs.Common.{◌≡◌, ◌++◌, drop, map}
-use Rattle.wdl_check_types.specs.Locals.{stands_for}
+use Rattle.wdl_check_rules.specs.Locals.{stands_for}
 use Rattle.wdl_bundle.specs.StructSections.{declared_of, struct_sections}
 use Rattle.wdl_bundle.proofs.structs.push_each.Given as goal
 

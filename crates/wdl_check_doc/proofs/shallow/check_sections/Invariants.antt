@@ -1,7 +1,7 @@
 use Rattle.std.proofs.Common.{drop}
 use Rattle.wdl_library.specs.Sections.{structs_in}
 use Rattle.wdl_check_decls.proofs.ListLaws.{Leads}
-use Rattle.wdl_check_types.specs.Locals.{stands_for}
+use Rattle.wdl_check_rules.specs.Locals.{stands_for}
 use Rattle.wdl_check_doc.specs.Outcomes.{all}
 use Rattle.wdl_check_doc.specs.Structs.{section_nests}
 use Rattle.wdl_check_doc.proofs.shallow.check_sections.Given as goal

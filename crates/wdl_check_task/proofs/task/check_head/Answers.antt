@@ -1,4 +1,4 @@
-use Rattle.std.proofs.Common.{arith, ◌≡◌, Err, List, Result, subst, sym}
+use Rattle.std.proofs.Common.{arith, ◌≡◌, ℕ, Err, List, Ok, Result, Some, ap, subst, sym}
 use Rattle.wdl_typed.specs.declared.scope.Bound.{Bound}
 use Rattle.wdl_typed.specs.Declarations.{inputs_bound}
 use Rattle.wdl_check_rules.specs.declared.fault.CheckFault.{CheckFault}
@@ -24,3 +24,16 @@ returns-in_err-privates-clause-value c =
     c.in_ok-inputs.inputs (Err e) c.in_ok-inputs.ensures.value
     (then_err (decls_typed Private w (inputs_bound c.in_ok-inputs.inputs) (privates_of t.elements)) (λ ds. done (head t.name.name c.in_ok-inputs.inputs ds)) e
     (subst (λ (ns : List Bound). Answers (decls_typed Private w ns (privates_of t.elements)) (Err e)) c.in_ok-inputs.ensures.names c.in_err-privates.ensures.value)))
+
+pub returns-clause-value : goal.returns-clause-value
+returns-clause-value c =
+    let w = world c.args.seeing.now in
+    let t = c.args.section.now in
+    let is = c.in_ok-inputs.inputs in
+    let ds = c.in_ok-privates.privates in
+    then_ok (inputs_typed w (inputs_of t.elements))
+    (λ is. then_ (decls_typed Private w (inputs_bound is) (privates_of t.elements)) (λ ds. done (head t.name.name is ds)))
+    is (Ok (head c.in_ok-name.name is ds)) c.in_ok-inputs.ensures.value
+    (then_ok (decls_typed Private w (inputs_bound is) (privates_of t.elements)) (λ ds. done (head t.name.name is ds)) ds (Ok (head c.in_ok-name.name is ds))
+    (subst (λ (ns : List Bound). Answers (decls_typed Private w ns (privates_of t.elements)) (Ok ds)) c.in_ok-inputs.ensures.names c.in_ok-privates.ensures.value)
+    (ap (λ (name : List ℕ). Some (head name is ds)) (sym c.in_ok-name.ensures)))

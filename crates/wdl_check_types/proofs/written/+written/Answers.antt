@@ -2,7 +2,7 @@ use Rattle.std.proofs.Common.{rules}
 use Rattle.wdl_value.specs.declared.ty.Ty.{Ty}
 use Rattle.wdl_value.specs.declared.ty.Ty.TheVariants as ty
 use Rattle.wdl_check_rules.specs.Spans.{joined}
-use Rattle.wdl_check_types.specs.Locals.{stands_for}
+use Rattle.wdl_check_rules.specs.Locals.{stands_for}
 use Rattle.wdl_check_types.specs.Outcome.{done, then_}
 use Rattle.wdl_check_types.specs.Written.{map_written, written}
 use Rattle.wdl_check_types.proofs.OutcomeLaws.{then_ok}

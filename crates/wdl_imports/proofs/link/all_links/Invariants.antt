@@ -4,4 +4,4 @@ use Rattle.wdl_imports.specs.LinksTo.{AllLinks, AreNamed}
 use Rattle.wdl_imports.proofs.link.all_links.Given as goal
 
 abbrev pub invariant-loop-source : goal.invariant-loop-source
-invariant-loop-source l = AllLinks (paths l.sources) (take l.source-index l.sources) l.links × AreNamed (paths l.sources) (drop l.source-index l.sources)
+invariant-loop-source l = AllLinks (paths l.sources) (take l.source-index l.source-items) l.links × AreNamed (paths l.sources) (drop l.source-index l.source-items)

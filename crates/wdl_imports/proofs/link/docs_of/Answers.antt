@@ -1,24 +1,22 @@
-use Rattle.std.proofs.Common.{◌++◌, List, ap, subst, arith}
+use Rattle.std.proofs.Common.{◌++◌, ◌∙◌, List, length, ap, sym, arith}
 use Rattle.wdl_library.specs.declared.doc.Doc.{Doc}
 use Rattle.wdl_sources.specs.declared.source.Source.{Source}
 use Rattle.wdl_sources.specs.Walks.{paths}
-use Rattle.wdl_imports.specs.LinksTo.{AllLinks}
 use Rattle.wdl_imports.proofs.LinkLaws.{with_links, links_length, docs_done}
 use Rattle.wdl_imports.proofs.link.docs_of.Goals as goal
 
-pub sources-init : goal.sources-init
-sources-init c =
+pub loop-source-init : goal.loop-source-init
+loop-source-init c =
     let ss = c.args.sources in
+    let left = c.into_iter-source-iterator.result in
     let all = c.in_ok-links.links in
-    let linked : AllLinks (paths ss) ss all = subst (λ (xs : List Source). AllLinks (paths xs) xs all) c.as_slice.ensures c.in_ok-links.ensures in
-    (ap (λ (docs : List Doc). docs ++ with_links ss all) c.new-docs.ensures, links_length (paths ss) ss all linked)
+    let same = c.into_iter-source-iterator.ensures.into_iter_gives in (
+      ap (λ (docs : List Doc). docs ++ with_links left all) c.new-docs.ensures ∙ ap (λ (xs : List Source). with_links xs all) same,
+      links_length (paths ss) ss all c.in_ok-links.ensures ∙ ap (λ (xs : List Source). length xs) (sym same),
+    )
 
 pub returns : goal.returns
 returns c =
-    let l = c.sources in
-    let ss = c.args.sources in
-    let all = c.in_ok-links.links in
-    let linked : AllLinks (paths ss) ss all = subst (λ (xs : List Source). AllLinks (paths xs) xs all) c.as_slice.ensures c.in_ok-links.ensures in
-    let length_is = c.len.ensures in
-    let none_left = c.sources-test.false in
-    docs_done ss l.left all l.links l.docs linked (omega (arith, length_is, none_left)) l.invariant.0
+    let l = c.loop-source in
+    let none_left = ap (λ (xs : List Source). length xs) c.in-None.ensures.steps.0 in
+    docs_done c.args.sources l.source-iterator c.in_ok-links.links l.links l.docs c.in_ok-links.ensures (omega (arith, none_left)) l.invariant.0

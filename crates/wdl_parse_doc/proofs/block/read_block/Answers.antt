@@ -1,7 +1,7 @@
 use Rattle.std.proofs.Common.{◌≡◌, ◌-◌, ap, sym, ◌∙◌, subst, rules, arith}
 use Rattle.std.proofs.lemmas.Grind.{common_steps}
-use Rattle.wdl_parse_expr.specs.Outcome.{then_, missing, Reads}
-use Rattle.wdl_parse_expr.proofs.Turns.{one_more}
+use Rattle.token_reading.specs.Outcome.{then_, missing, Reads}
+use Rattle.token_reading.proofs.Turns.{one_more}
 use Rattle.wdl_parse_doc.specs.Reading.Blocks.{block_at, turns_from}
 use Rattle.wdl_parse_doc.proofs.block.read_block.Goals as goal
 

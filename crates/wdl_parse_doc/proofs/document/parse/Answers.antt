@@ -1,5 +1,5 @@
 use Rattle.std.proofs.Common.{ap, sym, ◌∙◌, subst}
-use Rattle.wdl_parse_expr.specs.Outcome.{Fails}
+use Rattle.token_reading.specs.Outcome.{Fails}
 use Rattle.wdl_parse_doc.specs.Reading.Documents.{sections}
 use Rattle.wdl_parse_doc.proofs.ParseLaws.{is_written, refused}
 use Rattle.wdl_parse_doc.proofs.document.parse.Goals as goal

@@ -1,7 +1,7 @@
 use Rattle.std.proofs.Common.{◌≡◌, ◌-◌, ap, subst, sym, ◌∙◌, arith, length, drop, Ok}
 use Rattle.wdl_ast.specs.Words.{words}
-use Rattle.wdl_parse_expr.specs.declared.tall.Rule.TheVariants as rule
-use Rattle.wdl_parse_expr.specs.Outcome.{Fails}
+use Rattle.token_reading.specs.declared.tall.Rule.TheVariants as rule
+use Rattle.token_reading.specs.Outcome.{Fails}
 use Rattle.wdl_parse_expr.specs.Grammar.{max_depth, IsExpr}
 use Rattle.wdl_parse_expr.specs.Reading.{expr}
 use Rattle.wdl_parse_expr.specs.Contract.{Fronts, IsLongest, read_expr}

@@ -1,8 +1,8 @@
 use Rattle.std.proofs.Common.{◌≡◌, ◌-◌, ap, subst, sym, ◌∙◌, arith, length, drop, Ok}
 use Rattle.wdl_ast.specs.Words.{type_words}
-use Rattle.wdl_parse_expr.specs.Outcome.{Fails}
-use Rattle.wdl_parse_expr.specs.TypeGrammar.{max_type_depth, IsType}
-use Rattle.wdl_parse_expr.specs.TypeReading.{type_at}
+use Rattle.token_reading.specs.Outcome.{Fails}
+use Rattle.token_reading.specs.TypeGrammar.{max_type_depth, IsType}
+use Rattle.token_reading.specs.TypeReading.{type_at}
 use Rattle.wdl_parse_expr.specs.Contract.{Fronts, IsLongest}
 use Rattle.wdl_parse_expr.proofs.Laws.{is_type_front, is_longest_type, refused_type}
 use Rattle.wdl_parse_expr.proofs.Places.{left_fits, front_at, longest_at}

@@ -36,9 +36,9 @@ walk-smaller g c =
 
 pub walk-init : goal.walk-init
 walk-init g c = (
-  starts (g.F.Shelf.tells c.args.shelf.now) c.args.path.now c.new-sources.result c.push.new.self.items c.in_ok-first_step.field-0 c.new-sources.ensures
+  starts (g.F.Shelf.tells c.args.shelf.now) c.args.path.now c.empty-sources.result c.push.new.self.items c.in_ok-first_step.field-0 c.empty-sources.ensures
       (search rules) c.in_ok-first_step.ensures,
-  none_yet c.new-sources.result c.new-sources.ensures,
+  none_yet c.empty-sources.result c.empty-sources.ensures,
   omega arith,
   λ p. refl,
   λ p. (λ x. x, λ x. x),

@@ -1,4 +1,7 @@
-use Rattle.std.proofs.Common.{◌≡◌, Err, arith, rules, length, reverse}
+use Rattle.std.proofs.Common.{◌≡◌, ◌∙◌, ℕ, List, Err, ap, arith, rules, length, reverse}
+use Rattle.wdl_base.specs.Names.{is_among}
+use Rattle.wdl_sources.specs.declared.source.Source.{Source}
+use Rattle.wdl_sources.specs.Walks.{paths}
 use Rattle.wdl_sources.proofs.TakeLemmas.{too_many, no_source, no_wants, one_more}
 use Rattle.wdl_sources.proofs.walk.take.Goals as goal
 
@@ -23,4 +26,9 @@ pub returns-clause-most : goal.returns-clause-most
 returns-clause-most g c =
     let n = c.len.ensures in
     let few = c.if-len-ge-MAX_DOCUMENTS.false in
-    one_more c.args.sources.now c.push.new.self c.in_ok-source-2.source (length c.args.sources.now) (search rules) (omega (arith, n, few)) c.in_ok-push.ensures.ok
+    one_more c.args.sources.now c.push.new.self c.in_ok-source-2.source (length c.args.sources.now) (search rules) (omega (arith, n, few)) c.in_ok-push.ensures
+
+pub push-requires : goal.push-requires
+push-requires g c =
+    let read = paths c.args.sources.now in
+    ap (λ (s : Source). is_among s.path read) c.in_ok-source-2.ensures.0 ∙ ap (λ (p : List ℕ). is_among p read) c.in_ok-source.ensures.outcome.0 ∙ c.requires

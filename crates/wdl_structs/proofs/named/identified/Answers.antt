@@ -11,8 +11,8 @@ use Rattle.wdl_structs.proofs.IdentityLaws.{lead_first}
 use Rattle.wdl_structs.proofs.FinalLaws.{whole, named_by, all_full, stood_is, kept_fault, answered}
 use Rattle.wdl_structs.proofs.named.identified.Goals as goal
 
-pub stood-requires : goal.stood-requires
-stood-requires c =
+pub with_standing_names-requires : goal.with_standing_names-requires
+with_standing_names-requires c =
     let t = c.args.tables.now in
     let k = c.in_ok-classes.classes in
     let r = c.requires in

@@ -2,7 +2,7 @@ use Rattle.workflow_cli.proofs.Loaded.{fits_start, starts, starved_start}
 use Rattle.workflow_cli.proofs.load.load_start.Goals as goal
 
 pub returns-in_default-clause-outcome : goal.returns-in_default-clause-outcome
-returns-in_default-clause-outcome c = starved_start c.args.number c.stop.result c.stop.ensures.status
+returns-in_default-clause-outcome c = starved_start c.args.number c.stop_of.result c.stop_of.ensures.status
 
 pub returns-clause-outcome : goal.returns-clause-outcome
 returns-clause-outcome c =

@@ -9,7 +9,7 @@ returns-in_default-clause-value g c f fit k =
     let i = c.idle.ensures in
     inl (
       record { no_answer = i.journal; no_job = i.steps; no_count = i.counts; no_step = refl; no_row = refl },
-      i.work ∙ stop_is c.stop.result status.NoMemory c.stop.ensures.status c.stop.ensures.paths c.stop.ensures.note,
+      i.work ∙ stop_is c.stop_of.result status.NoMemory c.stop_of.ensures.status c.stop_of.ensures.paths c.stop_of.ensures.note,
     )
 
 pub returns-clause-value : goal.returns-clause-value

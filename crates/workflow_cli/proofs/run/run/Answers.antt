@@ -1,5 +1,5 @@
 use Rattle.std.proofs.Common.{inr}
-use Rattle.workflow_cli.proofs.Counts.{works}
+use Rattle.workflow_stages.proofs.Counts.{works}
 use Rattle.workflow_cli.proofs.run.run.Goals as goal
 
 pub returns-in-Ok-clause-value : goal.returns-in-Ok-clause-value

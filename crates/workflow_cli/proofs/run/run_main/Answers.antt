@@ -21,7 +21,7 @@ returns-in-Err-clause-value g c f fit =
     let m = main_with c.args.prepared.checked c.args.prepared.given c.args.options.now f in
     unopened (g.L.Launcher.gives c.args.launcher.now) (g.L.Launcher.refuses c.args.launcher.now) t m c.idle.result.work c.in-Some.path c.in-Some.is c.in-Err.status
     (record { no_answer = i.journal; no_job = i.steps; no_count = i.counts; no_step = refl; no_row = h.0 }) h.1
-    (i.work ∙ stop_is c.stop.result c.in-Err.status c.stop.ensures.status c.stop.ensures.paths c.stop.ensures.note)
+    (i.work ∙ stop_is c.stop_of.result c.in-Err.status c.stop_of.ensures.status c.stop_of.ensures.paths c.stop_of.ensures.note)
 
 pub returns-in-Err-clause-keeper : goal.returns-in-Err-clause-keeper
 returns-in-Err-clause-keeper g c =

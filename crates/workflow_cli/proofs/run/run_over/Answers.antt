@@ -18,7 +18,7 @@ returns-in_default-clause-value g c f fit path k named o =
     let m = main_with c.args.prepared.checked c.args.prepared.given c.args.options.now f in
     inr (inr (has_starved gives refuses t m c.idle.result.work c.args.rows i.journal i.steps i.counts (its_rows gives refuses t m c.idle.result.work path named v c.args.rows o)
     (keeps_none gives refuses t m c.idle.result.work path named v c.args.rows o i.journal refl)
-    (i.work ∙ stop_is c.stop.result status.NoMemory c.stop.ensures.status c.stop.ensures.paths c.stop.ensures.note)))
+    (i.work ∙ stop_is c.stop_of.result status.NoMemory c.stop_of.ensures.status c.stop_of.ensures.paths c.stop_of.ensures.note)))
 
 pub returns-clause-value : goal.returns-clause-value
 returns-clause-value g c f fit path k named o =

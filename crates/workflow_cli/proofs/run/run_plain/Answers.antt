@@ -17,7 +17,7 @@ returns-in_default-clause-value g c f fit k =
     let m = main_with c.args.prepared.checked c.args.prepared.given c.args.options.now f in
     inr (inr (has_starved gives refuses t m c.idle.result.work [] i.journal i.steps i.counts (no_rows gives refuses t m c.idle.result.work c.requires.none)
     (unkept gives refuses t m c.idle.result.work c.requires.none _ _ refl (λ h. cc))
-    (i.work ∙ stop_is c.stop.result status.NoMemory c.stop.ensures.status c.stop.ensures.paths c.stop.ensures.note)))
+    (i.work ∙ stop_is c.stop_of.result status.NoMemory c.stop_of.ensures.status c.stop_of.ensures.paths c.stop_of.ensures.note)))
 
 pub returns-clause-value : goal.returns-clause-value
 returns-clause-value g c f fit k =

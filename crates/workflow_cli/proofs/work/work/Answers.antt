@@ -1,5 +1,5 @@
 use Rattle.std.proofs.Common.{refl}
-use Rattle.workflow_cli.proofs.Counts.{works}
+use Rattle.workflow_stages.proofs.Counts.{works}
 use Rattle.workflow_cli.proofs.Loaded.{no_load}
 use Rattle.workflow_cli.proofs.Works.{bundle_is_work, check_is_work, cwl_is_work, form_is_work, print_is_work, run_is_work, uses_journal}
 use Rattle.workflow_cli.proofs.work.work.Goals as goal

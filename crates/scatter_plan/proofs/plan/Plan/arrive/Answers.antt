@@ -1,5 +1,5 @@
 use Rattle.scatter_plan.specs.Calls.{row}
-use Rattle.scatter_plan.specs.Doing.{state}
+use Rattle.plan_steps.specs.Doing.{state}
 use Rattle.scatter_plan.proofs.Told.{arrived, many_arrived}
 use Rattle.scatter_plan.proofs.plan.Plan.arrive.Goals as goal
 

@@ -1,9 +1,9 @@
 use Rattle.std.proofs.Common.{◌-◌, Some, ◌∙◌, rules, arith}
 use Rattle.std.proofs.lemmas.Grind.{common_steps}
-use Rattle.wdl_parse_expr.specs.Outcome.{then_}
+use Rattle.token_reading.specs.Outcome.{then_}
 use Rattle.wdl_parse_expr.specs.Reading.{expr, operation, rule_at, turns}
-use Rattle.wdl_parse_expr.proofs.Turns.{one_more, deeper}
-use Rattle.wdl_parse_expr.proofs.Steps.{then_is}
+use Rattle.token_reading.proofs.Turns.{one_more, deeper}
+use Rattle.token_reading.proofs.Steps.{then_is}
 use Rattle.wdl_parse_expr.proofs.Told.{told_some}
 use Rattle.wdl_parse_expr.proofs.grammar.Grammar.+rules.Goals as goal
 

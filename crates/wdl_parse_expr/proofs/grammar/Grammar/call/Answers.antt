@@ -1,5 +1,5 @@
 use Rattle.std.proofs.Common.{subst}
-use Rattle.wdl_parse_expr.specs.Outcome.{Reads}
+use Rattle.token_reading.specs.Outcome.{Reads}
 use Rattle.wdl_parse_expr.specs.Reading.{expr, call, call_by}
 use Rattle.wdl_parse_expr.proofs.grammar.Grammar.call.Goals as goal
 

@@ -1,4 +1,4 @@
-use Rattle.wdl_parse_expr.specs.Reading.{linked}
+use Rattle.token_reading.specs.Outcome.{linked}
 use Rattle.wdl_parse_expr.proofs.Told.{still_fails}
 use Rattle.wdl_parse_expr.proofs.grammar.Grammar.linked.Goals as goal
 

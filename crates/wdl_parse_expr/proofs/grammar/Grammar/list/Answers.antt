@@ -1,8 +1,8 @@
 use Rattle.std.proofs.Common.{rules, arith}
 use Rattle.std.proofs.lemmas.Grind.{common_steps}
-use Rattle.wdl_parse_expr.specs.Outcome.{then_, found}
+use Rattle.token_reading.specs.Outcome.{then_, found}
 use Rattle.wdl_parse_expr.specs.Reading.{list_from}
-use Rattle.wdl_parse_expr.proofs.Turns.{one_more}
+use Rattle.token_reading.proofs.Turns.{one_more}
 use Rattle.wdl_parse_expr.proofs.grammar.Grammar.list.Goals as goal
 
 pub returns-in_err-item : goal.returns-in_err-item

@@ -1,7 +1,7 @@
 use Rattle.std.proofs.Common.{Ok, Some, None, ap, sym, ◌∙◌}
 use Rattle.wdl_parse_expr.specs.Reading.{expr, suffix, turns}
-use Rattle.wdl_parse_expr.proofs.Turns.{one_more}
-use Rattle.wdl_parse_expr.proofs.Steps.{then_is}
+use Rattle.token_reading.proofs.Turns.{one_more}
+use Rattle.token_reading.proofs.Steps.{then_is}
 use Rattle.wdl_parse_expr.proofs.Told.{told_none, told_some}
 use Rattle.wdl_parse_expr.proofs.grammar.Grammar.post.Goals as goal
 

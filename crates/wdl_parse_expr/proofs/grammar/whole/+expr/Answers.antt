@@ -1,6 +1,6 @@
 use Rattle.std.proofs.Common.{◌≡◌, arith}
 use Rattle.wdl_parse_expr.specs.Reading.{expr}
-use Rattle.wdl_parse_expr.proofs.Turns.{deeper}
+use Rattle.token_reading.proofs.Turns.{deeper}
 use Rattle.wdl_parse_expr.proofs.grammar.whole.+expr.Goals as goal
 
 pub returns-then-depth-eq0 : goal.returns-then-depth-eq0

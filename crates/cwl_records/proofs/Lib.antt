@@ -1,0 +1,11 @@
+pub mod FieldLaws
+pub mod FlowLists
+pub mod JsonViews
+pub mod LeafLists
+pub mod Outcomes
+pub mod WalkLaws
+pub mod WideExact
+pub mod WideFields
+pub mod WideOutputs
+pub mod WidePaths
+pub mod WideProcesses

@@ -1,0 +1,10 @@
+pub mod Aliases
+pub mod Lowered
+pub mod Outcomes
+pub mod Scenes
+pub mod Types
+pub mod Wide
+pub mod WideLaws
+pub mod WideReading
+pub mod WideWriting
+pub mod Wrapping

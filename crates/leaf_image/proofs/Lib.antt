@@ -1,0 +1,5 @@
+pub mod Bodies
+pub mod Eaches
+pub mod ExpandLaws
+pub mod InsideLaws
+pub mod Runs

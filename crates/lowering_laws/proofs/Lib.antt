@@ -1,0 +1,4 @@
+pub mod Givens
+pub mod Inputs
+pub mod Lookups
+pub mod Simulated

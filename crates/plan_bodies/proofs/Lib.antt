@@ -1,0 +1,5 @@
+pub mod Counts
+mod Dones
+mod EnteredItems
+pub mod Reach
+mod Rooms

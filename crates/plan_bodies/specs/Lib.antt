@@ -1,0 +1,3 @@
+pub mod Bases
+pub mod Joined
+pub mod Plots

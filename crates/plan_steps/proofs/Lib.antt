@@ -1,0 +1,7 @@
+pub mod Asks
+mod Concluding
+pub mod Lists
+mod OutputRuns
+mod Setting
+mod Standing
+mod Taken

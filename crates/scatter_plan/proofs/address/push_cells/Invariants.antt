@@ -1,6 +1,0 @@
-use Rattle.std.proofs.Common.{◌≡◌, ◌++◌, drop, map}
-use Rattle.plan_layout.specs.Cells as cells
-use Rattle.scatter_plan.proofs.address.push_cells.Given as goal
-
-abbrev pub invariant-loop-need : goal.invariant-loop-need
-invariant-loop-need l = l.cells ++ map (cells.cell_at l.bases) (drop l.need-index l.needs) ≡ l.initial.cells ++ map (cells.cell_at l.bases) l.needs

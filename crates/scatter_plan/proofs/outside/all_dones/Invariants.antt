@@ -1,6 +1,0 @@
-use Rattle.std.proofs.Common.{◌≡◌, ◌++◌, drop}
-use Rattle.plan_growth.specs.Entering.{all_dones}
-use Rattle.scatter_plan.proofs.outside.all_dones.Given as goal
-
-abbrev pub invariant-loop-first : goal.invariant-loop-first
-invariant-loop-first l = l.dones ++ all_dones l.statements (drop l.first-index l.firsts) ≡ all_dones l.statements l.firsts

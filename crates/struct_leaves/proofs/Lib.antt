@@ -1,0 +1,7 @@
+pub mod CountLaws
+pub mod Found
+pub mod InputLaws
+pub mod Marks
+pub mod NamingLaws
+pub mod PlaceLaws
+pub mod Unswapped

@@ -1,0 +1,5 @@
+pub mod Turns
+pub mod Steps
+pub mod Says
+pub mod Tables
+pub mod Strings

@@ -1,7 +1,0 @@
-use Rattle.std.proofs.Common.{◌≡◌, ◌++◌, drop, map}
-use Rattle.wdl_check_types.specs.Locals.{stands_for}
-use Rattle.wdl_bundle.specs.Renamed.{input_with}
-use Rattle.wdl_bundle.proofs.sections.copy_inputs.Given as goal
-
-abbrev pub invariant-loop-input : goal.invariant-loop-input
-invariant-loop-input l = l.inputs ++ map (input_with (stands_for l.locals)) (drop l.input-index l.section.inputs) ≡ map (input_with (stands_for l.locals)) l.section.inputs

@@ -1,0 +1,2 @@
+mod RenamedLaws
+mod TypeLaws

@@ -1,0 +1,4 @@
+pub mod Parts
+pub mod Expressions
+pub mod Renamed
+pub mod Calls

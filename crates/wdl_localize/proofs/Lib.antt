@@ -1,2 +1,0 @@
-pub mod RenamedLaws
-pub mod UnknownLaws

@@ -1,2 +1,0 @@
-pub mod Localized
-pub mod Parts

@@ -1,4 +1,0 @@
-use Rattle.wdl_parse_doc.proofs.metadata.+value.Given as goal
-
-abbrev pub decreases-value : goal.decreases-value
-decreases-value l = l.depth

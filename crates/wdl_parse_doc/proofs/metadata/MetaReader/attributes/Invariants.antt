@@ -1,8 +1,0 @@
-use Rattle.std.proofs.Common.{◌≡◌, ◌-◌}
-use Rattle.wdl_ast.specs.declared.token.Mark.TheVariants as mark
-use Rattle.wdl_parse_doc.specs.Reading.Parts.{many, many_from, until, attribute}
-use Rattle.wdl_parse_doc.specs.Reading.Metadata.{meta_at}
-use Rattle.wdl_parse_doc.proofs.metadata.MetaReader.attributes.Given as goal
-
-abbrev pub invariant-loop-turn : goal.invariant-loop-turn
-invariant-loop-turn g l = many (until mark.CloseBrace (attribute (meta_at l.self.depth))) l.fn.tokens ≡ many_from (until mark.CloseBrace (attribute (meta_at l.self.depth))) (l._turn-end - l._turn) l.attributes l.tokens

@@ -1,6 +1,0 @@
-use Rattle.std.proofs.Common.{◌≡◌, ◌-◌}
-use Rattle.wdl_parse_doc.specs.Reading.Parts.{many, many_from}
-use Rattle.wdl_parse_doc.proofs.part.many.Given as goal
-
-abbrev pub invariant-loop-turn : goal.invariant-loop-turn
-invariant-loop-turn g l = many (g.P.Part.reading) l.fn.tokens ≡ many_from (g.P.Part.reading) (l._turn-end - l._turn) l.parts l.tokens

@@ -1,0 +1,4 @@
+pub mod Agreement
+pub mod Chains
+pub mod Strays
+pub mod Swaps

@@ -1,6 +1,0 @@
-use Rattle.workflow_cli.proofs.Joined.{checks}
-use Rattle.workflow_cli.proofs.checking.checked_of.Goals as goal
-
-pub returns-in-Ok-clause-outcome : goal.returns-in-Ok-clause-outcome
-returns-in-Ok-clause-outcome g c =
-    checks _ _ _ _ c.in-Ok.library c.in-Ok.ensures.outcome c.typed.result c.typed.ensures.outcome

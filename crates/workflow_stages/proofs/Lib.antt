@@ -1,0 +1,6 @@
+mod ToldLemmas
+mod Paths
+mod Given
+pub mod Counts
+pub mod Joined
+pub mod Started

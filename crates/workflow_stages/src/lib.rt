@@ -1,0 +1,22 @@
+//! The stages that the commands of the program share: a document is read with its imports and checked, its main workflow is
+//! found, and the inputs of that are read. A stage that does no more gives a `Stop`.
+#![tactic(auto)]
+
+mod alone;
+mod checking;
+mod ended;
+mod exclusion;
+mod inputs;
+mod note;
+mod prepare;
+mod recall;
+mod writing;
+
+pub use alone::shelf_of;
+pub use checking::{Located, checked_of, gathered, stop_of};
+pub use ended::{Stop, Work};
+pub use exclusion::outside;
+pub use note::write_note;
+pub use prepare::{Prepared, main_flow, main_in, main_of, start_of};
+pub use recall::{Recall, RecallingShelf};
+pub use writing::write_all;

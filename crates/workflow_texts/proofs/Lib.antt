@@ -1,0 +1,3 @@
+mod Bundles
+mod Formed
+pub mod Excluded

@@ -1,0 +1,3 @@
+pub mod Translating
+pub mod Bundling
+pub mod Forming
