@@ -1,5 +1,5 @@
 -- What is new where a statement stands, and what is seen behind it.
-use Rattle.std.proofs.Common.{◌≡◌, ℕ, Bool, true, false, not, List, [], ◌∷◌, ◌++◌, Option, Some, None, sym, ap, ◌∙◌, subst, refl}
+use Rattle.std.proofs.Common.{◌≡◌, ℕ, true, List, [], ◌∷◌, ◌++◌, Option, Some, None, sym, ap, ◌∙◌, subst, refl}
 use Rattle.std.proofs.lemmas.Bool.{false≢true, and_parts}
 use Rattle.wdl_base.specs.declared.name.Key.{Key}
 use Rattle.wdl_value.specs.declared.ty.Ty.{Ty}
@@ -34,14 +34,6 @@ form_new all taken seen y n =
       declared_new = sym (ap (fresh taken) names) ∙ n.declared_new;
       items_new = sym (ap (λ (d : Differing). d all) (fold-roll-Statement Differing items_step y)) ∙ (and_parts (fold-Statement Differing items_step st all) true n.items_new).0;
     }
-
--- nothing is new yet
-pub none_new : (all taken : List (List ℕ)) (seen : Seen) (body : List Statement) → IsNew all taken seen body → IsNew all taken seen []
-none_new all taken seen body n = record { seen_taken = n.seen_taken; taken_all = n.taken_all; declared_all = λ name h. absurd (false≢true h); declared_new = refl; items_new = refl }
-
-pub not_true : (b : Bool) → not b ≡ true → b ≡ false
-not_true true h = absurd (false≢true h)
-not_true false h = refl
 
 -- ---- what a statement gives
 

@@ -1,7 +1,7 @@
 -- Bodies without their aliases give what they gave, but for the names of the aliases.
 use Rattle.std.proofs.Common.{◌≡◌, ℕ, ◌+◌, Bool, true, false, cond, not, List, [], ◌∷◌, ◌++◌, append-nil, codes, length, map, Option, Some, None, option_and_then, Ok, Err, sym, ap, ◌∙◌, subst, refl}
 use Rattle.std.specs.List.{list_all}
-use Rattle.std.proofs.lemmas.Bool.{false≢true, and_from, and_parts}
+use Rattle.std.proofs.lemmas.Bool.{false≢true, and_from, and_parts, not-true}
 use Rattle.wdl_base.specs.declared.name.Key.{Key}
 use Rattle.wdl_base.specs.declared.place.Segment.{Segment}
 use Rattle.wdl_base.specs.declared.place.Segment.TheVariants as segment
@@ -47,13 +47,13 @@ use Rattle.leaf_image.proofs.Eaches.{each_by, each_left, each_right}
 use Rattle.flow_soundness.specs.Readiness.{Agrees, IsLibrary, IsNew, are_among}
 use Rattle.flow_soundness.proofs.Fitting.{agrees_both, agrees_one, value_fits}
 use Rattle.flow_soundness.proofs.FlowSound.{one_apart}
-use Rattle.flow_soundness.proofs.GivenKeys.{some_inside, when_some}
+use Rattle.flow_soundness.proofs.GivenKeys.{when_some}
 use Rattle.flow_soundness.proofs.NewNames.{name_left, name_one, name_right}
 use Rattle.flow_soundness.proofs.Newness.{given_apart, head_new, new_inside, tail_new}
 use Rattle.cwl_laws.proofs.Literals.{items_within}
 use Rattle.cwl_records.specs.Aliases.{Scene, Step, Walk, alias_of, alias_swap, decl_by, scatter_at, scatter_over, swapped_call, walk, walk_body, walk_step}
 use Rattle.alias_laws.specs.Laws.{FilesKeepLimits}
-use Rattle.alias_laws.proofs.Behind.{agrees_behind, form_new, new_key, none_new, not_true, typed_behind}
+use Rattle.alias_laws.proofs.Behind.{agrees_behind, form_new, new_key, typed_behind}
 use Rattle.alias_laws.proofs.Calls.{CallHolds, CleanCall, call_same}
 use Rattle.alias_laws.proofs.Dropped.{aliased}
 use Rattle.alias_laws.proofs.FileLimits.{flows_keep, known_keeps, statement_keeps, within_keeps}
@@ -64,6 +64,8 @@ use Rattle.alias_laws.proofs.SameSteps.{parts_append, AllSame, SameNames, SameSt
 use Rattle.alias_laws.proofs.Sights.{Clean, item_behind, item_known, item_small, Sees, Stands, known_same, sees_alone, sees_grouped, sees_longer, value_same}
 use Rattle.alias_laws.proofs.WalkLaws.{alias_parts, calls_one, declared_one, exprs_one, if_left, joined_append, scatter_left}
 use Rattle.alias_laws.proofs.Within.{value_within}
+use Rattle.wdl_base.proofs.Options.{then_parts}
+use Rattle.flow_soundness.proofs.BlockReady.{none_new}
 
 module _ (lib : Library) (flows : List FlowDef) (site : List ℕ) (table : List Row) (kept : IsLibrary lib) (limits : FilesKeepLimits lib site table) (depth : ℕ) (other : Callee)
     (declares strays : List (List ℕ)) (bad : List ℕ → Bool) (bad_declared : (n : List ℕ) → has_name n declares ≡ false → bad n ≡ false) where
@@ -171,8 +173,8 @@ module _ (lib : Library) (flows : List FlowDef) (site : List ℕ) (table : List 
         sees = subst (λ (z : Seen). SeesBoth (seen.names ++ z.names) (ss ++ []) (old ++ []) (now ++ [])) none (sees_alone hidden declares seen.names ss old now sees);
       }
   body_ran (k ∷ ks) seen given names ss all taken same h new asked inside old now calls place agrees sees =
-      let p = some_inside (gives lib k.0 seen) (λ one. option_and_then (λ rest. Some (joined one rest)) (body_gives lib (firsts ks) (joined seen one))) given h in
-      let q = some_inside (body_gives lib (firsts ks) (joined seen p.0)) (λ rest. Some (joined p.0 rest)) given p.2 in
+      let p = then_parts (λ one. option_and_then (λ rest. Some (joined one rest)) (body_gives lib (firsts ks) (joined seen one))) (gives lib k.0 seen) given h in
+      let q = then_parts (λ rest. Some (joined p.0 rest)) (body_gives lib (firsts ks) (joined seen p.0)) given p.2 in
       let both : joined p.0 q.0 ≡ given = cc in
       let w : Step = walk scene k.0 names ss in
       let rest : Step = walk_body scene (firsts ks) (names ++ w.given) (ss ++ w.added) in
@@ -403,7 +405,7 @@ module _ (lib : Library) (flows : List FlowDef) (site : List ℕ) (table : List 
 
   scatter_form : (s : TScatter Known) → FormRuns (layer.Scatter s)
   scatter_form s seen given ss all taken h new asked inside old now calls place agrees sees =
-      let p = some_inside (in_body lib.structs seen.names s.over) (λ t. typed_over s.item (body_step (map (gives lib) (firsts s.body))) seen (out-Ty t)) given h in
+      let p = then_parts (λ t. typed_over s.item (body_step (map (gives lib) (firsts s.body))) seen (out-Ty t)) (in_body lib.structs seen.names s.over) given h in
       by_type p.0 p.1 (out-Ty p.0) refl p.2
     where
       at_walk : TScatter Walk
@@ -414,13 +416,13 @@ module _ (lib : Library) (flows : List FlowDef) (site : List ℕ) (table : List 
           Ran (seen.names ++ given.names) w.added old now (scatter_run (body_names (map left (firsts s.body))) (body_run (map left (firsts s.body))) s.number s.item s.over (at old calls place)) (in_turn (rights w.kept) (at now calls place)))
       by_type t typed (type.Array u some) e g =
           let array : t ≡ ty.Array u some = sym (roll-out-Ty t) ∙ ap roll-Ty e ∙ ty.rolls-Array u some in
-          let q = some_inside (body_step (map (gives lib) (firsts s.body)) (with_item seen s.item u)) (λ z. Some (retyped (λ w. ty.Array w some) z)) given g in
+          let q = then_parts (λ z. Some (retyped (λ w. ty.Array w some) z)) (body_step (map (gives lib) (firsts s.body)) (with_item seen s.item u)) given g in
           let walked : scatter_over at_walk seen.names ss (in_body lib.structs seen.names s.over) ≡ scatter_at at_walk seen.names ss (type.Array u some) = ap (scatter_over at_walk seen.names ss) typed ∙ ap (scatter_at at_walk seen.names ss) e in
           let left_body : List Statement = (walk_body scene (firsts s.body) (seen.names ++ bound s.item u ∷ []) ss).kept in
           let now_scatter : TScatter Statement = scatter_left ss s left_body in
           let f = form_new all taken seen (plain (layer.Scatter s)) new in
           let n = and_parts (not (has_name s.item all)) (items_differ (firsts s.body) (s.item ∷ all)) f.items_new in
-          let out : has_name s.item all ≡ false = not_true (has_name s.item all) n.0 in
+          let out : has_name s.item all ≡ false = not-true (has_name s.item all) n.0 in
           let new_there = new_inside all taken seen s.item u (firsts s.body) out n.1 (none_new all taken seen (roll-Statement (plain (layer.Scatter s)) ∷ []) new) f.declared_all f.declared_new in
           let apart = one_apart lib.structs seen.names all s.item u (λ key v_ g_. new.taken_all key.first (new.seen_taken key v_ g_)) out in
           let asked_now : Asked (calls_in (firsts s.body)) (declared_by (firsts s.body)) (statement.Scatter now_scatter ∷ []) =
@@ -437,14 +439,14 @@ module _ (lib : Library) (flows : List FlowDef) (site : List ℕ) (table : List 
 
   if_form : (i : TIf Known) → FormRuns (layer.If i)
   if_form i seen given ss all taken h new asked inside old now calls place agrees sees =
-      let p = some_inside (in_body lib.structs seen.names i.cond) (if_over (body_step (map (gives lib) (firsts i.body))) seen) given h in
+      let p = then_parts (if_over (body_step (map (gives lib) (firsts i.body))) seen) (in_body lib.structs seen.names i.cond) given h in
       by_test (is_bool p.0) p.2
     where
       by_test : (b : Bool) → cond b (option_and_then (λ g. Some (retyped optional g)) (body_step (map (gives lib) (firsts i.body)) seen)) None ≡ Some given
           → Ran (seen.names ++ given.names) [] old now (if_run (body_names (map left (firsts i.body))) (body_run (map left (firsts i.body))) i.number i.cond (at old calls place))
           (in_turn (rights (statement.If (if_left ss i (walk_body scene (firsts i.body) seen.names ss).kept) ∷ [])) (at now calls place))
       by_test true g =
-          let q = some_inside (body_step (map (gives lib) (firsts i.body)) seen) (λ z. Some (retyped optional z)) given g in
+          let q = then_parts (λ z. Some (retyped optional z)) (body_step (map (gives lib) (firsts i.body)) seen) given g in
           let left_body : List Statement = (walk_body scene (firsts i.body) seen.names ss).kept in
           let now_if : TIf Statement = if_left ss i left_body in
           let f = form_new all taken seen (plain (layer.If i)) new in

@@ -2,6 +2,7 @@
 use Rattle.std.proofs.Common.{◌≡◌, ℕ, Bool, true, false, cond, ◌&&◌, List, [], ◌∷◌, Some, Ok, Err, sym, ap, ◌∙◌, subst, refl}
 use Rattle.std.specs.List.{list_all}
 use Rattle.std.proofs.lemmas.Bool.{and_parts}
+use Rattle.std.proofs.lemmas.Option.{same_Some}
 use Rattle.wdl_base.specs.declared.name.Key.{Key}
 use Rattle.wdl_base.specs.declared.place.Segment.{Segment}
 use Rattle.wdl_value.specs.declared.env.Bind.{Bind}
@@ -22,12 +23,12 @@ use Rattle.wdl_swaps.specs.Swaps.{swapped, swapped_args}
 use Rattle.leaf_image.specs.Inside.{Each}
 use Rattle.flow_soundness.specs.Readiness.{Agrees}
 use Rattle.flow_soundness.proofs.Args.{args_are_given}
-use Rattle.flow_soundness.proofs.GivenKeys.{some_inside, when_some}
-use Rattle.wdl_eval.proofs.Steps.{some_same}
+use Rattle.flow_soundness.proofs.GivenKeys.{when_some}
 use Rattle.cwl_records.specs.Aliases.{swapped_call}
 use Rattle.alias_laws.proofs.SameSteps.{SameStep, same_fault, same_missing, same_names}
 use Rattle.alias_laws.proofs.Sights.{Clean, Sees, known_same, value_same}
 use Rattle.alias_laws.proofs.Within.{all_within, args_within}
+use Rattle.wdl_base.proofs.Options.{then_parts}
 
 module _ (hidden : Key → Bool) where
   -- no hidden name stands in the arguments
@@ -69,8 +70,8 @@ module _ (hidden : Key → Bool) where
       -- the arguments of a call that is well typed are given
       are_all_given : (args : List Bind) → args_known old c.args ≡ true → args_met (env_of old) c.args ≡ Ok args → (s : Signature) → signature r.library c.target ≡ Some s → are_given r.library.structs s.inputs args ≡ true
       are_all_given args known met s is =
-          let p = some_inside (signature r.library c.target) (call_by r.library.structs c seen) given typed in
-          let same : p.0 ≡ s = some_same (sym p.1 ∙ is) in
+          let p = then_parts (call_by r.library.structs c seen) (signature r.library c.target) given typed in
+          let same : p.0 ≡ s = same_Some _ _ (sym p.1 ∙ is) in
           let k = when_some _ _ given p.2 in
           let d = and_parts (args_typed r.library.structs seen.names p.0.inputs c.args && are_distinct (arg_names c.args) && all_given p.0.inputs (arg_names c.args)) (all_seen seen.calls c.after) k.0 in
           let e = and_parts (args_typed r.library.structs seen.names p.0.inputs c.args && are_distinct (arg_names c.args)) (all_given p.0.inputs (arg_names c.args)) d.0 in

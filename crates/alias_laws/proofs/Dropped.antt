@@ -34,10 +34,9 @@ use Rattle.wdl_swaps.specs.Swaps.{swapped}
 use Rattle.wdl_swaps.proofs.Names.{names_chain}
 use Rattle.leaf_image.specs.Leaves.{or_else}
 use Rattle.wdl_eval.specs.Nodes.{within}
-use Rattle.wdl_eval.proofs.Steps.{some_in}
 use Rattle.flow_laws.proofs.Keys.{key_itself}
 use Rattle.flow_soundness.specs.Readiness.{Agrees, FitsSome}
-use Rattle.flow_soundness.proofs.Fitting.{some_of, type_back}
+use Rattle.flow_soundness.proofs.Fitting.{some_of}
 use Rattle.record_laws.proofs.ChainLaws.{is_chain}
 use Rattle.record_laws.proofs.Lookups.{keys_apart, names_append, one_missing}
 use Rattle.record_laws.proofs.Paths.{kept_value, met_get, met_nothing}
@@ -49,6 +48,8 @@ use Rattle.alias_laws.proofs.Hiding.{hidden_by}
 use Rattle.alias_laws.proofs.Hops.{hops_lead}
 use Rattle.alias_laws.proofs.SameSteps.{SameStep}
 use Rattle.alias_laws.proofs.Sights.{Clean, Sees, Stands, known_same, met_same, type_stays}
+use Rattle.wdl_base.proofs.Options.{then_parts}
+use Rattle.wdl_task.proofs.Fit.{type_later as type_back}
 
 file_is : (t : Ty) → file_at (out-Ty t) ≡ true → t ≡ ty.File
 file_is t h = by_layer (out-Ty t) refl h
@@ -123,7 +124,7 @@ module _ (structs : Structs) (declared : List (List ℕ)) (bad : List ℕ → Bo
     from : Source
     from =
         let p = some_of (option_and_then (hops_type structs c.hops) (root_type declared bounds c.key)) source in
-        let q = some_in (hops_type structs c.hops) (root_type declared bounds c.key) p.0 p.1 in
+        let q = then_parts (hops_type structs c.hops) (root_type declared bounds c.key) p.0 p.1 in
         record { root_ty = q.0; whole_ty = p.0; root = root c.key q.0 q.1; hops = q.2 }
 
     clean : Clean hidden (swapped ss a)

@@ -2,6 +2,7 @@
 use Rattle.std.proofs.Common.{◌≡◌, ℕ, zero, suc, ◌+◌, ◌≤◌, Bool, true, false, not, ◌&&◌, List, [], ◌∷◌, ◌++◌, append-nil, Option, Some, option_and_then, slice_get, arith, sym, ap, ◌∙◌, subst, refl}
 use Rattle.std.specs.List.{list_all}
 use Rattle.std.proofs.lemmas.Bool.{and_from, and_parts, false≢true, false_from_ne_true, not-true, not_from_false}
+use Rattle.std.proofs.lemmas.Option.{same_Some}
 use Rattle.wdl_base.specs.declared.name.Key.{Key}
 use Rattle.wdl_base.specs.declared.place.Segment.{Segment}
 use Rattle.wdl_value.specs.declared.env.Bind.{Bind}
@@ -29,8 +30,6 @@ use Rattle.leaf_image.proofs.Eaches.{each_by, each_with}
 use Rattle.flow_soundness.specs.Readiness.{IsLibrary}
 use Rattle.flow_soundness.proofs.FlowSound.{Typed, all_taken, body_is_new, callees_sound, inputs_sound, is_typed, seen_sound}
 use Rattle.flow_soundness.proofs.NewNames.{fresh_apart, name_left, name_right}
-use Rattle.flow_soundness.proofs.Sound.{one_of_all}
-use Rattle.wdl_eval.proofs.Steps.{some_in, some_same}
 use Rattle.record_laws.proofs.CallLaws.{keys_same, outputs_same as calls_same}
 use Rattle.record_laws.proofs.Fine.{all_ok}
 use Rattle.record_laws.proofs.FlowFacts.{None_of, all_apart}
@@ -52,6 +51,7 @@ use Rattle.alias_laws.proofs.Sights.{Clean, Sees}
 use Rattle.alias_laws.proofs.Small.{found_small, inputs_small}
 use Rattle.alias_laws.proofs.WalkLaws.{walk_left}
 use Rattle.alias_laws.proofs.Within.{all_within}
+use Rattle.wdl_base.proofs.Options.{all_at, then_parts}
 
 -- a workflow that is reached stands without its aliases
 at_mark : (lib : Library) (fs : List FlowDef) (bs : List Bool) (k : ℕ) (f : FlowDef) → slice_get fs k ≡ Some f → is_marked bs k ≡ true → slice_get (unaliased_where lib fs bs) k ≡ Some (unaliased lib f)
@@ -60,7 +60,7 @@ at_mark lib (g ∷ fs) [] k f e m = absurd (false≢true m)
 at_mark lib (g ∷ fs) (b ∷ bs) zero f e m = by_mark b m
   where
     by_mark : (b : Bool) → b ≡ true → (let o : Option FlowDef = Some (unaliased_if b lib g) in o ≡ Some (unaliased lib f))
-    by_mark true m = ap (λ (z : FlowDef). Some (unaliased lib z)) (some_same e)
+    by_mark true m = ap (λ (z : FlowDef). Some (unaliased lib z)) (same_Some _ _ e)
     by_mark false m = absurd (false≢true m)
 at_mark lib (g ∷ fs) (b ∷ bs) (suc k) f e m = at_mark lib fs bs k f e m
 
@@ -118,10 +118,10 @@ module _ (lib : Library) (main : ℕ) (flows : List FlowDef) (are : flows ≡ un
     hidden = hidden_by bad
 
     typed_old : Typed lib f
-    typed_old = is_typed lib f (one_of_all (flow_typed lib) lib.flows k f kept.flows stands.there)
+    typed_old = is_typed lib f (all_at (flow_typed lib) lib.flows k f kept.flows stands.there)
 
     typed_now : Typed now_lib now
-    typed_now = is_typed now_lib now (one_of_all (flow_typed now_lib) flows k now again (now_is k f stands))
+    typed_now = is_typed now_lib now (all_at (flow_typed now_lib) flows k now again (now_is k f stands))
 
     -- ---- names that are not gone
 
@@ -219,7 +219,7 @@ module _ (lib : Library) (main : ℕ) (flows : List FlowDef) (are : flows ≡ un
       runs = λ ss n at args within given_all. same_step hidden (called old callee n at c args (target.Task j)) (called new other n at (swapped_call ss c) args (target.Task j)) refl;
     }
     at_target c (target.Flow j) s e reach =
-        let p = some_in (λ (z : FlowDef). Some (flow_signature z)) (slice_get lib.flows j) s e in
+        let p = then_parts (λ (z : FlowDef). Some (flow_signature z)) (slice_get lib.flows j) s e in
         at_flow c j p.0 (reach j p.0 refl p.1)
 
     call_holds : (c : TCall) → OldCall c → Called c → Holds c

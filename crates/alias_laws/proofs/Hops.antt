@@ -1,5 +1,6 @@
 -- The values of chains: members of structs and casts that widen lead from a value that fits and keeps the limits to one that does.
 use Rattle.std.proofs.Common.{◌≡◌, ℕ, Bool, true, false, cond, List, [], ◌∷◌, Option, Some, None, option_and_then, Ok, sym, ap, ◌∙◌, subst, refl}
+use Rattle.std.proofs.lemmas.Option.{same_Some}
 use Rattle.wdl_value.specs.declared.ty.Ty.{Ty, Ty-F, out-Ty}
 use Rattle.wdl_value.specs.declared.ty.Ty.TheOpen as type
 use Rattle.wdl_value.specs.declared.value.Value.{Value, out-Value}
@@ -18,10 +19,10 @@ use Rattle.wdl_swaps.specs.declared.chain.Hop.{Hop}
 use Rattle.wdl_swaps.specs.declared.chain.Hop.TheVariants as hop
 use Rattle.wdl_swaps.specs.Chains.{along, expr_of, hopped}
 use Rattle.wdl_eval.specs.Nodes.{within}
-use Rattle.wdl_eval.proofs.Steps.{some_in, some_same}
 use Rattle.record_laws.proofs.Paths.{Leads, kept_value, met_along, met_get, met_member, path_leads, path_type}
 use Rattle.cwl_records.specs.Types.{hop_type, hops_type, member_at as struct_member}
 use Rattle.alias_laws.proofs.Widening.{widening_keeps}
+use Rattle.wdl_base.proofs.Options.{then_parts}
 
 -- ---- by what they begin with
 
@@ -64,7 +65,7 @@ cast_leads structs s w a x t u is fit small h = by_test (widens t w) refl h
   where
     by_test : (b : Bool) → widens t w ≡ b → (let o : Option Ty = cond b (Some w) None in o ≡ Some u) → Led structs s (e.Cast a w) u
     by_test true i h =
-        let same : w ≡ u = some_same h in
+        let same : w ≡ u = same_Some _ _ h in
         let k = widening_keeps structs t w x i fit in
         let value : value_met s (e.Cast a w) ≡ Ok x =
         met_cast s a w ∙ ap (λ (m : Met Value). value_step s (layer.Cast m w)) is
@@ -79,8 +80,8 @@ hop_leads structs s (hop.Cast w) a x t u is fit small h = cast_leads structs s w
 
 pub hops_lead : (structs : Structs) (s : Setting) (hops : List Hop) (a : TExpr) (x : Value) (t u : Ty) → value_met s a ≡ Ok x → fits structs x t ≡ true → is_within x ≡ true
     → hops_type structs hops t ≡ Some u → Led structs s (along a hops) u
-hops_lead structs s [] a x t u is fit small h = (x, is, subst (λ (v : Ty). fits structs x v ≡ true) (some_same h) fit, small)
+hops_lead structs s [] a x t u is fit small h = (x, is, subst (λ (v : Ty). fits structs x v ≡ true) (same_Some _ _ h) fit, small)
 hops_lead structs s (k ∷ hops) a x t u is fit small h =
-    let p = some_in (hops_type structs hops) (hop_type structs k t) u h in
+    let p = then_parts (hops_type structs hops) (hop_type structs k t) u h in
     let q = hop_leads structs s k a x t p.0 is fit small p.1 in
     hops_lead structs s hops (hopped a k) q.0 p.0 u q.1 q.2 q.3 p.2

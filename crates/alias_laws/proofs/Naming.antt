@@ -29,7 +29,6 @@ use Rattle.wdl_swaps.specs.declared.swap.Swap.{Swap}
 use Rattle.wdl_swaps.specs.Swaps.{swapped, swapped_decl}
 use Rattle.leaf_image.specs.Inside.{Each, calls_in, calls_of, calls_step}
 use Rattle.leaf_image.proofs.Eaches.{each_left, each_right}
-use Rattle.flow_soundness.proofs.GivenKeys.{some_inside}
 use Rattle.flow_soundness.proofs.Newness.{name_split}
 use Rattle.flow_soundness.proofs.NewNames.{fresh_apart, name_left, name_one, name_right}
 use Rattle.record_laws.proofs.Lookups.{keys_apart}
@@ -38,6 +37,7 @@ use Rattle.alias_laws.proofs.Hiding.{hidden_by}
 use Rattle.alias_laws.proofs.PlainNames.{declared_in}
 use Rattle.alias_laws.proofs.SameSteps.{SameNames, names_alone, names_both, same_names}
 use Rattle.alias_laws.proofs.WalkLaws.{declared_one, if_left, names_append, scatter_left, statement_left, walk_given, walk_left}
+use Rattle.wdl_base.proofs.Options.{then_parts}
 
 -- ---- names that are gone
 
@@ -166,8 +166,8 @@ module _ (r q : Run) (callee other : Callee) (bad : List ℕ → Bool) (scene : 
       → Gone bad (declared_by (firsts ks)) (walk_body scene (firsts ks) names swaps).kept → SameNames hidden (body_names (map left (firsts ks))) (body_names (map right (walk_body scene (firsts ks) names swaps).kept))
   body_named [] seen given names swaps taken same h new calls gone = same_names hidden (all_given []) (all_given []) refl
   body_named (k ∷ ks) seen given names swaps taken same h new calls gone =
-      let u = some_inside (gives scene.lib k.0 seen) (λ first. option_and_then (λ rest. Some (joined first rest)) (body_gives scene.lib (firsts ks) (joined seen first))) given h in
-      let v = some_inside (body_gives scene.lib (firsts ks) (joined seen u.0)) (λ rest. Some (joined u.0 rest)) given u.2 in
+      let u = then_parts (λ first. option_and_then (λ rest. Some (joined first rest)) (body_gives scene.lib (firsts ks) (joined seen first))) (gives scene.lib k.0 seen) given h in
+      let v = then_parts (λ rest. Some (joined u.0 rest)) (body_gives scene.lib (firsts ks) (joined seen u.0)) given u.2 in
       let w : Step = walk scene k.0 names swaps in
       let rest : Step = walk_body scene (firsts ks) (names ++ w.given) (swaps ++ w.added) in
       let p = parts bad scene taken k.0 (firsts ks) new in
@@ -204,7 +204,7 @@ module _ (r q : Run) (callee other : Callee) (bad : List ℕ → Bool) (scene : 
       (same_names hidden (record { keys = signature_keys c.name (signature r.library c.target); calls = c.name ∷ [] }) (record { keys = signature_keys c.name (signature q.library c.target); calls = c.name ∷ [] })
       (ap (λ (ks : List Key). let m : Names = record { keys = ks; calls = c.name ∷ [] } in m) calls.0))
   layer_named (layer.Scatter s) seen given names swaps taken same h new calls gone =
-      let p = some_inside (in_body scene.lib.structs seen.names s.over) (λ t. typed_over s.item (body_step (map (gives scene.lib) (firsts s.body))) seen (out-Ty t)) given h in
+      let p = then_parts (λ t. typed_over s.item (body_step (map (gives scene.lib) (firsts s.body))) seen (out-Ty t)) (in_body scene.lib.structs seen.names s.over) given h in
       subst Goal (sym (ap (λ (ns : List Bound). scatter_over at_walk names swaps (in_body scene.lib.structs ns s.over)) same ∙ ap (scatter_over at_walk names swaps) p.1)) (by_type (out-Ty p.0) p.2) gone
     where
       at_walk : TScatter Walk
@@ -222,13 +222,13 @@ module _ (r q : Run) (callee other : Callee) (bad : List ℕ → Bool) (scene : 
 
       by_type : (z : Ty-F Ty) → typed_over s.item (body_step (map (gives scene.lib) (firsts s.body))) seen z ≡ Some given → Goal (scatter_at at_walk names swaps z)
       by_type (type.Array t some) h g =
-          let q = some_inside (body_step (map (gives scene.lib) (firsts s.body)) (with_item seen s.item t)) (λ z. Some (retyped (λ w. ty.Array w some) z)) given h in
+          let q = then_parts (λ z. Some (retyped (λ w. ty.Array w some) z)) (body_step (map (gives scene.lib) (firsts s.body)) (with_item seen s.item t)) given h in
           with_body (walk_body scene (firsts s.body) (names ++ bound s.item t ∷ []) swaps).kept g
           (body_named s.body (with_item seen s.item t) q.0 (names ++ bound s.item t ∷ []) swaps taken (ap (λ (ns : List Bound). ns ++ bound s.item t ∷ []) same) q.1 new calls)
       by_type z h g = absurd (cc)
   layer_named (layer.If i) seen given names swaps taken same h new calls gone =
       let t : TIf Statement = if_left swaps i (walk_body scene (firsts i.body) names swaps).kept in
-      let p = some_inside (in_body scene.lib.structs seen.names i.cond) (if_over (body_step (map (gives scene.lib) (firsts i.body))) seen) given h in
+      let p = then_parts (if_over (body_step (map (gives scene.lib) (firsts i.body))) seen) (in_body scene.lib.structs seen.names i.cond) given h in
       one_named (body_names (map left (firsts i.body))) (layer.If t) (statement.If t) (statement.rolls-If t)
       (by_test (is_bool p.0) p.2 (λ n h out. gone n h (ap (has_name n) (declared_one (layer.If t) (statement.If t) (statement.rolls-If t)) ∙ out)))
     where
@@ -236,7 +236,7 @@ module _ (r q : Run) (callee other : Callee) (bad : List ℕ → Bool) (scene : 
           → Gone bad (declared_by (firsts i.body)) (walk_body scene (firsts i.body) names swaps).kept
           → SameNames hidden (body_names (map left (firsts i.body))) (body_names (map right (walk_body scene (firsts i.body) names swaps).kept))
       by_test true h g =
-          let q = some_inside (body_step (map (gives scene.lib) (firsts i.body)) seen) (λ g. Some (retyped optional g)) given h in
+          let q = then_parts (λ g. Some (retyped optional g)) (body_step (map (gives scene.lib) (firsts i.body)) seen) given h in
           body_named i.body seen q.0 names swaps taken same q.1 new calls g
       by_test false h g = absurd (cc)
 

@@ -22,7 +22,7 @@ use Rattle.wdl_names.specs.Fresh.{fresh}
 use Rattle.wdl_swaps.specs.declared.swap.Swap.{Swap}
 use Rattle.wdl_swaps.specs.Swaps.{swapped, swapped_decl}
 use Rattle.flow_soundness.specs.Readiness.{Agrees, FitsSome}
-use Rattle.flow_soundness.proofs.Fitting.{agrees_both, declaration_agrees, is_type-some}
+use Rattle.flow_soundness.proofs.Fitting.{agrees_both, declaration_agrees}
 use Rattle.flow_soundness.proofs.FlowSound.{Taken, not_true, one_apart, one_taken}
 use Rattle.record_laws.proofs.Fine.{all_ok, names_ok}
 use Rattle.alias_laws.proofs.FileLimits.{declaration_keeps}
@@ -31,6 +31,7 @@ use Rattle.alias_laws.proofs.Names.{ok, ok_both}
 use Rattle.alias_laws.proofs.SameSteps.{SameStep, same_step, same_together}
 use Rattle.alias_laws.proofs.Sights.{Clean, Sees, known_same, sees_longer, value_same}
 use Rattle.alias_laws.proofs.Small.{declaration_small, found_small}
+use Rattle.flow_soundness.proofs.Fitting.{is_type-some}
 
 module _ (structs : Structs) (bad : List ℕ → Bool) (declared : List (List ℕ)) (ss : List Swap) where
   abbrev hidden : Key → Bool

@@ -3,6 +3,7 @@ use Rattle.std.proofs.Common.{◌≡◌, ℕ, Bool, true, false, cond, not, ◌&
 use Rattle.std.specs.Prelude.{is_none}
 use Rattle.std.specs.List.{list_all}
 use Rattle.std.proofs.lemmas.Bool.{false≢true, and_from, and_parts}
+use Rattle.std.proofs.lemmas.Option.{same_Some}
 use Rattle.wdl_base.specs.declared.name.Key.{Key}
 use Rattle.wdl_value.specs.declared.env.Bind.{Bind}
 use Rattle.wdl_value.specs.declared.ty.Ty.{Ty}
@@ -31,13 +32,13 @@ use Rattle.leaf_image.specs.Inside.{Each}
 use Rattle.leaf_image.specs.Leaves.{or_else}
 use Rattle.leaf_image.proofs.Eaches.{each_both, each_by}
 use Rattle.flow_laws.proofs.Keys.{key_same}
-use Rattle.flow_soundness.proofs.Fitting.{some_of, type_front}
+use Rattle.flow_soundness.proofs.Fitting.{some_of}
 use Rattle.wdl_eval.specs.Nodes.{within}
-use Rattle.wdl_eval.proofs.Steps.{some_same}
 use Rattle.record_laws.proofs.Lookups.{names_append}
 use Rattle.record_laws.proofs.Paths.{met_get}
 use Rattle.alias_laws.proofs.FileLimits.{AllKeep, keep_both}
 use Rattle.alias_laws.proofs.Hops.{chain_same}
+use Rattle.wdl_task.proofs.Fit.{type_kept as type_front}
 
 -- ---- looking up
 
@@ -143,7 +144,7 @@ module _ (hidden : Key → Bool) where
             let p = and_parts (same_key w.key key) (are_members hops w.path) i in
             let key_is : w.key ≡ key = key_same w.key key p.0 in
             let hops_are : hops ≡ [] = no_members hops (ap (are_members hops) (sym all.0.path) ∙ p.1) in
-            let same : w.value ≡ c = some_same h in
+            let same : w.value ≡ c = same_Some _ _ h in
             subst (At old now key hops) same (record {
               value = all.0.value ∙ ap (λ (k : Key). met_in old (e.Get k)) key_is ∙ ap (λ (hs : List Hop). met_in old (along (e.Get key) hs)) (sym hops_are);
               known = all.0.known ∙ ap (is_found old) key_is;

@@ -16,7 +16,8 @@ use Rattle.wdl_typed.specs.Evaluation.{value_of}
 use Rattle.wdl_typed.specs.Flow.{Known, Sight, all_known, bound_by, declaration, declared_as, default_of, env_of, input_of, inputs, known, named, seeing}
 use Rattle.wdl_typed.specs.Requests.{before}
 use Rattle.wdl_typed.specs.Scope.{lookup, same_key}
-use Rattle.alias_laws.proofs.Within.{absent_within, all_within, value_within}
+use Rattle.alias_laws.proofs.Within.{all_within, value_within}
+use Rattle.cwl_laws.proofs.Starts.{absent_within}
 
 abbrev pub is_small : Option Value → Bool
 is_small None = true

@@ -25,10 +25,11 @@ use Rattle.wdl_swaps.specs.Chains.{chain_of}
 use Rattle.wdl_swaps.specs.Swaps.{swapped, swapped_decl}
 use Rattle.leaf_image.specs.Inside.{append_all, calls_in, calls_of, calls_step, exprs_in, exprs_of, exprs_step}
 use Rattle.leaf_image.specs.Leaves.{items_in, items_of, items_step}
-use Rattle.flow_soundness.proofs.GivenKeys.{some_inside, when_some}
+use Rattle.flow_soundness.proofs.GivenKeys.{when_some}
 use Rattle.flow_soundness.proofs.NewNames.{name_left, name_right}
 use Rattle.flow_soundness.proofs.Newness.{name_split}
 use Rattle.cwl_records.specs.Aliases.{Scene, Step, Walk, alias_of, decl_by, is_source, scatter_at, scatter_over, scatter_with, source_of, swapped_call, walk, walk_body, walk_step}
+use Rattle.wdl_base.proofs.Options.{then_parts}
 
 -- ---- lists of statements
 
@@ -95,8 +96,8 @@ module _ (scene : Scene) where
   body_given : (ks : List Giver) (seen given : Seen) (swaps : List Swap) → body_gives scene.lib (givers ks) seen ≡ Some given → (walk_body scene (givers ks) seen.names swaps).given ≡ given.names
   body_given [] seen given swaps h = let same : (let e : Seen = record { names = []; calls = [] } in e) ≡ given = cc in ap (λ (s : Seen). s.names) same
   body_given (k ∷ ks) seen given swaps h =
-      let p = some_inside (gives scene.lib k.0 seen) (λ first. option_and_then (λ rest. Some (joined first rest)) (body_gives scene.lib (givers ks) (joined seen first))) given h in
-      let q = some_inside (body_gives scene.lib (givers ks) (joined seen p.0)) (λ rest. Some (joined p.0 rest)) given p.2 in
+      let p = then_parts (λ first. option_and_then (λ rest. Some (joined first rest)) (body_gives scene.lib (givers ks) (joined seen first))) (gives scene.lib k.0 seen) given h in
+      let q = then_parts (λ rest. Some (joined p.0 rest)) (body_gives scene.lib (givers ks) (joined seen p.0)) given p.2 in
       let same : joined p.0 q.0 ≡ given = cc in
       let more : List Swap = swaps ++ (walk scene k.0 seen.names swaps).added in
       ap (λ (ns : List Bound). ns ++ (walk_body scene (givers ks) (seen.names ++ ns) more).given) (k.1 seen p.0 swaps p.1)
@@ -112,11 +113,11 @@ module _ (scene : Scene) where
       let p = when_some _ _ given h in
       decl_given (swapped_decl swaps d) (alias_of scene seen.names d.name (swapped swaps d.value)) ∙ ap (λ (s : Seen). s.names) p.1
   layer_given (layer.Call c) seen given swaps h =
-      let p = some_inside (signature scene.lib c.target) (call_by scene.lib.structs c seen) given h in
+      let p = then_parts (call_by scene.lib.structs c seen) (signature scene.lib c.target) given h in
       let q = when_some _ _ given p.2 in
       ap (outputs_bound c.name) p.1 ∙ ap (λ (s : Seen). s.names) q.1
   layer_given (layer.Scatter s) seen given swaps h =
-      let p = some_inside (in_body scene.lib.structs seen.names s.over) (λ t. typed_over s.item (body_step (map (gives scene.lib) (givers s.body))) seen (out-Ty t)) given h in
+      let p = then_parts (λ t. typed_over s.item (body_step (map (gives scene.lib) (givers s.body))) seen (out-Ty t)) (in_body scene.lib.structs seen.names s.over) given h in
       ap (λ (o : Option Ty). (scatter_over at_walk seen.names swaps o).given) p.1 ∙ by_type (out-Ty p.0) p.2
     where
       at_walk : TScatter Walk
@@ -124,18 +125,18 @@ module _ (scene : Scene) where
 
       by_type : (z : Ty-F Ty) → typed_over s.item (body_step (map (gives scene.lib) (givers s.body))) seen z ≡ Some given → (scatter_at at_walk seen.names swaps z).given ≡ given.names
       by_type (type.Array u some) h =
-          let q = some_inside (body_step (map (gives scene.lib) (givers s.body)) (with_item seen s.item u)) (λ g. Some (retyped (λ w. ty.Array w some) g)) given h in
+          let q = then_parts (λ g. Some (retyped (λ w. ty.Array w some) g)) (body_step (map (gives scene.lib) (givers s.body)) (with_item seen s.item u)) given h in
           let same : retyped (λ w. ty.Array w some) q.0 ≡ given = cc in
           ap (map (λ (b : Bound). record { key = b.key; ty = ty.Array b.ty some })) (body_given s.body (with_item seen s.item u) q.0 swaps q.1) ∙ ap (λ (s : Seen). s.names) same
       by_type z h = absurd (cc)
   layer_given (layer.If i) seen given swaps h =
-      let p = some_inside (in_body scene.lib.structs seen.names i.cond) (if_over (body_step (map (gives scene.lib) (givers i.body))) seen) given h in
+      let p = then_parts (if_over (body_step (map (gives scene.lib) (givers i.body))) seen) (in_body scene.lib.structs seen.names i.cond) given h in
       by_test (is_bool p.0) p.2
     where
       by_test : (b : Bool) → cond b (option_and_then (λ g. Some (retyped optional g)) (body_step (map (gives scene.lib) (givers i.body)) seen)) None ≡ Some given
           → map (λ (b : Bound). record { key = b.key; ty = optional b.ty }) (walk_body scene (givers i.body) seen.names swaps).given ≡ given.names
       by_test true h =
-          let q = some_inside (body_step (map (gives scene.lib) (givers i.body)) seen) (λ g. Some (retyped optional g)) given h in
+          let q = then_parts (λ g. Some (retyped optional g)) (body_step (map (gives scene.lib) (givers i.body)) seen) given h in
           let same : retyped optional q.0 ≡ given = cc in
           ap (map (λ (b : Bound). record { key = b.key; ty = optional b.ty })) (body_given i.body seen q.0 swaps q.1) ∙ ap (λ (s : Seen). s.names) same
       by_test false h = absurd (cc)

@@ -24,7 +24,6 @@ use Rattle.leaf_image.specs.Replaced.{are_checked, with_flows}
 use Rattle.flow_soundness.specs.Readiness.{IsLibrary}
 use Rattle.flow_soundness.proofs.FlowReady.{fit_are_given}
 use Rattle.flow_soundness.proofs.FlowSound.{is_typed}
-use Rattle.flow_soundness.proofs.Sound.{one_of_all}
 use Rattle.record_laws.proofs.Marks.{main_marked}
 use Rattle.record_laws.proofs.Whole.{values_same}
 use Rattle.cwl_records.specs.Aliases.{unaliased, walk_flow}
@@ -33,6 +32,7 @@ use Rattle.cwl_records.specs.Lowered.{unaliased_where, without_aliases}
 use Rattle.alias_laws.proofs.Flows.{SameFlow, Standing, all_depths, now_is}
 use Rattle.alias_laws.proofs.SameSteps.{Told}
 use Rattle.alias_laws.proofs.Within.{all_within}
+use Rattle.wdl_base.proofs.Options.{all_at}
 
 -- ---- inputs that fit keep the limits
 
@@ -85,7 +85,7 @@ module _ (lib : Library) (main : ℕ) (f : FlowDef) (given : List Bind) (site : 
   lowered : (flows : List FlowDef) → flows ≡ unaliased_where lib lib.flows (reached lib.flows main) → is_checked (with_flows lib flows) (Some main) ≡ true → Lowered flows
   lowered flows are again =
       let again_all = (kept (with_flows lib flows) (Some main) again).flows in
-      let typed = is_typed lib f (one_of_all (flow_typed lib) lib.flows main f kept_lib.flows there) in
+      let typed = is_typed lib f (all_at (flow_typed lib) lib.flows main f kept_lib.flows there) in
       let stands : Standing lib main flows are kept_lib again_all site table limits main f =
       record { there = there; round_ = 0; levels = 24; below = omega arith; marked = main_marked lib.flows main f there; nests = typed.nested } in
       let a : Flowing = whole (run_with lib site table) main given in

@@ -1,26 +1,19 @@
 -- Which values keep the limits of values: what expressions give, arguments, and the items of lists.
-use Rattle.std.proofs.Common.{◌≡◌, ℕ, nat_le, Bool, true, List, [], ◌∷◌, Some, None, Ok, Err, sym, ap, ◌∙◌, subst, refl}
+use Rattle.std.proofs.Common.{◌≡◌, true, List, [], ◌∷◌, Some, None, Ok, Err, subst, refl}
 use Rattle.std.specs.List.{list_all}
 use Rattle.std.proofs.lemmas.Bool.{and_from}
 use Rattle.wdl_value.specs.declared.env.Bind.{Bind}
-use Rattle.wdl_value.specs.declared.value.Value.{Value, fold-roll-Value}
-use Rattle.wdl_value.specs.declared.value.Value.TheOpen as value
+use Rattle.wdl_value.specs.declared.value.Value.{Value}
 use Rattle.wdl_value.specs.declared.value.Value.TheVariants as v
-use Rattle.wdl_value.specs.Limits.{is_short, is_within, short_step}
+use Rattle.wdl_value.specs.Limits.{is_within}
 use Rattle.wdl_value.specs.Outcome.{Outcome}
-use Rattle.wdl_value.specs.Size.{size, size_step}
 use Rattle.wdl_typed.specs.declared.expr.TExpr.{TExpr}
 use Rattle.wdl_typed.specs.declared.expr.TField.{TField}
 use Rattle.wdl_typed.specs.Evaluation.{Met, settled, value_met, value_of}
 use Rattle.wdl_typed.specs.Flow.{arg_bind, args_met, named_arg}
 use Rattle.wdl_typed.specs.Requests.{Tried, before, tried}
 use Rattle.wdl_eval.proofs.MemberLimits.{given_within}
-
-pub absent_within : is_within v.Absent ≡ true
-absent_within =
-    and_from (nat_le (size v.Absent) 4194304) (is_short v.Absent)
-    (ap (λ n. nat_le n 4194304) (ap size (sym v.rolls-Absent) ∙ fold-roll-Value ℕ size_step value.Absent))
-    (ap is_short (sym v.rolls-Absent) ∙ fold-roll-Value Bool short_step value.Absent)
+use Rattle.cwl_laws.proofs.Starts.{absent_within}
 
 settled_within : (r : Met Value) → ((y : Value) → r ≡ Ok y → is_within y ≡ true) → (x : Value) → settled r ≡ Ok x → is_within x ≡ true
 settled_within (Ok y) h x e = let same : y ≡ x = cc in subst (λ (z : Value). is_within z ≡ true) same (h y refl)

@@ -1,5 +1,5 @@
-//! The laws that a checked form keeps its flow where declarations that only give another name to a value go, and where the members of
-//! struct inputs stand in their places too.
+//! The laws that a checked form keeps its flow where declarations that only give another name to a
+//! value go, and where the members of struct inputs stand in their places too.
 #![tactic(auto)]
 
 mod laws;

@@ -1,5 +1,5 @@
 -- What the dedent rule keeps of a text, and where lines may be cut.
-use Rattle.std.proofs.Common.{◌≡◌, ◌∙◌, sym, ap, ap₂, subst, ℕ, zero, suc, ◌+◌, ◌-◌, ◌<◌, ◌≤◌, ◌==◌, ◌&&◌, Bool, true, false, true≢false, List, [], ◌∷◌, ◌++◌, length, map, reverse, take, drop, get_or, Bor, Some, None, ◌≢◌, refl, arith, add-one, append-nil, zero-add}
+use Rattle.std.proofs.Common.{◌≡◌, ◌∙◌, sym, ap, ap₂, subst, ℕ, zero, suc, ◌+◌, ◌-◌, ◌<◌, ◌≤◌, ◌==◌, Bool, true, false, true≢false, List, [], ◌∷◌, ◌++◌, length, map, reverse, take, drop, get_or, Bor, Some, None, ◌≢◌, refl, arith, add-one, append-nil, zero-add}
 use Rattle.std.specs.List.{All, join_with_byte, prefix_len, sum_by}
 use Rattle.std.specs.Str.{IsCharBoundary, IsUtf8}
 use Rattle.std.proofs.lemmas.Bool.Decides.{nat_tests}
@@ -10,6 +10,7 @@ use Rattle.std.proofs.lemmas.List.Splits.{join_with_byte-slice_split}
 use Rattle.std.proofs.lemmas.List.Sums.{prefix_len-le-length, prefix_len_passes, sum_by-append, sum_by-cons}
 use Rattle.std.proofs.lemmas.Str.{IsCharBoundary-after_ascii}
 use Rattle.std.proofs.lemmas.Str.Pattern.{IsSplitOnceResult, split_parts}
+use Rattle.std.proofs.lemmas.Bool.{and_parts}
 use Rattle.wdl_base.specs.Plain.{has_nul}
 use Rattle.wdl_base.specs.Templates.{common_indent, cut, dedented_lines, dedented_text, is_blank, is_blank_line, is_indent, lines, without_first, without_last, without_returns}
 use Rattle.command_text.specs.Marks.{Fits, led, zeros}
@@ -100,14 +101,10 @@ indent_zeros : (b : ℕ) (text : List ℕ) → (b == 0) ≡ false → zeros (b �
 indent_zeros zero text h = absurd (true≢false h)
 indent_zeros (suc b) text h = rest_zeros b text
 
-both : (a b : Bool) → a && b ≡ true → (a ≡ true) × (b ≡ true)
-both true b h = (refl, h)
-both false b h = absurd (true≢false (sym h))
-
 blank_zeros : (line : List ℕ) → is_blank_line line ≡ true → zeros line ≡ 0
 blank_zeros [] h = refl
 blank_zeros (b ∷ line) h =
-    let p = both (is_blank b) (is_blank_line line) h in
+    let p = and_parts (is_blank b) (is_blank_line line) h in
     let some : (b == 0) ≡ false = grind (arith, nat_tests, p.0) in
     indent_zeros b line some ∙ blank_zeros line p.1
 

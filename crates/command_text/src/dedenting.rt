@@ -32,13 +32,14 @@ fn dedented_text(alloc: Global, text: &str) -> Result<String, NoMemory>
 
 /// The template without the indent that its lines have in common.
 ///
-/// A carriage return directly before a newline goes, so that a text with the line ends of Windows comes to the same. The
-/// text is split at newlines; a hole counts as a character that is not blank, and blank characters are the blank,
-/// the tab and the carriage return. Where there are two lines or more, a blank first one goes, and where there are
-/// then two or more, a blank last one. The longest common prefix of blanks and tabs of the lines that are not blank
-/// is cut from them, and blank lines become empty. In the result neighbouring characters are one part, no part is
-/// empty, and the holes are those of the template, in their order. (OpenWDL 1.1, "Command Section", strips leading
-/// white space in the same way.)
+/// A carriage return directly before a newline goes, so that a text with the line ends of Windows
+/// comes to the same. The text is split at newlines; a hole counts as a character that is not
+/// blank, and blank characters are the blank, the tab and the carriage return. Where there are two
+/// lines or more, a blank first one goes, and where there are then two or more, a blank last one.
+/// The longest common prefix of blanks and tabs of the lines that are not blank is cut from them,
+/// and blank lines become empty. In the result neighbouring characters are one part, no part is
+/// empty, and the holes are those of the template, in their order. (OpenWDL 1.1, "Command Section",
+/// strips leading white space in the same way.)
 pub fn dedent(alloc: Global, template: &Template) -> Result<Template, NoMemory>
     ensures value { IfOk result (λ t. t ≡ spec.dedented template.now) }
     ensures holes { IfOk result (λ t. spec.holes t ≡ spec.holes template.now) }

@@ -1,4 +1,17 @@
-ghost use Rattle.std.specs.Prelude.{◌≡◌, ◌++◌, ◌<◌, ◌≤◌, ◌+◌, length, slice_index_or, [], IfOk, OnOk, OnErr, IsErrOf};
+ghost use Rattle.std.specs.Prelude.{
+  ◌≡◌,
+  ◌++◌,
+  ◌<◌,
+  ◌≤◌,
+  ◌+◌,
+  length,
+  slice_index_or,
+  [],
+  IfOk,
+  OnOk,
+  OnErr,
+  IsErrOf,
+};
 ghost use Rattle.wdl_base.specs.Templates.{joined, part_text, HasPiece, HasPieces};
 ghost use Rattle.command_text.specs.declared.error.FillFault.TheVariants.{TooLarge};
 
@@ -33,8 +46,8 @@ fn append(text: &mut Text, more: &Text) -> Result<(), FillFault>
     Ok(())
 }
 
-/// The template with a piece in the place of each hole, the piece k for the hole k. `TooLarge` comes exactly where
-/// this text has more than 65,536 bytes, and nothing larger is built.
+/// The template with a piece in the place of each hole, the piece k for the hole k. `TooLarge`
+/// comes exactly where this text has more than 65,536 bytes, and nothing larger is built.
 pub fn fill(alloc: Global, template: &Template, pieces: &[Text]) -> Result<Text, FillFault>
     requires { HasPieces (length pieces.now) template.now }
     ensures value { IfOk result (λ text. text ≡ joined template.now pieces.now) }

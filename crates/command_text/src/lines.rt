@@ -1,4 +1,14 @@
-ghost use Rattle.std.specs.Prelude.{◌≡◌, ◌≤◌, ◌++◌, length, map, string_bytes, if◌then◌else◌, IfOk, OnOk};
+ghost use Rattle.std.specs.Prelude.{
+  ◌≡◌,
+  ◌≤◌,
+  ◌++◌,
+  length,
+  map,
+  string_bytes,
+  if◌then◌else◌,
+  IfOk,
+  OnOk,
+};
 ghost use Rattle.std.specs.List.{All, filter, fold, join_with_byte};
 ghost use Rattle.wdl_base.specs.Templates as spec;
 ghost use Rattle.command_text.specs.Marks.{Fits, led};

@@ -1,4 +1,15 @@
-ghost use Rattle.std.specs.Prelude.{◌≡◌, ◌++◌, ◌∷◌, ◌≤◌, [], false, length, string_bytes, IfOk, OnOk};
+ghost use Rattle.std.specs.Prelude.{
+  ◌≡◌,
+  ◌++◌,
+  ◌∷◌,
+  ◌≤◌,
+  [],
+  false,
+  length,
+  string_bytes,
+  IfOk,
+  OnOk,
+};
 ghost use Rattle.wdl_base.specs.Plain.{has_nul};
 ghost use Rattle.wdl_base.specs.Templates as spec;
 ghost use Rattle.wdl_base.specs.declared.template.Part.TheVariants.{Hole};
@@ -7,7 +18,8 @@ ghost use Rattle.command_text.specs.Marks.{text_parts, zeros};
 use std::alloc::Global;
 use wdl_value::{Items, NoMemory, Part, Template, Text};
 
-/// A template as one text, in which NUL, which no text holds, stands for each hole, beside the numbers of the holes.
+/// A template as one text, in which NUL, which no text holds, stands for each hole, beside the
+/// numbers of the holes.
 #[derive(Drop)]
 pub struct Marked {
     pub text: String,
@@ -33,7 +45,8 @@ impl Marked {
         Ok(())
     }
 
-    /// The text that the parts join to: literals as written, each placeholder's text marked as such.
+    /// The text that the parts join to: literals as written, each placeholder's text marked as
+    /// such.
     pub fn new(alloc: Global, parts: &[Part]) -> Result<Marked, NoMemory>
         ensures text { IfOk result (λ m. string_bytes m.text ≡ spec.marked parts.now) }
         ensures holes { IfOk result (λ m. m.holes.items ≡ spec.holes parts.now) }
@@ -74,8 +87,8 @@ fn push_text(alloc: Global, parts: &mut Template, text: &str) -> Result<(), NoMe
     Ok(())
 }
 
-/// The template of a marked text and the numbers of its holes: neighbouring characters are joined, and none are
-/// empty.
+/// The template of a marked text and the numbers of its holes: neighbouring characters are joined,
+/// and none are empty.
 pub fn template_of(alloc: Global, text: &str, holes: &[u32]) -> Result<Template, NoMemory>
     requires { zeros text.now ≡ length holes.now }
     ensures { IfOk result (λ t. t ≡ spec.template_of text.now holes.now) }

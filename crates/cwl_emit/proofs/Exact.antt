@@ -1,10 +1,8 @@
 -- What is written has no float: processes and input objects.
-use Rattle.std.proofs.Common.{◌≡◌, ℕ, ℤ, pos, negsuc, Bool, true, false, ◌||◌, List, [], ◌∷◌, map, codes, Option, Some, None, Ordering, Less, Equal, Greater, nat_cmp, refl, ap, ◌∙◌, subst}
-use Rattle.std.proofs.lemmas.Bool.{or_parts, true≢false}
-use Rattle.std.specs.Cmp.Lexicographic.{slice_cmp}
+use Rattle.std.proofs.Common.{◌≡◌, ℕ, Bool, true, false, ◌||◌, List, [], ◌∷◌, map, codes, Option, Some, None, Ordering, Less, Equal, Greater, refl, ap, ◌∙◌, subst}
+use Rattle.std.proofs.lemmas.Bool.{or_parts, or_from}
 use Rattle.std.specs.Ordering.{match_ordering}
 use Rattle.serde_json.specs.Data.{Data, string, array, Members, no_members, member, put}
-use Rattle.serde_json.specs.Find.{of_integer, is_float}
 use Rattle.serde_json.specs.View.{items_of}
 use Rattle.serde_json.specs.Written.{has_float, items_have_float, members_have_float}
 use Rattle.wdl_value.specs.declared.env.Bind.{Bind}
@@ -12,7 +10,7 @@ use Rattle.wdl_value.specs.declared.value.Field.{Field}
 use Rattle.wdl_value.specs.declared.value.Value.{Value, Value-F, ind-Value, roll-Value, map-Value, fold-roll-Value}
 use Rattle.wdl_value.specs.declared.value.Value.TheOpen as value
 use Rattle.wdl_value.proofs.ValueLayers.{Known, plain, firsts, first_fields}
-use Rattle.wdl_json.proofs.Texts.{value_exact}
+use Rattle.wdl_json.proofs.Texts.{value_exact, put_float as put_exact, integer_exact}
 use Rattle.json_values.specs.Writing.{json_of}
 use Rattle.cwl_model.specs.declared.process.CwlStep.{CwlStep}
 use Rattle.cwl_model.specs.declared.process.FlowOut.{FlowOut}
@@ -31,13 +29,9 @@ use Rattle.cwl_model.specs.declared.ty.CwlTy.TheOpen as type
 use Rattle.cwl_emit.specs.Objects.{object_step, value_object, fields_put, with_given, object_json}
 use Rattle.cwl_emit.specs.Writing.{list, type_step, type_json, with_default, input_json, origin_members, tool_out_json, code_json, code_members, with_version, tool_json, flow_out_json, wire_json, mode_members, flow_json, step_written, process_step, process_json, with_json}
 
-pub either : (a b : Bool) → a ≡ false → b ≡ false → a || b ≡ false
-either true b h k = absurd (true≢false h)
-either false b h k = k
-
 pub all_exact : {A : Type 0} (f : A → Data) → ((x : A) → has_float (f x) ≡ false) → (xs : List A) → items_have_float (items_of (map f xs)) ≡ false
 all_exact f each [] = refl
-all_exact f each (x ∷ xs) = either (has_float (f x)) (items_have_float (items_of (map f xs))) (each x) (all_exact f each xs)
+all_exact f each (x ∷ xs) = or_from (has_float (f x)) (items_have_float (items_of (map f xs))) (each x) (all_exact f each xs)
 
 -- ---- types and inputs
 
@@ -52,8 +46,8 @@ type_layer type.Bool = refl
 type_layer type.Long = refl
 type_layer type.Str = refl
 type_layer type.File = refl
-type_layer (type.List k) = either (has_float (type_json k.0)) false k.1 refl
-type_layer (type.Null k) = either (has_float (type_json k.0)) false k.1 refl
+type_layer (type.List k) = or_from (has_float (type_json k.0)) false k.1 refl
+type_layer (type.Null k) = or_from (has_float (type_json k.0)) false k.1 refl
 
 pub type_exact : (t : CwlTy) → TypeExact t
 type_exact = ind-CwlTy TypeExact (λ l y is. subst (λ (z : CwlTy-F CwlTy). TypeExact (roll-CwlTy z)) is (ap has_float (fold-roll-CwlTy Data type_step (plain_type y)) ∙ type_layer y))
@@ -62,11 +56,11 @@ pub input_exact : (i : CwlIn) → has_float (input_json i) ≡ false
 input_exact i = by_preset i.preset
   where
     typed : has_float (type_json i.ty) || false ≡ false
-    typed = either (has_float (type_json i.ty)) false (type_exact i.ty) refl
+    typed = or_from (has_float (type_json i.ty)) false (type_exact i.ty) refl
 
     by_preset : (o : Option Value) → members_have_float (with_default o (member (codes "id") (string i.id) (member (codes "type") (type_json i.ty) no_members))) ≡ false
     by_preset None = typed
-    by_preset (Some x) = either (has_float (json_of x)) (has_float (type_json i.ty) || false) (value_exact x) typed
+    by_preset (Some x) = or_from (has_float (json_of x)) (has_float (type_json i.ty) || false) (value_exact x) typed
 
 -- ---- tools
 
@@ -79,7 +73,7 @@ tool_out_exact o = by_origin o.origin
 
 codes_exact : (ns : Option (List ℕ)) → members_have_float (code_members ns) ≡ false
 codes_exact None = refl
-codes_exact (Some ns) = either (items_have_float (items_of (map code_json ns))) false (all_exact code_json (λ n. refl) ns) refl
+codes_exact (Some ns) = or_from (items_have_float (items_of (map code_json ns))) false (all_exact code_json (λ n. refl) ns) refl
 
 version_exact : (outermost : Bool) (ms : Members) → members_have_float ms ≡ false → members_have_float (with_version outermost ms) ≡ false
 version_exact true ms h = h
@@ -89,13 +83,13 @@ tool_exact : (outermost : Bool) (t : Tool) → has_float (tool_json outermost t)
 tool_exact outermost t =
     version_exact outermost
     (member (codes "inputs") (list input_json t.inputs) (member (codes "outputs") (list tool_out_json t.outputs) (member (codes "stdout") (string (codes "_stdout")) (code_members t.codes))))
-    (either (items_have_float (items_of (map input_json t.inputs))) _ (all_exact input_json input_exact t.inputs)
-    (either (items_have_float (items_of (map tool_out_json t.outputs))) _ (all_exact tool_out_json tool_out_exact t.outputs) (codes_exact t.codes)))
+    (or_from (items_have_float (items_of (map input_json t.inputs))) _ (all_exact input_json input_exact t.inputs)
+    (or_from (items_have_float (items_of (map tool_out_json t.outputs))) _ (all_exact tool_out_json tool_out_exact t.outputs) (codes_exact t.codes)))
 
 -- ---- workflows
 
 pub flow_out_exact : (o : FlowOut) → has_float (flow_out_json o) ≡ false
-flow_out_exact o = either (has_float (type_json o.ty)) false (type_exact o.ty) refl
+flow_out_exact o = or_from (has_float (type_json o.ty)) false (type_exact o.ty) refl
 
 mode_exact : (m : Mode) → members_have_float (mode_members m) ≡ false
 mode_exact mode.Plain = refl
@@ -116,22 +110,22 @@ first_step s = record { id = s.id; wires = s.wires; outs = s.outs; run = s.run.0
 
 step_exact : (s : CwlStep Child) → has_float (step_written (with_json (first_step s))) ≡ false
 step_exact s =
-    either (items_have_float (items_of (map wire_json s.wires))) _ (all_exact wire_json (λ (w : Wire). refl) s.wires)
-    (either (items_have_float (items_of (map string s.outs))) _ (all_exact string (λ t. refl) s.outs)
-    (either (has_float (process_json s.run.0 false)) _ (s.run.1 false) (mode_exact s.mode)))
+    or_from (items_have_float (items_of (map wire_json s.wires))) _ (all_exact wire_json (λ (w : Wire). refl) s.wires)
+    (or_from (items_have_float (items_of (map string s.outs))) _ (all_exact string (λ t. refl) s.outs)
+    (or_from (has_float (process_json s.run.0 false)) _ (s.run.1 false) (mode_exact s.mode)))
 
 steps_exact : (ss : List (CwlStep Child)) → items_have_float (items_of (map step_written (map with_json (map first_step ss)))) ≡ false
 steps_exact [] = refl
 steps_exact (s ∷ ss) =
-    either (has_float (step_written (with_json (first_step s)))) (items_have_float (items_of (map step_written (map with_json (map first_step ss))))) (step_exact s) (steps_exact ss)
+    or_from (has_float (step_written (with_json (first_step s)))) (items_have_float (items_of (map step_written (map with_json (map first_step ss))))) (step_exact s) (steps_exact ss)
 
 flow_exact : (outermost : Bool) (ins : List CwlIn) (outs : List FlowOut) (steps : Data) → has_float steps ≡ false → has_float (flow_json outermost ins outs steps) ≡ false
 flow_exact outermost ins outs steps h = by_version outermost
   where
     rest : items_have_float (items_of (map input_json ins)) || (items_have_float (items_of (map flow_out_json outs)) || (has_float steps || false)) ≡ false
     rest =
-        either (items_have_float (items_of (map input_json ins))) _ (all_exact input_json input_exact ins)
-        (either (items_have_float (items_of (map flow_out_json outs))) _ (all_exact flow_out_json flow_out_exact outs) (either (has_float steps) false h refl))
+        or_from (items_have_float (items_of (map input_json ins))) _ (all_exact input_json input_exact ins)
+        (or_from (items_have_float (items_of (map flow_out_json outs))) _ (all_exact flow_out_json flow_out_exact outs) (or_from (has_float steps) false h refl))
 
     by_version : (b : Bool) → has_float (flow_json b ins outs steps) ≡ false
     by_version true = rest
@@ -150,29 +144,21 @@ process_exact = ind-Process Exact (λ l y is. subst (λ (z : Process-F Process).
 
 put_at : (o : Ordering) (k l : List ℕ) (d e : Data) (ms : Members) → has_float d ≡ false → has_float e || members_have_float ms ≡ false → members_have_float (put k d ms) ≡ false
     → members_have_float (match_ordering o (member k d (member l e ms)) (member l d ms) (member l e (put k d ms))) ≡ false
-put_at Less k l d e ms h i more = either (has_float d) (has_float e || members_have_float ms) h i
-put_at Equal k l d e ms h i more = either (has_float d) (members_have_float ms) h (or_parts (has_float e) (members_have_float ms) i).1
-put_at Greater k l d e ms h i more = either (has_float e) (members_have_float (put k d ms)) (or_parts (has_float e) (members_have_float ms) i).0 more
-
-put_exact : (k : List ℕ) (d : Data) (ms : Members) → has_float d ≡ false → members_have_float ms ≡ false → members_have_float (put k d ms) ≡ false
-put_exact k d no_members h i = either (has_float d) false h refl
-put_exact k d (member l e ms) h i = put_at (slice_cmp nat_cmp k l) k l d e ms h i (put_exact k d ms h (or_parts (has_float e) (members_have_float ms) i).1)
+put_at Less k l d e ms h i more = or_from (has_float d) (has_float e || members_have_float ms) h i
+put_at Equal k l d e ms h i more = or_from (has_float d) (members_have_float ms) h (or_parts (has_float e) (members_have_float ms) i).1
+put_at Greater k l d e ms h i more = or_from (has_float e) (members_have_float (put k d ms)) (or_parts (has_float e) (members_have_float ms) i).0 more
 
 abbrev IsObject : Value → Type 0
 IsObject x = has_float (value_object x) ≡ false
 
 values_exact : (ks : List (Known IsObject)) → items_have_float (items_of (map value_object (firsts IsObject ks))) ≡ false
 values_exact [] = refl
-values_exact (k ∷ ks) = either (has_float (value_object k.0)) (items_have_float (items_of (map value_object (firsts IsObject ks)))) k.1 (values_exact ks)
+values_exact (k ∷ ks) = or_from (has_float (value_object k.0)) (items_have_float (items_of (map value_object (firsts IsObject ks)))) k.1 (values_exact ks)
 
 fields_exact : (ks : List (Field (Known IsObject))) (ms : Members) → members_have_float ms ≡ false
     → members_have_float (fields_put (map (λ (f : Field Value). record { name = f.name; value = value_object f.value }) (first_fields IsObject ks)) ms) ≡ false
 fields_exact [] ms h = h
 fields_exact (k ∷ ks) ms h = fields_exact ks (put k.name (value_object k.value.0) ms) (put_exact k.name (value_object k.value.0) ms k.value.1 h)
-
-integer_exact : (n : ℤ) → is_float (of_integer n) ≡ false
-integer_exact (pos n) = refl
-integer_exact (negsuc n) = refl
 
 value_layer : (y : Value-F (Known IsObject)) → has_float (object_step (map-Value Value Data value_object (plain IsObject y))) ≡ false
 value_layer (value.Bool b) = refl

@@ -1,6 +1,7 @@
 -- Workflows and processes.
 use Rattle.std.proofs.Common.{◌≡◌, ℕ, Bool, true, false, cond, ◌==◌, ◌&&◌, List, [], ◌∷◌, ◌++◌, map, codes, Option, Some, None, option_map, Result, Ok, Err, IfOk, refl, sym, ap, ◌∙◌, subst}
 use Rattle.std.proofs.lemmas.Bool.{false≢true, and_parts, eqb-true}
+use Rattle.std.proofs.lemmas.Option.{same_Some}
 use Rattle.serde_json.specs.Data.{Data, null, boolean, number, string, array, object, Items, no_items, item, Members, no_members, member}
 use Rattle.serde_json.specs.View.{items_of, view}
 use Rattle.serde_json.specs.declared.value.Value as json
@@ -19,9 +20,10 @@ use Rattle.cwl_model.specs.declared.tool.Tool.{Tool}
 use Rattle.cwl_emit.specs.Reading.{text_of, is_text, list_of, has_names, is_member, member_of, with2, with3, type_of, input_of, is_version, cut_at, link_by, link_of, flow_out, flow_out_of, wire, wire_of, step_names, mode_in, step, step_in, is_class, are_requirements, flow_names, flow, is_flow, flow_in, tool_in, tool_or_flow, cwl_of, member_steps, steps_of, all_steps, step_of, member_run}
 use Rattle.cwl_emit.specs.Laws.{HasJson}
 use Rattle.cwl_emit.specs.Writing.{list, type_json, input_json, tool_json, link_text, link_json, flow_out_json, wire_json, mode_members, step_json, class_json, requirements_json, flow_json, step_written, process_step, process_json, with_json, steps_json}
-use Rattle.cwl_emit.proofs.Parts.{mapped, chained, chosen, inside, of_two, of_three, of_five, Is, ItemsAre, MembersAre, no_item, item_is, array_is, no_member, member_is, object_is, text_is, word_is, list_is, names_ordered, shape_of, shape_is}
+use Rattle.cwl_emit.proofs.Parts.{of_two, of_three, of_five, Is, ItemsAre, MembersAre, no_item, item_is, array_is, no_member, member_is, object_is, text_is, word_is, list_is, names_ordered, shape_of, shape_is}
 use Rattle.cwl_emit.proofs.Values.{type_is, input_is, Found, first_named, found_at, found_is}
 use Rattle.cwl_emit.proofs.Tools.{tool_is}
+use Rattle.wdl_base.proofs.Options.{map_parts, then_parts, chosen_parts}
 
 -- ---- sources
 
@@ -30,9 +32,9 @@ cut_is c [] p h = cc
 cut_is c (d ∷ ds) p h = by_test (d == c) refl h (cut_is c ds)
   where
     by_test : (b : Bool) → (d == c) ≡ b → cond b (Some ([], ds)) (option_map (λ (q : List ℕ × List ℕ). (d ∷ q.0, q.1)) (cut_at c ds)) ≡ Some p → ((q : List ℕ × List ℕ) → cut_at c ds ≡ Some q → ds ≡ q.0 ++ c ∷ q.1) → d ∷ ds ≡ p.0 ++ c ∷ p.1
-    by_test true e k more = subst (λ (q : List ℕ × List ℕ). d ∷ ds ≡ q.0 ++ c ∷ q.1) (inside ([], ds) p k) (ap (λ x. x ∷ ds) (eqb-true d c e))
+    by_test true e k more = subst (λ (q : List ℕ × List ℕ). d ∷ ds ≡ q.0 ++ c ∷ q.1) (same_Some ([], ds) p k) (ap (λ x. x ∷ ds) (eqb-true d c e))
     by_test false e k more =
-        let m = mapped (λ (q : List ℕ × List ℕ). (d ∷ q.0, q.1)) (cut_at c ds) p k in
+        let m = map_parts (λ (q : List ℕ × List ℕ). (d ∷ q.0, q.1)) (cut_at c ds) p k in
         subst (λ (q : List ℕ × List ℕ). d ∷ ds ≡ q.0 ++ c ∷ q.1) m.2 (ap (λ x. d ∷ x) (more m.0 m.1))
 
 link_text_is : (s : List ℕ) → link_text (link_by s (cut_at 47 s)) ≡ s
@@ -44,7 +46,7 @@ link_text_is s = by_cut (cut_at 47 s) refl
 
 link_is : (d : Data) (l : Link) → link_of d ≡ Some l → Is d (link_json l)
 link_is d l h =
-    let m = mapped (λ s. link_by s (cut_at 47 s)) (text_of d) l h in
+    let m = map_parts (λ s. link_by s (cut_at 47 s)) (text_of d) l h in
     subst (λ x. Is d (link_json x)) m.2 (subst (λ s. Is d (string s)) (sym (link_text_is m.0)) (text_is d m.0 m.1))
 
 -- ---- outputs and wires
@@ -57,7 +59,7 @@ reads_out ms = with3 flow_out (member_of (codes "id") text_of ms) (member_of (co
 
 pub flow_out_is : (d : Data) (o : FlowOut) → flow_out_of d ≡ Some o → Is d (flow_out_json o)
 flow_out_is (object ms) o h =
-    let c = chosen (has_names out_names ms) (reads_out ms) o h in
+    let c = chosen_parts (has_names out_names ms) (reads_out ms) o h in
     let s = shape_of out_names ms c.0 in
     let is : ms ≡ member (codes "id") s.0 (member (codes "outputSource") s.3.0 (member (codes "type") s.3.3.0 no_members)) = shape_is out_names ms s in
     let r = of_three flow_out (text_of s.0) (link_of s.3.0) (type_of s.3.3.0) o (sym (ap reads_out is) ∙ c.1) in
@@ -78,7 +80,7 @@ reads_wire ms = with2 wire (member_of (codes "id") text_of ms) (member_of (codes
 
 wire_is : (d : Data) (w : Wire) → wire_of d ≡ Some w → Is d (wire_json w)
 wire_is (object ms) w h =
-    let c = chosen (has_names wire_names ms) (reads_wire ms) w h in
+    let c = chosen_parts (has_names wire_names ms) (reads_wire ms) w h in
     let s = shape_of wire_names ms c.0 in
     let is : ms ≡ member (codes "id") s.0 (member (codes "source") s.3.0 no_members) = shape_is wire_names ms s in
     let r = of_two wire (text_of s.0) (link_of s.3.0) w (sym (ap reads_wire is) ∙ c.1) in
@@ -158,11 +160,11 @@ step_by_mode ms id wires outs run m read h = by_names (has_names (step_names [])
   where
     by_names : (a b c : Bool) → has_names (step_names []) ms ≡ a → has_names (step_names by_scatter) ms ≡ b → is_conditional ms ≡ c
         → cond a (Some mode.Plain) (cond b (scattered ms) (cond c (Some mode.When) None)) ≡ Some m → Is (object ms) (step_json (step id wires outs run m) (process_json run false))
-    by_names true b c e f g k = subst (λ x. Is (object ms) (step_json (step id wires outs run x) (process_json run false))) (inside mode.Plain m k) (plain_step ms id wires outs run read e)
+    by_names true b c e f g k = subst (λ x. Is (object ms) (step_json (step id wires outs run x) (process_json run false))) (same_Some mode.Plain m k) (plain_step ms id wires outs run read e)
     by_names false true c e f g k =
-        let p = mapped mode.Scatter (member_of (codes "scatter") text_of ms) m k in
+        let p = map_parts mode.Scatter (member_of (codes "scatter") text_of ms) m k in
         subst (λ x. Is (object ms) (step_json (step id wires outs run x) (process_json run false))) p.2 (scatter_step ms id wires outs run p.0 read f p.1)
-    by_names false false true e f g k = subst (λ x. Is (object ms) (step_json (step id wires outs run x) (process_json run false))) (inside mode.When m k) (when_step ms id wires outs run read g)
+    by_names false false true e f g k = subst (λ x. Is (object ms) (step_json (step id wires outs run x) (process_json run false))) (same_Some mode.When m k) (when_step ms id wires outs run read g)
     by_names false false false e f g k = cc
 
 step_members_are : (ms : Members) (s : CwlStep Process) → step_in ms (member_run ms) ≡ Some s → ((p : Process) → member_run ms ≡ Some p → Found (codes "run") ms (process_json p false))
@@ -252,7 +254,7 @@ flow_members_are true ms inputs outputs steps k read =
 flow_is : (outermost : Bool) (ms : Members) (f : CwlFlow Process) → flow_in outermost ms (member_steps ms) ≡ Some f → ((ss : List (CwlStep Process)) → member_steps ms ≡ Some ss → Found (codes "steps") ms (steps_json ss))
     → Is (object ms) (flow_json outermost f.inputs f.outputs (steps_json f.steps))
 flow_is outermost ms f h inner =
-    let c = chosen (is_flow outermost ms) (with3 flow (member_of (codes "inputs") (list_of input_of) ms) (member_of (codes "outputs") (list_of flow_out_of) ms) (member_steps ms)) f h in
+    let c = chosen_parts (is_flow outermost ms) (with3 flow (member_of (codes "inputs") (list_of input_of) ms) (member_of (codes "outputs") (list_of flow_out_of) ms) (member_steps ms)) f h in
     let names = has_names (flow_names outermost) ms in
     let version = is_version outermost ms in
     let class = is_member (codes "class") (is_text (codes "Workflow")) ms in
@@ -279,9 +281,9 @@ by_kind : (outermost : Bool) (ms : Members) (p : Process) (t : Option Tool) (f :
     → ((ss : List (CwlStep Process)) → member_steps ms ≡ Some ss → Found (codes "steps") ms (steps_json ss)) → Is (object ms) (process_json p outermost)
 by_kind outermost ms p None None e g h inner = cc
 by_kind outermost ms p None (Some f) e g h inner =
-    subst (λ x. Is (object ms) (process_json x outermost)) (inside (process.Flow f) p h) (subst (Is (object ms)) (sym (flow_process f outermost)) (flow_is outermost ms f g inner))
+    subst (λ x. Is (object ms) (process_json x outermost)) (same_Some (process.Flow f) p h) (subst (Is (object ms)) (sym (flow_process f outermost)) (flow_is outermost ms f g inner))
 by_kind outermost ms p (Some t) f e g h inner =
-    subst (λ x. Is (object ms) (process_json x outermost)) (inside (process.Tool t) p h) (subst (Is (object ms)) (sym (tool_process t outermost)) (tool_is outermost ms t e))
+    subst (λ x. Is (object ms) (process_json x outermost)) (same_Some (process.Tool t) p h) (subst (Is (object ms)) (sym (tool_process t outermost)) (tool_is outermost ms t e))
 
 mutual
   -- what stands for a process is what is written for it
@@ -306,10 +308,10 @@ mutual
   steps_are (object ms) ss h = cc
 
   all_steps_are : (ds : Items) (ss : List (CwlStep Process)) → all_steps ds ≡ Some ss → ItemsAre ds (items_of (map step_written (map with_json ss)))
-  all_steps_are no_items ss h = subst (λ xs. ItemsAre no_items (items_of (map step_written (map with_json xs)))) (inside [] ss h) no_item
+  all_steps_are no_items ss h = subst (λ xs. ItemsAre no_items (items_of (map step_written (map with_json xs)))) (same_Some [] ss h) no_item
   all_steps_are (item d ds) ss h =
-      let p = chained (λ s. option_map (λ ts. s ∷ ts) (all_steps ds)) (step_of d) ss h in
-      let q = mapped (λ ts. p.0 ∷ ts) (all_steps ds) ss p.2 in
+      let p = then_parts (λ s. option_map (λ ts. s ∷ ts) (all_steps ds)) (step_of d) ss h in
+      let q = map_parts (λ ts. p.0 ∷ ts) (all_steps ds) ss p.2 in
       subst (λ xs. ItemsAre (item d ds) (items_of (map step_written (map with_json xs)))) q.2 (item_is d (step_written (with_json p.0)) ds (items_of (map step_written (map with_json q.0))) (step_is d p.0 p.1) (all_steps_are ds q.0 q.1))
 
   step_is : (d : Data) (s : CwlStep Process) → step_of d ≡ Some s → Is d (step_json s (process_json s.run false))

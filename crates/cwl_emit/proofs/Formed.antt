@@ -1,6 +1,6 @@
 -- What is written for a process that is formed stands for it.
 use Rattle.std.proofs.Common.{◌≡◌, ℕ, ℤ, pos, negsuc, Bool, true, false, not, cond, ◌==◌, ◌&&◌, ◌||◌, List, [], ◌∷◌, ◌++◌, map, Option, Some, None, option_map, option_and_then, refl, sym, ap, ◌∙◌, subst}
-use Rattle.std.proofs.lemmas.Bool.{false≢true, and_parts, or_parts}
+use Rattle.std.proofs.lemmas.Bool.{false≢true, and_parts, or_parts, not-true}
 use Rattle.std.specs.List.{list_all}
 use Rattle.std.specs.Option.{is_some}
 use Rattle.serde_json.specs.Data.{Data, string, array, object, Items, Members, no_members}
@@ -39,16 +39,12 @@ use Rattle.cwl_emit.specs.Reading.{text_of, all_of, list_of, with2, with3, with4
 use Rattle.cwl_emit.specs.Writing.{list, type_step, type_json, input_json, tool_out_json, code_json, argument_json, tool_json, link_json, flow_out_json, wire_json, step_json, flow_json, process_step, process_json}
 use Rattle.cwl_emit.specs.Formed.{FormedProcessesStand, is_plain, lacks, value_formed_at, value_formed, preset_formed, input_formed, origin_formed, tool_out_formed, is_byte, codes_formed, tool_formed, link_formed, flow_out_formed, wire_formed, mode_formed, step_formed, process_formed_at, is_formed}
 
-negated : (b : Bool) → not b ≡ true → b ≡ false
-negated true h = absurd (false≢true h)
-negated false h = refl
-
 -- ---- parts that are found
 
-two_are : {A B R : Type 0} (f : A → B → R) (a : Option A) (b : Option B) (x : A) (y : B) → a ≡ Some x → b ≡ Some y → with2 f a b ≡ Some (f x y)
+pub two_are : {A B R : Type 0} (f : A → B → R) (a : Option A) (b : Option B) (x : A) (y : B) → a ≡ Some x → b ≡ Some y → with2 f a b ≡ Some (f x y)
 two_are f a b x y d e = ap (λ o. with2 f o b) d ∙ ap (option_map (f x)) e
 
-three_are : {A B C R : Type 0} (f : A → B → C → R) (a : Option A) (b : Option B) (c : Option C) (x : A) (y : B) (z : C) → a ≡ Some x → b ≡ Some y → c ≡ Some z → with3 f a b c ≡ Some (f x y z)
+pub three_are : {A B C R : Type 0} (f : A → B → C → R) (a : Option A) (b : Option B) (c : Option C) (x : A) (y : B) (z : C) → a ≡ Some x → b ≡ Some y → c ≡ Some z → with3 f a b c ≡ Some (f x y z)
 three_are f a b c x y z d e g = ap (λ o. with3 f o b c) d ∙ two_are (f x) b c y z e g
 
 four_are : {A B C D R : Type 0} (f : A → B → C → D → R) (a : Option A) (b : Option B) (c : Option C) (d : Option D) (x : A) (y : B) (z : C) (w : D) → a ≡ Some x → b ≡ Some y → c ≡ Some z → d ≡ Some w → with4 f a b c d ≡ Some (f x y z w)
@@ -58,14 +54,14 @@ five_are : {A B C D E R : Type 0} (f : A → B → C → D → E → R) (a : Opt
     → a ≡ Some x → b ≡ Some y → c ≡ Some z → d ≡ Some w → e ≡ Some u → with5 f a b c d e ≡ Some (f x y z w u)
 five_are f a b c d e x y z w u g h i j k = ap (λ o. with5 f o b c d e) g ∙ four_are (f x) b c d e y z w u h i j k
 
-all_back : {A : Type 0} (f : Data → Option A) (w : A → Data) (test : A → Bool) → ((x : A) → test x ≡ true → f (w x) ≡ Some x) → (xs : List A) → list_all test xs ≡ true → list_of f (list w xs) ≡ Some xs
+pub all_back : {A : Type 0} (f : Data → Option A) (w : A → Data) (test : A → Bool) → ((x : A) → test x ≡ true → f (w x) ≡ Some x) → (xs : List A) → list_all test xs ≡ true → list_of f (list w xs) ≡ Some xs
 all_back f w test each [] h = refl
 all_back f w test each (x ∷ xs) h =
     let p = and_parts (test x) (list_all test xs) h in
     ap (option_and_then (λ y. option_map (λ ys. y ∷ ys) (all_of f (items_of (map w xs))))) (each x p.0) ∙ ap (option_map (λ ys. x ∷ ys)) (all_back f w test each xs p.1)
 
-text_back : (s : List ℕ) → is_plain s ≡ true → text_of (string s) ≡ Some s
-text_back s h = ap (λ b. cond b None (Some s)) (negated (has_nul s) h)
+pub text_back : (s : List ℕ) → is_plain s ≡ true → text_of (string s) ≡ Some s
+text_back s h = ap (λ b. cond b None (Some s)) (not-true (has_nul s) h)
 
 -- ---- types
 
@@ -94,7 +90,7 @@ type_back = ind-CwlTy TypeBack (λ l y is. subst (λ (z : CwlTy-F CwlTy). TypeBa
 abbrev ValueBack : Value → Type 0
 ValueBack x = value_formed x ≡ true → value_of (json_of x) ≡ Some x
 
-int_back : (n : ℤ) → is_int n ≡ true → number_of (of_integer n) ≡ Some (v.Int n)
+pub int_back : (n : ℤ) → is_int n ≡ true → number_of (of_integer n) ≡ Some (v.Int n)
 int_back (pos n) h = ap (λ b. cond b (Some (v.Int (pos n))) None) h
 int_back (negsuc n) h = ap (λ b. cond b (Some (v.Int (negsuc n))) None) h
 
@@ -109,7 +105,7 @@ value_layer : (y : Value-F (Known ValueBack)) → value_formed_at (map-Value Val
 value_layer value.Absent h = ap Some (sym v.rolls-Absent)
 value_layer (value.Bool b) h = ap Some (sym (v.rolls-Bool b))
 value_layer (value.Int n) h = int_back n h ∙ ap Some (sym (v.rolls-Int n))
-value_layer (value.Str s) h = ap (λ b. option_map v.Str (cond b None (Some s))) (negated (has_nul s) h) ∙ ap Some (sym (v.rolls-Str s))
+value_layer (value.Str s) h = ap (λ b. option_map v.Str (cond b None (Some s))) (not-true (has_nul s) h) ∙ ap Some (sym (v.rolls-Str s))
 value_layer (value.List ks) h = ap (option_map v.List) (values_back ks h) ∙ ap Some (sym (v.rolls-List (firsts ValueBack ks)))
 value_layer y h = absurd (false≢true h)
 
@@ -125,7 +121,7 @@ input_parts_back id t None h k = three_are cwl_in (text_of (string id)) (type_of
 input_parts_back id t (Some x) h k =
     three_are cwl_in (text_of (string id)) (type_of (type_json t)) (option_map Some (value_of (json_of x))) id t (Some x) (text_back id h) (type_back t) (ap (option_map Some) (value_back x k))
 
-input_back : (i : CwlIn) → input_formed i ≡ true → input_of (input_json i) ≡ Some i
+pub input_back : (i : CwlIn) → input_formed i ≡ true → input_of (input_json i) ≡ Some i
 input_back i h = let p = and_parts (is_plain i.id) (preset_formed i.preset) h in input_parts_back i.id i.ty i.preset p.0 p.1
 
 -- ---- tools
@@ -141,7 +137,7 @@ plain_field_nul : (s : List ℕ) → is_plain_field s ≡ true → has_nul s ≡
 plain_field_nul [] h = refl
 plain_field_nul (c ∷ cs) h =
     let p = and_parts (not (is_stray c cs)) (is_plain_field cs) h in
-    let q = or_parts (is_refused c cs) (opens c cs && not (is_some (reference_at cs))) (negated (is_stray c cs) p.0) in
+    let q = or_parts (is_refused c cs) (opens c cs && not (is_some (reference_at cs))) (not-true (is_stray c cs) p.0) in
     let r = or_parts (c == 0 || c == 92) (c == 36 && begins_with 123 cs) q.0 in
     ap (λ b. b || has_nul cs) (or_parts (c == 0) (c == 92) r.0).0 ∙ plain_field_nul cs p.1
 
@@ -194,14 +190,14 @@ cut_none : (s : List ℕ) → lacks 47 s ≡ true → cut_at 47 s ≡ None
 cut_none [] h = refl
 cut_none (c ∷ cs) h =
     let p = and_parts (not (c == 47)) (lacks 47 cs) h in
-    ap (λ b. cond b (Some ([], cs)) (option_map (λ (q : List ℕ × List ℕ). (c ∷ q.0, q.1)) (cut_at 47 cs))) (negated (c == 47) p.0) ∙ ap (option_map (λ (q : List ℕ × List ℕ). (c ∷ q.0, q.1))) (cut_none cs p.1)
+    ap (λ b. cond b (Some ([], cs)) (option_map (λ (q : List ℕ × List ℕ). (c ∷ q.0, q.1)) (cut_at 47 cs))) (not-true (c == 47) p.0) ∙ ap (option_map (λ (q : List ℕ × List ℕ). (c ∷ q.0, q.1))) (cut_none cs p.1)
 
 cut_some : (s t : List ℕ) → lacks 47 s ≡ true → cut_at 47 (s ++ 47 ∷ t) ≡ Some (s, t)
 cut_some [] t h = refl
 cut_some (c ∷ cs) t h =
     let p = and_parts (not (c == 47)) (lacks 47 cs) h in
     let more = cs ++ 47 ∷ t in
-    ap (λ b. cond b (Some ([], more)) (option_map (λ (q : List ℕ × List ℕ). (c ∷ q.0, q.1)) (cut_at 47 more))) (negated (c == 47) p.0) ∙ ap (option_map (λ (q : List ℕ × List ℕ). (c ∷ q.0, q.1))) (cut_some cs t p.1)
+    ap (λ b. cond b (Some ([], more)) (option_map (λ (q : List ℕ × List ℕ). (c ∷ q.0, q.1)) (cut_at 47 more))) (not-true (c == 47) p.0) ∙ ap (option_map (λ (q : List ℕ × List ℕ). (c ∷ q.0, q.1))) (cut_some cs t p.1)
 
 link_back : (l : Link) → link_formed l ≡ true → link_of (link_json l) ≡ Some l
 link_back (link.Input id) h =
@@ -211,7 +207,7 @@ link_back (link.Out from out) h =
     let p = and_parts (is_plain from && lacks 47 from) (is_plain out) h in
     let q = and_parts (is_plain from) (lacks 47 from) p.0 in
     let whole = from ++ 47 ∷ out in
-    let plain_whole : is_plain whole ≡ true = ap not (has_nul-append from (47 ∷ out) (negated (has_nul from) q.0) (negated (has_nul out) p.1)) in
+    let plain_whole : is_plain whole ≡ true = ap not (has_nul-append from (47 ∷ out) (not-true (has_nul from) q.0) (not-true (has_nul out) p.1)) in
     ap (option_map (λ s. link_by s (cut_at 47 s))) (text_back whole plain_whole) ∙ ap (λ o. Some (link_by whole o)) (cut_some from out q.1)
 
 flow_out_back : (o : FlowOut) → flow_out_formed o ≡ true → flow_out_of (flow_out_json o) ≡ Some o

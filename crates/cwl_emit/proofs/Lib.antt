@@ -1,4 +1,3 @@
-pub mod JsonViews
 pub mod Exact
 pub mod Parts
 pub mod Values

@@ -1,7 +1,8 @@
 -- Each part that JSON stands for is written as that JSON, with members in byte order and no floats.
-use Rattle.std.proofs.Common.{◌≡◌, ℕ, Bool, true, false, cond, ◌&&◌, ◌||◌, List, [], ◌∷◌, map, Option, Some, None, option_map, option_and_then, bytes_eq, refl, ap, ◌∙◌, subst}
-use Rattle.std.proofs.lemmas.Bool.{false≢true, true≢false, and_parts, and_from}
+use Rattle.std.proofs.Common.{◌≡◌, ℕ, Bool, true, false, ◌&&◌, List, [], ◌∷◌, map, Option, Some, option_map, bytes_eq, refl, ap, ◌∙◌, subst}
+use Rattle.std.proofs.lemmas.Bool.{false≢true, and_parts, and_from, or_from}
 use Rattle.std.proofs.lemmas.Slice.Eq.{bytes_eq-Decides}
+use Rattle.std.proofs.lemmas.Option.{same_Some}
 use Rattle.serde_json.specs.Data.{Data, string, array, object, Items, no_items, item, Members, no_members, member}
 use Rattle.serde_json.specs.View.{items_of}
 use Rattle.serde_json.specs.Written.{has_float, items_have_float, members_have_float}
@@ -9,27 +10,9 @@ use Rattle.wdl_base.specs.Plain.{has_nul}
 use Rattle.json_values.specs.Ordered.{is_ordered, items_ordered, members_ordered, is_first}
 use Rattle.cwl_emit.specs.Reading.{plain, text_of, is_text, all_of, list_of, has_names, with2, with3, with4, with5}
 use Rattle.cwl_emit.specs.Writing.{list}
+use Rattle.wdl_base.proofs.Options.{map_parts, then_parts, refused_parts}
 
 -- ---- answers that came
-
-pub mapped : {A B : Type 0} (f : A → B) (o : Option A) (b : B) → option_map f o ≡ Some b → (a : A) × (o ≡ Some a) × (f a ≡ b)
-mapped f None b h = cc
-mapped f (Some a) b h = (a, refl, cc)
-
-pub chained : {A B : Type 0} (f : A → Option B) (o : Option A) (b : B) → option_and_then f o ≡ Some b → (a : A) × (o ≡ Some a) × (f a ≡ Some b)
-chained f None b h = cc
-chained f (Some a) b h = (a, refl, h)
-
-pub chosen : {A : Type 0} (b : Bool) (o : Option A) (a : A) → cond b o None ≡ Some a → (b ≡ true) × (o ≡ Some a)
-chosen true o a h = (refl, h)
-chosen false o a h = cc
-
-pub refused : {A : Type 0} (b : Bool) (o : Option A) (a : A) → cond b None o ≡ Some a → (b ≡ false) × (o ≡ Some a)
-refused true o a h = cc
-refused false o a h = (refl, h)
-
-pub inside : {A : Type 0} (a b : A) → Some a ≡ Some b → a ≡ b
-inside a b h = cc
 
 pub record Two {A B R : Type 0} (f : A → B → R) (a : Option A) (b : Option B) (r : R) : Type 0 where
   pub x : A
@@ -40,8 +23,8 @@ pub record Two {A B R : Type 0} (f : A → B → R) (a : Option A) (b : Option B
 
 pub of_two : {A B R : Type 0} (f : A → B → R) (a : Option A) (b : Option B) (r : R) → with2 f a b ≡ Some r → Two f a b r
 of_two f a b r h =
-    let p = chained (λ x. option_map (f x) b) a r h in
-    let q = mapped (f p.0) b r p.2 in
+    let p = then_parts (λ x. option_map (f x) b) a r h in
+    let q = map_parts (f p.0) b r p.2 in
     record { x = p.0; y = q.0; first = p.1; second = q.1; made = q.2 }
 
 pub record Three {A B C R : Type 0} (f : A → B → C → R) (a : Option A) (b : Option B) (c : Option C) (r : R) : Type 0 where
@@ -50,7 +33,7 @@ pub record Three {A B C R : Type 0} (f : A → B → C → R) (a : Option A) (b 
   pub rest : Two (f x) b c r
 
 pub of_three : {A B C R : Type 0} (f : A → B → C → R) (a : Option A) (b : Option B) (c : Option C) (r : R) → with3 f a b c ≡ Some r → Three f a b c r
-of_three f a b c r h = let p = chained (λ x. with2 (f x) b c) a r h in record { x = p.0; first = p.1; rest = of_two (f p.0) b c r p.2 }
+of_three f a b c r h = let p = then_parts (λ x. with2 (f x) b c) a r h in record { x = p.0; first = p.1; rest = of_two (f p.0) b c r p.2 }
 
 pub record Four {A B C D R : Type 0} (f : A → B → C → D → R) (a : Option A) (b : Option B) (c : Option C) (d : Option D) (r : R) : Type 0 where
   pub x : A
@@ -58,7 +41,7 @@ pub record Four {A B C D R : Type 0} (f : A → B → C → D → R) (a : Option
   pub rest : Three (f x) b c d r
 
 pub of_four : {A B C D R : Type 0} (f : A → B → C → D → R) (a : Option A) (b : Option B) (c : Option C) (d : Option D) (r : R) → with4 f a b c d ≡ Some r → Four f a b c d r
-of_four f a b c d r h = let p = chained (λ x. with3 (f x) b c d) a r h in record { x = p.0; first = p.1; rest = of_three (f p.0) b c d r p.2 }
+of_four f a b c d r h = let p = then_parts (λ x. with3 (f x) b c d) a r h in record { x = p.0; first = p.1; rest = of_three (f p.0) b c d r p.2 }
 
 pub record Five {A B C D E R : Type 0} (f : A → B → C → D → E → R) (a : Option A) (b : Option B) (c : Option C) (d : Option D) (e : Option E) (r : R) : Type 0 where
   pub x : A
@@ -66,7 +49,7 @@ pub record Five {A B C D E R : Type 0} (f : A → B → C → D → E → R) (a 
   pub rest : Four (f x) b c d e r
 
 pub of_five : {A B C D E R : Type 0} (f : A → B → C → D → E → R) (a : Option A) (b : Option B) (c : Option C) (d : Option D) (e : Option E) (r : R) → with5 f a b c d e ≡ Some r → Five f a b c d e r
-of_five f a b c d e r h = let p = chained (λ x. with4 (f x) b c d e) a r h in record { x = p.0; first = p.1; rest = of_four (f p.0) b c d e r p.2 }
+of_five f a b c d e r h = let p = then_parts (λ x. with4 (f x) b c d e) a r h in record { x = p.0; first = p.1; rest = of_four (f p.0) b c d e r p.2 }
 
 -- ---- JSON that is what is written
 
@@ -94,10 +77,6 @@ pub record MembersAre (ms ns : Members) : Type 0 where
   pub ordered : values_ordered ns ≡ true
   pub exact : members_have_float ns ≡ false
 
-both_false : (a b : Bool) → a ≡ false → b ≡ false → a || b ≡ false
-both_false true b h k = absurd (true≢false h)
-both_false false b h k = k
-
 pub no_item : ItemsAre no_items no_items
 no_item = record { same = refl; ordered = refl; exact = refl }
 
@@ -105,7 +84,7 @@ pub item_is : (d e : Data) (ds es : Items) → Is d e → ItemsAre ds es → Ite
 item_is d e ds es a b = record {
   same = ap (λ x. item x ds) a.same ∙ ap (item e) b.same;
   ordered = and_from (is_ordered e) (items_ordered es) a.ordered b.ordered;
-  exact = both_false (has_float e) (items_have_float es) a.exact b.exact;
+  exact = or_from (has_float e) (items_have_float es) a.exact b.exact;
 }
 
 pub array_is : (ds es : Items) → ItemsAre ds es → Is (array ds) (array es)
@@ -118,7 +97,7 @@ pub member_is : (k : List ℕ) (d e : Data) (ms ns : Members) → Is d e → Mem
 member_is k d e ms ns a b = record {
   same = ap (λ x. member k x ms) a.same ∙ ap (member k e) b.same;
   ordered = and_from (is_ordered e) (values_ordered ns) a.ordered b.ordered;
-  exact = both_false (has_float e) (members_have_float ns) a.exact b.exact;
+  exact = or_from (has_float e) (members_have_float ns) a.exact b.exact;
 }
 
 ordered_members : (ms : Members) → names_ordered ms ≡ true → values_ordered ms ≡ true → members_ordered ms ≡ true
@@ -134,7 +113,7 @@ object_is ms ns a h = record { same = ap object a.same; ordered = ordered_member
 -- ---- texts and lists
 
 pub plain_is : (s t : List ℕ) → plain s ≡ Some t → s ≡ t
-plain_is s t h = inside s t (refused (has_nul s) (Some s) t h).1
+plain_is s t h = same_Some s t (refused_parts (has_nul s) (Some s) t h).1
 
 pub string_is : (s t : List ℕ) → s ≡ t → Is (string s) (string t)
 string_is s t h = record { same = ap string h; ordered = refl; exact = refl }
@@ -148,10 +127,10 @@ word_is word (string s) h = string_is s word ((bytes_eq-Decides s word).0 h)
 word_is word d h = absurd (false≢true h)
 
 pub all_are : {A : Type 0} (f : Data → Option A) (w : A → Data) → ((d : Data) (x : A) → f d ≡ Some x → Is d (w x)) → (ds : Items) (xs : List A) → all_of f ds ≡ Some xs → ItemsAre ds (items_of (map w xs))
-all_are f w each no_items xs h = subst (λ ys. ItemsAre no_items (items_of (map w ys))) (inside [] xs h) no_item
+all_are f w each no_items xs h = subst (λ ys. ItemsAre no_items (items_of (map w ys))) (same_Some [] xs h) no_item
 all_are f w each (item d ds) xs h =
-    let p = chained (λ x. option_map (λ ys. x ∷ ys) (all_of f ds)) (f d) xs h in
-    let q = mapped (λ ys. p.0 ∷ ys) (all_of f ds) xs p.2 in
+    let p = then_parts (λ x. option_map (λ ys. x ∷ ys) (all_of f ds)) (f d) xs h in
+    let q = map_parts (λ ys. p.0 ∷ ys) (all_of f ds) xs p.2 in
     subst (λ ys. ItemsAre (item d ds) (items_of (map w ys))) q.2 (item_is d (w p.0) ds (items_of (map w q.0)) (each d p.0 p.1) (all_are f w each ds q.0 q.1))
 
 pub list_is : {A : Type 0} (f : Data → Option A) (w : A → Data) → ((d : Data) (x : A) → f d ≡ Some x → Is d (w x)) → (d : Data) (xs : List A) → list_of f d ≡ Some xs → Is d (list w xs)

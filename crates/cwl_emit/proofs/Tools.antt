@@ -1,6 +1,7 @@
 -- Tools.
 use Rattle.std.proofs.Common.{◌≡◌, ℕ, Bool, true, false, cond, ◌&&◌, ◌||◌, List, [], ◌∷◌, codes, Option, Some, None, option_map, nat_lt, refl, sym, ap, ◌∙◌, subst}
 use Rattle.std.proofs.lemmas.Bool.{false≢true, and_parts}
+use Rattle.std.proofs.lemmas.Option.{same_Some}
 use Rattle.serde_json.specs.Data.{unsigned, Data, number, string, array, object, no_items, item, Members, no_members, member}
 use Rattle.serde_json.specs.Find.{get_member}
 use Rattle.cwl_model.specs.declared.tool.Origin.{Origin}
@@ -12,15 +13,16 @@ use Rattle.cwl_model.specs.Fields.{field_text, pieces_in}
 use Rattle.cwl_model.proofs.Fields.{fields_read}
 use Rattle.cwl_emit.specs.Reading.{text_of, is_text, list_of, has_names, found, is_member, member_of, optional, with4, input_of, tool_out, glob_of, origin_in, tool_out_of, argument_of, code_of, are_ascending, codes_of, is_command, is_version, tool_names, tool, is_tool, tool_in}
 use Rattle.cwl_emit.specs.Writing.{list, input_json, glob_json, tool_out_json, code_json, code_members, with_version, argument_json, command_json, tool_json}
-use Rattle.cwl_emit.proofs.Parts.{mapped, chained, chosen, inside, of_two, of_four, Is, MembersAre, no_item, item_is, array_is, no_member, member_is, object_is, text_is, word_is, list_is, names_ordered, shape_of, shape_is}
+use Rattle.cwl_emit.proofs.Parts.{of_two, of_four, Is, MembersAre, no_item, item_is, array_is, no_member, member_is, object_is, text_is, word_is, list_is, names_ordered, shape_of, shape_is}
 use Rattle.cwl_emit.proofs.Values.{input_is}
+use Rattle.wdl_base.proofs.Options.{map_parts, then_parts, chosen_parts}
 
 -- ---- outputs
 
 glob_is : (d : Data) (name : List ℕ) → glob_of d ≡ Some name → Is d (glob_json name)
 glob_is (object ms) name h =
     let names = codes "glob" ∷ [] in
-    let c = chosen (has_names names ms) (member_of (codes "glob") text_of ms) name h in
+    let c = chosen_parts (has_names names ms) (member_of (codes "glob") text_of ms) name h in
     let s = shape_of names ms c.0 in
     let is : ms ≡ member (codes "glob") s.0 no_members = shape_is names ms s in
     let read = sym (ap (member_of (codes "glob") text_of) is) ∙ c.1 in
@@ -64,10 +66,10 @@ origin_is ms id o e h = by_kind (has_names stdout_names ms && typed (codes "stdo
   where
     by_kind : (b : Bool) → has_names stdout_names ms && typed (codes "stdout") ms ≡ b → cond b (Some origin.Stdout) (cond (has_names glob_names ms && typed (codes "File") ms) (option_map origin.Glob (member_of (codes "outputBinding") glob_of ms)) None) ≡ Some o
         → Is (object ms) (tool_out_json (tool_out id o))
-    by_kind true is k = subst (λ x. Is (object ms) (tool_out_json (tool_out id x))) (inside origin.Stdout o k) (stdout_out_is ms id is e)
+    by_kind true is k = subst (λ x. Is (object ms) (tool_out_json (tool_out id x))) (same_Some origin.Stdout o k) (stdout_out_is ms id is e)
     by_kind false is k =
-        let c = chosen (has_names glob_names ms && typed (codes "File") ms) (option_map origin.Glob (member_of (codes "outputBinding") glob_of ms)) o k in
-        let p = mapped origin.Glob (member_of (codes "outputBinding") glob_of ms) o c.1 in
+        let c = chosen_parts (has_names glob_names ms && typed (codes "File") ms) (option_map origin.Glob (member_of (codes "outputBinding") glob_of ms)) o k in
+        let p = map_parts origin.Glob (member_of (codes "outputBinding") glob_of ms) o c.1 in
         subst (λ x. Is (object ms) (tool_out_json (tool_out id x))) p.2 (glob_out_is ms id p.0 c.0 e p.1)
 
 tool_out_is : (d : Data) (o : ToolOut) → tool_out_of d ≡ Some o → Is d (tool_out_json o)
@@ -81,7 +83,7 @@ tool_out_is d o h = cc
 argument_is : (d : Data) (ps : List Piece) → argument_of d ≡ Some ps → Is d (argument_json ps)
 argument_is (array no_items) ps h = cc
 argument_is (array (item d no_items)) ps h =
-    let p = chained pieces_in (text_of d) ps h in
+    let p = then_parts pieces_in (text_of d) ps h in
     let text = fields_read.text p.0 ps p.2 in
     array_is _ _ (item_is d (string (field_text ps)) no_items no_items (subst (λ s. Is d (string s)) (sym text.1) (text_is d p.0 p.1)) no_item)
 argument_is (array (item d (item e ds))) ps h = cc
@@ -89,16 +91,16 @@ argument_is d ps h = cc
 
 code_is : (d : Data) (n : ℕ) → code_of d ≡ Some n → Is d (code_json n)
 code_is (number (unsigned m)) n h =
-    let c = chosen (nat_lt m 256) (Some m) n h in
-    record { same = ap code_json (inside m n c.1); ordered = refl; exact = refl }
+    let c = chosen_parts (nat_lt m 256) (Some m) n h in
+    record { same = ap code_json (same_Some m n c.1); ordered = refl; exact = refl }
 code_is (number m) n h = cc
 code_is d n h = cc
 
 codes_are : (d : Data) (ns : List ℕ) → codes_of d ≡ Some ns → Is d (list code_json ns)
 codes_are d ns h =
-    let p = chained (λ ms. cond (are_ascending ms) (Some ms) None) (list_of code_of d) ns h in
-    let c = chosen (are_ascending p.0) (Some p.0) ns p.2 in
-    subst (λ ms. Is d (list code_json ms)) (inside p.0 ns c.1) (list_is code_of code_json code_is d p.0 p.1)
+    let p = then_parts (λ ms. cond (are_ascending ms) (Some ms) None) (list_of code_of d) ns h in
+    let c = chosen_parts (are_ascending p.0) (Some p.0) ns p.2 in
+    subst (λ ms. Is d (list code_json ms)) (same_Some p.0 ns c.1) (list_is code_of code_json code_is d p.0 p.1)
 
 command_is : (d : Data) → is_command d ≡ true → Is d command_json
 command_is (array no_items) h = absurd (false≢true h)
@@ -181,11 +183,11 @@ parts_are a b c i o s found t command class stdout h =
     subst (λ (u : Tool). ToolParts a b c i o s u × (found ≡ Some u.codes)) q.made (all, q.second)
 
 no_codes_are : (codes_found : Option (List ℕ)) → Some None ≡ Some codes_found → MembersAre no_members (code_members codes_found)
-no_codes_are found h = subst (λ o. MembersAre no_members (code_members o)) (inside None found h) no_member
+no_codes_are found h = subst (λ o. MembersAre no_members (code_members o)) (same_Some None found h) no_member
 
 some_codes_are : (d : Data) (codes_found : Option (List ℕ)) → option_map Some (codes_of d) ≡ Some codes_found → MembersAre (member (codes "successCodes") d no_members) (code_members codes_found)
 some_codes_are d found h =
-    let p = mapped Some (codes_of d) found h in
+    let p = map_parts Some (codes_of d) found h in
     subst (λ o. MembersAre (member (codes "successCodes") d no_members) (code_members o)) p.2 (member_is (codes "successCodes") d _ _ _ (codes_are d p.0 p.1) no_member)
 
 abbrev coded : List (List ℕ)
@@ -251,7 +253,7 @@ tool_by_names true false ms t k e names h = outer_coded ms t k names h
 
 pub tool_is : (outermost : Bool) (ms : Members) (t : Tool) → tool_in outermost ms ≡ Some t → Is (object ms) (tool_json outermost t)
 tool_is outermost ms t h =
-    let c = chosen (is_tool outermost ms) (reads_tool ms) t h in
+    let c = chosen_parts (is_tool outermost ms) (reads_tool ms) t h in
     let plain_names = has_names (tool_names outermost []) ms in
     let names = plain_names || has_names (tool_names outermost coded) ms in
     let version = is_version outermost ms in

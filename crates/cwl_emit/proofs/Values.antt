@@ -2,6 +2,7 @@
 use Rattle.std.proofs.Common.{◌≡◌, ℕ, ℤ, pos, negsuc, Bool, true, false, cond, ◌&&◌, ◌||◌, List, [], ◌∷◌, map, codes, Option, Some, None, option_map, bytes_eq, refl, sym, ap, ◌∙◌, subst}
 use Rattle.std.proofs.lemmas.Bool.{false≢true, and_parts}
 use Rattle.std.proofs.lemmas.Slice.Eq.{bytes_eq-Decides}
+use Rattle.std.proofs.lemmas.Option.{same_Some}
 use Rattle.serde_json.specs.Data.{Num, unsigned, negative, float, Data, null, boolean, number, string, array, object, Items, no_items, item, Members, no_members, member}
 use Rattle.serde_json.specs.Find.{get_member, of_integer}
 use Rattle.serde_json.specs.Written.{has_float}
@@ -17,7 +18,8 @@ use Rattle.cwl_model.specs.declared.ty.CwlTy.TheVariants as ty
 use Rattle.cwl_model.specs.declared.ty.CwlTy.TheOpen as type
 use Rattle.cwl_emit.specs.Reading.{plain, text_of, is_text, has_names, is_member, member_of, optional, with3, named_type, type_of, type_or_null, last_type, item_type, int_of, number_of, value_of, values_of, cwl_in, input_in, input_of}
 use Rattle.cwl_emit.specs.Writing.{type_step, type_json, list_type, null_type, input_json}
-use Rattle.cwl_emit.proofs.Parts.{mapped, chained, chosen, inside, of_three, Is, ItemsAre, no_item, item_is, array_is, no_member, member_is, object_is, plain_is, string_is, text_is, word_is, shape_of, shape_is}
+use Rattle.cwl_emit.proofs.Parts.{of_three, Is, ItemsAre, no_item, item_is, array_is, no_member, member_is, object_is, plain_is, string_is, text_is, word_is, shape_of, shape_is}
+use Rattle.wdl_base.proofs.Options.{map_parts, then_parts, chosen_parts}
 
 -- ---- types
 
@@ -47,10 +49,10 @@ named_is s t h = by_tests (bytes_eq s (codes "boolean")) (bytes_eq s (codes "lon
 
     by_tests : (a b c d : Bool) → bytes_eq s (codes "boolean") ≡ a → bytes_eq s (codes "long") ≡ b → bytes_eq s (codes "string") ≡ c → bytes_eq s (codes "File") ≡ d
         → cond a (Some ty.Bool) (cond b (Some ty.Long) (cond c (Some ty.Str) (cond d (Some ty.File) None))) ≡ Some t → Is (string s) (type_json t)
-    by_tests true b c d e f g i k = named (codes "boolean") ty.Bool bool_type e (inside ty.Bool t k)
-    by_tests false true c d e f g i k = named (codes "long") ty.Long long_type f (inside ty.Long t k)
-    by_tests false false true d e f g i k = named (codes "string") ty.Str string_type g (inside ty.Str t k)
-    by_tests false false false true e f g i k = named (codes "File") ty.File file_type i (inside ty.File t k)
+    by_tests true b c d e f g i k = named (codes "boolean") ty.Bool bool_type e (same_Some ty.Bool t k)
+    by_tests false true c d e f g i k = named (codes "long") ty.Long long_type f (same_Some ty.Long t k)
+    by_tests false false true d e f g i k = named (codes "string") ty.Str string_type g (same_Some ty.Str t k)
+    by_tests false false false true e f g i k = named (codes "File") ty.File file_type i (same_Some ty.File t k)
     by_tests false false false false e f g i k = cc
 
 -- the first member of that name
@@ -78,7 +80,7 @@ found_at name k d ms here later x e h own more = by_test (bytes_eq k name) refl 
 
 -- the one value that stands there
 pub found_is : (name : List ℕ) (ms : Members) (d e : Data) → first_named name ms ≡ Some d → Found name ms e → Is d e
-found_is name ms d e at f = subst (λ x. Is x e) (inside f.json d (sym f.at ∙ at)) f.is
+found_is name ms d e at f = subst (λ x. Is x e) (same_Some f.json d (sym f.at ∙ at)) f.is
 
 array_type_is : (ms : Members) (t : CwlTy) → has_names (codes "items" ∷ codes "type" ∷ []) ms && is_member (codes "type") (is_text (codes "array")) ms ≡ true → Found (codes "items") ms (type_json t)
     → Is (object ms) (list_type (type_json t))
@@ -99,17 +101,17 @@ mutual
   type_is (number n) t h = cc
   type_is (string s) t h = named_is s t h
   type_is (array ds) t h =
-      let p = mapped ty.Null (type_or_null ds) t h in
+      let p = map_parts ty.Null (type_or_null ds) t h in
       subst (λ x. Is (array ds) (type_json x)) p.2 (subst (Is (array ds)) (sym (null_type_is p.0)) (array_is ds _ (null_or_type_are ds p.0 p.1)))
   type_is (object ms) t h =
-      let c = chosen (has_names (codes "items" ∷ codes "type" ∷ []) ms && is_member (codes "type") (is_text (codes "array")) ms) (option_map ty.List (item_type ms)) t h in
-      let p = mapped ty.List (item_type ms) t c.1 in
+      let c = chosen_parts (has_names (codes "items" ∷ codes "type" ∷ []) ms && is_member (codes "type") (is_text (codes "array")) ms) (option_map ty.List (item_type ms)) t h in
+      let p = map_parts ty.List (item_type ms) t c.1 in
       subst (λ x. Is (object ms) (type_json x)) p.2 (subst (Is (object ms)) (sym (list_type_is p.0)) (array_type_is ms p.0 c.0 (item_type_found ms p.0 p.1)))
 
   null_or_type_are : (ds : Items) (t : CwlTy) → type_or_null ds ≡ Some t → ItemsAre ds (item (string (codes "null")) (item (type_json t) no_items))
   null_or_type_are no_items t h = cc
   null_or_type_are (item d ds) t h =
-      let c = chosen (is_text (codes "null") d) (last_type ds) t h in
+      let c = chosen_parts (is_text (codes "null") d) (last_type ds) t h in
       item_is d (string (codes "null")) ds (item (type_json t) no_items) (word_is (codes "null") d c.0) (last_type_is ds t c.1)
 
   last_type_is : (ds : Items) (t : CwlTy) → last_type ds ≡ Some t → ItemsAre ds (item (type_json t) no_items)
@@ -140,8 +142,8 @@ list_json xs = ap json_of (sym (v.rolls-List xs)) ∙ ap (λ (w : Written). w.js
 
 int_is : (n : Num) (z : ℤ) (x : Value) → number n ≡ number (of_integer z) → int_of z ≡ Some x → Is (number (of_integer z)) (number (of_integer z)) → Is (number n) (json_of x)
 int_is n z x same h own =
-    let c = chosen (is_int z) (Some (v.Int z)) x h in
-    subst (λ y. Is (number n) (json_of y)) (inside (v.Int z) x c.1)
+    let c = chosen_parts (is_int z) (Some (v.Int z)) x h in
+    subst (λ y. Is (number n) (json_of y)) (same_Some (v.Int z) x c.1)
     (subst (Is (number n)) (sym (int_json z)) (subst (λ d. Is d (number (of_integer z))) (sym same) own))
 
 number_is : (n : Num) (x : Value) → number_of n ≡ Some x → Is (number n) (json_of x)
@@ -152,22 +154,22 @@ number_is (float f) x h = cc
 
 mutual
   pub value_is : (d : Data) (x : Value) → value_of d ≡ Some x → Is d (json_of x)
-  value_is null x h = subst (λ y. Is null (json_of y)) (inside v.Absent x h) (record { same = sym absent_json; ordered = ap is_ordered absent_json; exact = ap has_float absent_json })
-  value_is (boolean b) x h = subst (λ y. Is (boolean b) (json_of y)) (inside (v.Bool b) x h) (subst (Is (boolean b)) (sym (bool_json b)) (record { same = refl; ordered = refl; exact = refl }))
+  value_is null x h = subst (λ y. Is null (json_of y)) (same_Some v.Absent x h) (record { same = sym absent_json; ordered = ap is_ordered absent_json; exact = ap has_float absent_json })
+  value_is (boolean b) x h = subst (λ y. Is (boolean b) (json_of y)) (same_Some (v.Bool b) x h) (subst (Is (boolean b)) (sym (bool_json b)) (record { same = refl; ordered = refl; exact = refl }))
   value_is (number n) x h = number_is n x h
   value_is (string s) x h =
-      let p = mapped v.Str (plain s) x h in
+      let p = map_parts v.Str (plain s) x h in
       subst (λ y. Is (string s) (json_of y)) p.2 (subst (Is (string s)) (sym (str_json p.0)) (string_is s p.0 (plain_is s p.0 p.1)))
   value_is (array ds) x h =
-      let p = mapped v.List (values_of ds) x h in
+      let p = map_parts v.List (values_of ds) x h in
       subst (λ y. Is (array ds) (json_of y)) p.2 (subst (Is (array ds)) (sym (list_json p.0)) (array_is ds _ (values_are ds p.0 p.1)))
   value_is (object ms) x h = cc
 
   values_are : (ds : Items) (xs : List Value) → values_of ds ≡ Some xs → ItemsAre ds (all_items (map written xs))
-  values_are no_items xs h = subst (λ ys. ItemsAre no_items (all_items (map written ys))) (inside [] xs h) no_item
+  values_are no_items xs h = subst (λ ys. ItemsAre no_items (all_items (map written ys))) (same_Some [] xs h) no_item
   values_are (item d ds) xs h =
-      let p = chained (λ x. option_map (λ ys. x ∷ ys) (values_of ds)) (value_of d) xs h in
-      let q = mapped (λ ys. p.0 ∷ ys) (values_of ds) xs p.2 in
+      let p = then_parts (λ x. option_map (λ ys. x ∷ ys) (values_of ds)) (value_of d) xs h in
+      let q = map_parts (λ ys. p.0 ∷ ys) (values_of ds) xs p.2 in
       subst (λ ys. ItemsAre (item d ds) (all_items (map written ys))) q.2 (item_is d (json_of p.0) ds (all_items (map written q.0)) (value_is d p.0 p.1) (values_are ds q.0 q.1))
 
 -- ---- inputs
@@ -190,7 +192,7 @@ plain_input_is ms i names h =
     let s = shape_of plain_input ms names in
     let is : ms ≡ member (codes "id") s.0 (member (codes "type") s.3.0 no_members) = shape_is plain_input ms s in
     let r = of_three cwl_in (text_of s.0) (type_of s.3.0) (Some None) i (sym (ap reads_input is) ∙ h) in
-    let preset : None ≡ r.rest.y = inside None r.rest.y r.rest.second in
+    let preset : None ≡ r.rest.y = same_Some None r.rest.y r.rest.second in
     subst (λ m. Is (object m) (input_json i)) (sym is)
     (subst (λ (j : CwlIn). Is (object (member (codes "id") s.0 (member (codes "type") s.3.0 no_members))) (input_json j)) (ap (cwl_in r.x r.rest.x) preset ∙ r.rest.made)
     (object_is _ _ (member_is (codes "id") s.0 (string r.x) _ _ (text_is s.0 r.x r.first) (member_is (codes "type") s.3.0 (type_json r.rest.x) _ _ (type_is s.3.0 r.rest.x r.rest.first) no_member)) refl))
@@ -200,7 +202,7 @@ preset_input_is ms i names h =
     let s = shape_of preset_input ms names in
     let is : ms ≡ member (codes "default") s.0 (member (codes "id") s.3.0 (member (codes "type") s.3.3.0 no_members)) = shape_is preset_input ms s in
     let r = of_three cwl_in (text_of s.3.0) (type_of s.3.3.0) (option_map Some (value_of s.0)) i (sym (ap reads_input is) ∙ h) in
-    let p = mapped Some (value_of s.0) r.rest.y r.rest.second in
+    let p = map_parts Some (value_of s.0) r.rest.y r.rest.second in
     subst (λ m. Is (object m) (input_json i)) (sym is)
     (subst (λ (j : CwlIn). Is (object (member (codes "default") s.0 (member (codes "id") s.3.0 (member (codes "type") s.3.3.0 no_members)))) (input_json j)) (ap (cwl_in r.x r.rest.x) p.2 ∙ r.rest.made)
     (object_is _ _
@@ -210,7 +212,7 @@ preset_input_is ms i names h =
 
 input_members_are : (ms : Members) (i : CwlIn) → input_in ms ≡ Some i → Is (object ms) (input_json i)
 input_members_are ms i h =
-    let c = chosen (has_names plain_input ms || has_names preset_input ms) (reads_input ms) i h in
+    let c = chosen_parts (has_names plain_input ms || has_names preset_input ms) (reads_input ms) i h in
     by_names (has_names plain_input ms) refl c.0 c.1
   where
     by_names : (b : Bool) → has_names plain_input ms ≡ b → b || has_names preset_input ms ≡ true → reads_input ms ≡ Some i → Is (object ms) (input_json i)

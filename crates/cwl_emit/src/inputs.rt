@@ -34,7 +34,7 @@ pub fn put_word(
 }
 
 /// A list of texts.
-#[tactic(auto, using(crate::proofs::JsonViews::array_view))]
+#[tactic(auto, using(json_values::proofs::JsonViews::array_view))]
 pub fn texts_json(alloc: Global, texts: &[Text]) -> Result<Json, NoMemory>
     ensures { IfOk result (λ j. view j ≡ spec.list string texts.now) }
 {
@@ -45,7 +45,7 @@ pub fn texts_json(alloc: Global, texts: &[Text]) -> Result<Json, NoMemory>
     Ok(Json::Array(items))
 }
 
-#[tactic(auto, using(crate::proofs::JsonViews::object_view))]
+#[tactic(auto, using(json_values::proofs::JsonViews::object_view))]
 fn list_type(alloc: Global, item: Json) -> Result<Json, NoMemory>
     ensures { IfOk result (λ j. view j ≡ spec.list_type (view item)) }
 {
@@ -55,7 +55,7 @@ fn list_type(alloc: Global, item: Json) -> Result<Json, NoMemory>
     Ok(Json::Object(members))
 }
 
-#[tactic(auto, using(crate::proofs::JsonViews::array_view))]
+#[tactic(auto, using(json_values::proofs::JsonViews::array_view))]
 fn null_type(alloc: Global, other: Json) -> Result<Json, NoMemory>
     ensures { IfOk result (λ j. view j ≡ spec.null_type (view other)) }
 {
@@ -81,7 +81,7 @@ pub fn type_json(alloc: Global, ty: &CwlTy) -> Result<Json, NoMemory>
 }
 
 /// An input: `default` where there is one, `id` and `type`.
-#[tactic(auto, using(crate::proofs::JsonViews::object_view))]
+#[tactic(auto, using(json_values::proofs::JsonViews::object_view))]
 pub fn input_json(alloc: Global, input: &CwlIn) -> Result<Json, NoMemory>
     ensures { IfOk result (λ j. view j ≡ spec.input_json input.now) }
 {
@@ -97,7 +97,7 @@ pub fn input_json(alloc: Global, input: &CwlIn) -> Result<Json, NoMemory>
 }
 
 /// The inputs of a process: `default` where there is one, `id` and `type`.
-#[tactic(auto, using(crate::proofs::JsonViews::array_view))]
+#[tactic(auto, using(json_values::proofs::JsonViews::array_view))]
 pub fn inputs_json(alloc: Global, inputs: &[CwlIn]) -> Result<Json, NoMemory>
     ensures { IfOk result (λ j. view j ≡ spec.list spec.input_json inputs.now) }
 {

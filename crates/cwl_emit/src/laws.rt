@@ -8,8 +8,8 @@ pub fn processes_are_written()
     ensures law { ProcessesAreWritten }
 {}
 
-/// What is written for a process stands for it, where its texts, sources, pieces, codes and defaults are as JSON has
-/// them.
+/// What is written for a process stands for it, where its texts, sources, pieces, codes and
+/// defaults are as JSON has them.
 pub fn formed_processes_stand()
     ensures law { FormedProcessesStand }
 {}

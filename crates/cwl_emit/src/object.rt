@@ -12,7 +12,7 @@ use std::alloc::Global;
 use wdl_base::{NoMemory, Text};
 use wdl_value::{Bind, Field, Value};
 
-#[tactic(auto, using(crate::proofs::JsonViews::object_view))]
+#[tactic(auto, using(json_values::proofs::JsonViews::object_view))]
 fn file_json(alloc: Global, path: &Text) -> Result<Json, NoMemory>
     ensures { IfOk result (λ j. view j ≡ spec.file_object path.now) }
 {
@@ -38,7 +38,7 @@ fn value_json(alloc: Global, value: &Value) -> Result<Json, NoMemory>
 }
 
 #[cycle(values)]
-#[tactic(auto, using(crate::proofs::JsonViews::array_view))]
+#[tactic(auto, using(json_values::proofs::JsonViews::array_view))]
 fn list_json(alloc: Global, values: &[Value]) -> Result<Json, NoMemory>
     ensures { IfOk result (λ j. view j ≡ list spec.value_object values.now) }
 {
@@ -50,7 +50,7 @@ fn list_json(alloc: Global, values: &[Value]) -> Result<Json, NoMemory>
 }
 
 #[cycle(values)]
-#[tactic(auto, using(crate::proofs::JsonViews::object_view))]
+#[tactic(auto, using(json_values::proofs::JsonViews::object_view))]
 fn fields_json(alloc: Global, fields: &[Field<Value>]) -> Result<Json, NoMemory>
     ensures { IfOk result (λ j. view j ≡ object (spec.with_fields fields.now no_members)) }
 {
@@ -64,14 +64,15 @@ fn fields_json(alloc: Global, fields: &[Field<Value>]) -> Result<Json, NoMemory>
 
 fn put_given(alloc: Global, members: &mut Map<String, Json>, bind: &Bind) -> Result<(), NoMemory>
     ensures { OnOk result (members_view members.new.entries
-        ≡ with_member bind.now.key.first (spec.value_object bind.now.value) (members_view members.old.entries)) }
+        ≡ with_member bind.now.key.first (spec.value_object bind.now.value)
+        (members_view members.old.entries)) }
 {
     let value = value_json(alloc, &bind.value)?;
     put(members, alloc, bind.key.first.as_str(), value)?;
     Ok(())
 }
 
-#[tactic(auto, using(crate::proofs::JsonViews::object_view))]
+#[tactic(auto, using(json_values::proofs::JsonViews::object_view))]
 fn object_json(alloc: Global, given: &[Bind]) -> Result<Json, NoMemory>
     ensures { IfOk result (λ j. view j ≡ spec.object_json given.now) }
 {
@@ -82,9 +83,10 @@ fn object_json(alloc: Global, given: &[Bind]) -> Result<Json, NoMemory>
     Ok(Json::Object(members))
 }
 
-/// The input object of a process (CWL v1.2, "Executing CWL documents as scripts") as one JSON object without blanks,
-/// with a member for each given input, in byte order: a File is `{"class":"File","path":PATH}`, an undefined value is
-/// `null`, a list is an array and a struct an object of its members. Its time is linear but for a logarithm.
+/// The input object of a process (CWL v1.2, "Executing CWL documents as scripts") as one JSON
+/// object without blanks, with a member for each given input, in byte order: a File is
+/// `{"class":"File","path":PATH}`, an undefined value is `null`, a list is an array and a struct an
+/// object of its members. Its time is linear but for a logarithm.
 ///
 /// CWL has no maps and no pairs: for each of them `null` stands there.
 pub fn object_text(alloc: Global, given: &[Bind]) -> Result<Text, NoMemory>

@@ -30,7 +30,7 @@ fn process_json(alloc: Global, process: &Process, outermost: bool) -> Result<Jso
 }
 
 #[cycle(processes)]
-#[tactic(auto, using(crate::proofs::JsonViews::array_view))]
+#[tactic(auto, using(json_values::proofs::JsonViews::array_view))]
 fn steps_json(alloc: Global, steps: &[CwlStep<Process>]) -> Result<Json, NoMemory>
     ensures { IfOk result (λ j. view j ≡ spec.steps_json steps.now) }
 {
@@ -42,12 +42,14 @@ fn steps_json(alloc: Global, steps: &[CwlStep<Process>]) -> Result<Json, NoMemor
     Ok(Json::Array(items))
 }
 
-/// The JSON value that is written for a process (CWL v1.2, CommandLineTool and Workflow): as the outermost process, which
-/// has the member `cwlVersion`, or as that of a step. It stands for the process, where some value does. Its members are
-/// in byte order. Its time is linear but for a logarithm.
+/// The JSON value that is written for a process (CWL v1.2, CommandLineTool and Workflow): as the
+/// outermost process, which has the member `cwlVersion`, or as that of a step. It stands for the
+/// process, where some value does. Its members are in byte order. Its time is linear but for a
+/// logarithm.
 ///
-/// None stands for a process with codes that are not ascending, pieces that are not those of their text, ids with `/`,
-/// or defaults other than undefined values, Booleans, integers, strings and arrays of these.
+/// None stands for a process with codes that are not ascending, pieces that are not those of their
+/// text, ids with `/`, or defaults other than undefined values, Booleans, integers, strings and
+/// arrays of these.
 pub fn process_value(alloc: Global, process: &Process, outermost: bool) -> Result<Json, NoMemory>
     ensures value { IfOk result (λ j. HasJson outermost process.now → cwl_of outermost (view j) ≡ Some process.now) }
     ensures written { IfOk result (λ j. view j ≡ spec.process_json process.now outermost) }
@@ -69,7 +71,8 @@ pub fn flow_value(alloc: Global, flow: &CwlFlow<Process>) -> Result<Json, NoMemo
     )
 }
 
-/// The text of the JSON value that is written for the outermost process, members in byte order and without blanks.
+/// The text of the JSON value that is written for the outermost process, members in byte order and
+/// without blanks.
 pub fn process_text(alloc: Global, process: &Process) -> Result<Text, NoMemory>
     ensures value { IfOk result (λ t. HasJson true process.now → IsText process.now t) }
     ensures written { IfOk result (λ t. t ≡ compact_text (spec.process_json process.now true)) }

@@ -10,7 +10,7 @@ use serde_json::{Map, Value as Json, put};
 use std::alloc::Global;
 use wdl_base::{NoMemory, Text};
 
-#[tactic(auto, using(crate::proofs::JsonViews::object_view))]
+#[tactic(auto, using(json_values::proofs::JsonViews::object_view))]
 fn glob_json(alloc: Global, name: &Text) -> Result<Json, NoMemory>
     ensures { IfOk result (λ j. view j ≡ spec.glob_json name.now) }
 {
@@ -20,7 +20,7 @@ fn glob_json(alloc: Global, name: &Text) -> Result<Json, NoMemory>
 }
 
 /// An output: the standard output, or a file by its name.
-#[tactic(auto, using(crate::proofs::JsonViews::object_view))]
+#[tactic(auto, using(json_values::proofs::JsonViews::object_view))]
 fn tool_out_json(alloc: Global, output: &ToolOut) -> Result<Json, NoMemory>
     ensures { IfOk result (λ j. view j ≡ spec.tool_out_json output.now) }
 {
@@ -39,7 +39,7 @@ fn tool_out_json(alloc: Global, output: &ToolOut) -> Result<Json, NoMemory>
     Ok(Json::Object(members))
 }
 
-#[tactic(auto, using(crate::proofs::JsonViews::array_view))]
+#[tactic(auto, using(json_values::proofs::JsonViews::array_view))]
 fn outputs_json(alloc: Global, outputs: &[ToolOut]) -> Result<Json, NoMemory>
     ensures { IfOk result (λ j. view j ≡ spec.list spec.tool_out_json outputs.now) }
 {
@@ -50,7 +50,7 @@ fn outputs_json(alloc: Global, outputs: &[ToolOut]) -> Result<Json, NoMemory>
     Ok(Json::Array(items))
 }
 
-#[tactic(auto, using(crate::proofs::JsonViews::array_view))]
+#[tactic(auto, using(json_values::proofs::JsonViews::array_view))]
 fn codes_json(alloc: Global, codes: &[u8]) -> Result<Json, NoMemory>
     ensures { IfOk result (λ j. view j ≡ spec.list spec.code_json codes.now) }
 {
@@ -61,7 +61,7 @@ fn codes_json(alloc: Global, codes: &[u8]) -> Result<Json, NoMemory>
     Ok(Json::Array(items))
 }
 
-#[tactic(auto, using(crate::proofs::JsonViews::array_view))]
+#[tactic(auto, using(json_values::proofs::JsonViews::array_view))]
 fn argument_json(alloc: Global, pieces: &[Piece]) -> Result<Json, NoMemory>
     ensures { IfOk result (λ j. view j ≡ spec.argument_json pieces.now) }
 {
@@ -71,7 +71,7 @@ fn argument_json(alloc: Global, pieces: &[Piece]) -> Result<Json, NoMemory>
     Ok(Json::Array(items))
 }
 
-#[tactic(auto, using(crate::proofs::JsonViews::array_view))]
+#[tactic(auto, using(json_values::proofs::JsonViews::array_view))]
 fn command_json(alloc: Global) -> Result<Json, NoMemory>
     ensures { IfOk result (λ j. view j ≡ spec.command_json) }
 {
@@ -82,7 +82,7 @@ fn command_json(alloc: Global) -> Result<Json, NoMemory>
 }
 
 /// A tool: `sh -c` of one argument, with `cwlVersion` where it is the outermost process.
-#[tactic(auto, using(crate::proofs::JsonViews::object_view))]
+#[tactic(auto, using(json_values::proofs::JsonViews::object_view))]
 pub fn tool_json(alloc: Global, tool: &Tool, outermost: bool) -> Result<Json, NoMemory>
     ensures { IfOk result (λ j. view j ≡ spec.tool_json outermost tool.now) }
 {

@@ -32,7 +32,7 @@ fn link_json(alloc: Global, link: &Link) -> Result<Json, NoMemory>
     word_json(alloc, text.as_str())
 }
 
-#[tactic(auto, using(crate::proofs::JsonViews::object_view))]
+#[tactic(auto, using(json_values::proofs::JsonViews::object_view))]
 fn flow_out_json(alloc: Global, output: &FlowOut) -> Result<Json, NoMemory>
     ensures { IfOk result (λ j. view j ≡ spec.flow_out_json output.now) }
 {
@@ -46,7 +46,7 @@ fn flow_out_json(alloc: Global, output: &FlowOut) -> Result<Json, NoMemory>
 }
 
 /// The outputs of a workflow.
-#[tactic(auto, using(crate::proofs::JsonViews::array_view))]
+#[tactic(auto, using(json_values::proofs::JsonViews::array_view))]
 pub fn outputs_json(alloc: Global, outputs: &[FlowOut]) -> Result<Json, NoMemory>
     ensures { IfOk result (λ j. view j ≡ spec.list spec.flow_out_json outputs.now) }
 {
@@ -57,7 +57,7 @@ pub fn outputs_json(alloc: Global, outputs: &[FlowOut]) -> Result<Json, NoMemory
     Ok(Json::Array(items))
 }
 
-#[tactic(auto, using(crate::proofs::JsonViews::object_view))]
+#[tactic(auto, using(json_values::proofs::JsonViews::object_view))]
 fn wire_json(alloc: Global, wire: &Wire) -> Result<Json, NoMemory>
     ensures { IfOk result (λ j. view j ≡ spec.wire_json wire.now) }
 {
@@ -68,7 +68,7 @@ fn wire_json(alloc: Global, wire: &Wire) -> Result<Json, NoMemory>
     Ok(Json::Object(members))
 }
 
-#[tactic(auto, using(crate::proofs::JsonViews::array_view))]
+#[tactic(auto, using(json_values::proofs::JsonViews::array_view))]
 fn wires_json(alloc: Global, wires: &[Wire]) -> Result<Json, NoMemory>
     ensures { IfOk result (λ j. view j ≡ spec.list spec.wire_json wires.now) }
 {
@@ -80,7 +80,7 @@ fn wires_json(alloc: Global, wires: &[Wire]) -> Result<Json, NoMemory>
 }
 
 /// A step with its process: it has a member `scatter` or `when`, or neither.
-#[tactic(auto, using(crate::proofs::JsonViews::object_view))]
+#[tactic(auto, using(json_values::proofs::JsonViews::object_view))]
 pub fn step_json(alloc: Global, step: &CwlStep<Process>, run: Json) -> Result<Json, NoMemory>
     ensures { IfOk result (λ j. view j ≡ spec.step_json step.now (view run)) }
 {
@@ -100,7 +100,7 @@ pub fn step_json(alloc: Global, step: &CwlStep<Process>, run: Json) -> Result<Js
 }
 
 /// A requirement of that class.
-#[tactic(auto, using(crate::proofs::JsonViews::object_view))]
+#[tactic(auto, using(json_values::proofs::JsonViews::object_view))]
 pub fn class_json(alloc: Global, class: &str) -> Result<Json, NoMemory>
     ensures { IfOk result (λ j. view j ≡ spec.class_json class.now) }
 {
@@ -109,7 +109,7 @@ pub fn class_json(alloc: Global, class: &str) -> Result<Json, NoMemory>
     Ok(Json::Object(members))
 }
 
-#[tactic(auto, using(crate::proofs::JsonViews::array_view))]
+#[tactic(auto, using(json_values::proofs::JsonViews::array_view))]
 fn requirements_json(alloc: Global) -> Result<Json, NoMemory>
     ensures { IfOk result (λ j. view j ≡ spec.requirements_json) }
 {
@@ -120,7 +120,7 @@ fn requirements_json(alloc: Global) -> Result<Json, NoMemory>
 }
 
 /// A workflow with its steps, and with `cwlVersion` where it is the outermost process.
-#[tactic(auto, using(crate::proofs::JsonViews::object_view))]
+#[tactic(auto, using(json_values::proofs::JsonViews::object_view))]
 pub fn flow_json(
     alloc: Global,
     inputs: &[CwlIn],

@@ -3,6 +3,7 @@ use Rattle.std.proofs.Common.{◌≡◌, Bool, true, false, cond, ◌||◌, List
 use Rattle.wdl_base.specs.declared.name.Key.{Key}
 use Rattle.wdl_typed.specs.Scope.{is_among, same_key}
 use Rattle.cwl_image.specs.Image.{firsts}
+use Rattle.wdl_names.proofs.FreshLemmas.{or_assoc}
 
 abbrev Alike : List Key → List Key → Type 0
 Alike bs cs = (j : Key) → is_among j bs ≡ is_among j cs
@@ -19,10 +20,6 @@ or_last true true = refl
 or_last true false = refl
 or_last false true = refl
 or_last false false = refl
-
-or_assoc : (a b c : Bool) → (a || (b || c)) ≡ ((a || b) || c)
-or_assoc true b c = refl
-or_assoc false b c = refl
 
 among_both : (j : Key) (bs cs : List Key) → is_among j (bs ++ cs) ≡ (is_among j bs || is_among j cs)
 among_both j [] cs = refl

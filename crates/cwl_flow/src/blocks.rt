@@ -19,8 +19,8 @@ use wdl_names::Index;
 use wdl_typed::{Statement, TExpr, TIf, TScatter};
 use wdl_value::{Items, Key, Name, NoMemory, Text};
 
-/// A block whose body is still to be walked: the id, the inputs and the mode of its step, the inputs of its flow, and what
-/// its body sees.
+/// A block whose body is still to be walked: the id, the inputs and the mode of its step, the
+/// inputs of its flow, and what its body sees.
 #[derive(Drop)]
 pub struct Block {
     pub id: Text,
@@ -149,7 +149,8 @@ fn scatter_scope(
     Ok(inner)
 }
 
-/// The inputs of the step of a block: one for its collection or condition, and then the references from outside.
+/// The inputs of the step of a block: one for its collection or condition, and then the references
+/// from outside.
 fn block_wires(
     alloc: Global,
     scope: &Index<Linkage>,
@@ -177,7 +178,8 @@ fn scatter_uses<'a>(
     outer_uses(alloc, scatter.body.as_slice(), context, item)
 }
 
-/// The inputs of the step of a scatter: one for its collection, and then the references from outside.
+/// The inputs of the step of a scatter: one for its collection, and then the references from
+/// outside.
 fn scatter_wires(
     alloc: Global,
     scatter: &TScatter<Statement>,

@@ -1,4 +1,5 @@
-//! What the outputs of steps are linked to, and their types, where later statements of the body refer to them.
+//! What the outputs of steps are linked to, and their types, where later statements of the body
+//! refer to them.
 
 ghost use Rattle.std.specs.Prelude.{◌≡◌, ◌++◌, IfOk, OnOk, Some, map};
 ghost use Rattle.wdl_typed.specs.Bodies.{signature};

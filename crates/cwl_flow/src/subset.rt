@@ -1,4 +1,5 @@
-//! The process of the main workflow of a checked form, and the tools of its tasks (CWL v1.2, Workflow and CommandLineTool).
+//! The process of the main workflow of a checked form, and the tools of its tasks (CWL v1.2,
+//! Workflow and CommandLineTool).
 
 ghost use Rattle.std.specs.Prelude.{◌≡◌, ◌<◌, IfOk, Some, length, option_map, slice_get};
 ghost use Rattle.cwl_image.specs.Image as image;

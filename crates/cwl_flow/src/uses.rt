@@ -132,7 +132,8 @@ fn add_outside<'a>(
     Ok(())
 }
 
-/// What a body uses of what is outside its block, each use of it. The items come from inside, as what the body gives does.
+/// What a body uses of what is outside its block, each use of it. The items come from inside, as
+/// what the body gives does.
 #[cycle(uses)]
 fn used_outside<'a>(
     alloc: Global,

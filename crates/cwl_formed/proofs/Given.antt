@@ -4,7 +4,7 @@ use Rattle.std.specs.Cmp.Lexicographic.{slice_cmp}
 use Rattle.std.specs.List.{list_all, slice_get}
 use Rattle.std.specs.Ordering.{match_ordering}
 use Rattle.std.specs.Str.{bytes_eq}
-use Rattle.std.proofs.lemmas.Bool.{false≢true, and_from, and_parts, or_left, or_parts, or_right}
+use Rattle.std.proofs.lemmas.Bool.{false≢true, and_from, and_parts, or_left, or_parts, or_right, not-true}
 use Rattle.std.proofs.lemmas.Slice.Eq.{bytes_eq-Decides}
 use Rattle.serde_json.specs.Data.{Data, Members, no_members, member, put}
 use Rattle.serde_json.specs.Find.{get_member}
@@ -24,7 +24,7 @@ use Rattle.wdl_typed.specs.Lists.{are_distinct}
 use Rattle.wdl_typed.specs.Scope.{is_among, lookup, same_key}
 use Rattle.wdl_names.proofs.FreshLemmas.{fresh-distinct}
 use Rattle.flow_soundness.proofs.FlowSound.{is_typed}
-use Rattle.flow_laws.proofs.Checked.{each_passes, kept as kept_by}
+use Rattle.flow_laws.proofs.Checked.{kept as kept_by}
 use Rattle.json_values.specs.Ordered.{members_ordered}
 use Rattle.json_values.proofs.OrderLemmas.{put_ordered}
 use Rattle.cwl_model.specs.declared.process.Process.{Process}
@@ -37,18 +37,14 @@ use Rattle.cwl_image.specs.Subset.{broken_in, called_broken, flow_at, flow_broke
 use Rattle.cwl_emit.specs.Objects.{object_json, value_object, with_given}
 use Rattle.cwl_laws.specs.Premises.{AreInputs}
 use Rattle.cwl_laws.specs.Simulation.{object_of}
-use Rattle.cwl_laws.proofs.Bodies.{key_same}
-use Rattle.cwl_laws.proofs.Flows.{flow_rules}
+use Rattle.cwl_laws.proofs.Flows.{flow_rules, or_nothing as or_none}
 use Rattle.cwl_laws.proofs.Tools.{both_empty, inputs_are}
-use Rattle.cwl_laws.proofs.Whole.{bind_plain, given_fits, object_same}
+use Rattle.cwl_laws.proofs.Whole.{bind_plain, given_fits, object_same, nothing_broken}
 use Rattle.cwl_formed.specs.Given.{IsObject, ObjectsStand}
 use Rattle.cwl_formed.specs.Objects.{are_ids, in_order, input_in, inputs_at, inputs_in, inputs_of, is_id, object_in, under_id}
-use Rattle.cwl_formed.proofs.Lists.{negated}
 use Rattle.cwl_formed.proofs.Values.{value_back, value_ordered}
-use Rattle.cwl_formed.proofs.Whole.{nothing_broken}
-
-none_some : {A : Type 0} {x : A} {B : Type 0} → None ≡ Some x → B
-none_some h = cc
+use Rattle.wdl_base.proofs.Options.{all_at}
+use Rattle.wdl_flow.proofs.MarkLemmas.{same_key-true as key_same}
 
 -- ---- members that are put
 
@@ -108,7 +104,7 @@ module _ (structs : Structs) (all : List TInput) where
   given_got (b ∷ bs) ms k f d =
       let p = and_parts (bind_fits structs all b) (list_all (bind_fits structs all) bs) f in
       let q = and_parts (not (is_among b.key (keys bs))) (keys_distinct (keys bs)) d in
-      given_got bs (put b.key.first (value_object b.value) ms) k p.1 q.1 ∙ by_test (given_once b bs p.0 p.1 (negated (is_among b.key (keys bs)) q.0)) (bytes_eq b.key.first k) refl
+      given_got bs (put b.key.first (value_object b.value) ms) k p.1 q.1 ∙ by_test (given_once b bs p.0 p.1 (not-true (is_among b.key (keys bs)) q.0)) (bytes_eq b.key.first k) refl
     where
       later : Option Value
       later = value_at (object_of bs) k
@@ -204,10 +200,6 @@ input_typed structs (j ∷ is) h i c = by_case (first_or_later j is i c) (input_
     by_case (inl e) rest = subst (λ (k : TInput). (x : Value) → fits structs x k.ty ≡ true → has_type (type_of k.ty) x ≡ true) e h.0.typed
     by_case (inr d) rest = rest d
 
-or_none : {A : Type 0} (o : Option A) → or_else o None ≡ o
-or_none None = refl
-or_none (Some x) = refl
-
 -- The main workflow breaks no rule.
 main_kept : (lib : Library) (depth main : ℕ) (f : FlowDef) → slice_get lib.flows main ≡ Some f → reached lib (suc depth) main ≡ [] → flow_broken lib f ≡ []
 unfolding reached
@@ -245,7 +237,7 @@ module _ (p : Process) (structs : Structs) (is : List TInput) (is_inputs : input
 
 pub objects_stand : ObjectsStand
 objects_stand lib main f given checked subset there fit =
-    let t = is_typed lib f (each_passes (flow_typed lib) lib.flows main f (kept_by lib (Some main) checked).flows there) in
+    let t = is_typed lib f (all_at (flow_typed lib) lib.flows main f (kept_by lib (Some main) checked).flows there) in
     let rules = flow_rules lib f (main_kept lib 24 main f there (nothing_broken (broken_in lib main) subset)) in
     object_back (image lib main) lib.structs f.inputs (main_inputs lib 24 main f there) (inputs_are lib.structs [] (inputs_bound f.inputs) f.inputs t.inputs_are rules.inputs)
     (sym (fresh-distinct (input_names f.inputs)) ∙ t.inputs_new) given fit

@@ -1,13 +1,9 @@
 -- Tests of lists.
-use Rattle.std.proofs.Common.{◌≡◌, ◌⊎◌, inl, inr, Bool, true, false, not, List, [], ◌∷◌, ◌++◌, map, Contains, sym, subst, ap, ◌∙◌, refl}
-use Rattle.std.proofs.lemmas.Bool.{false≢true, and_from, and_parts}
+use Rattle.std.proofs.Common.{◌≡◌, ◌⊎◌, inl, inr, Bool, true, List, [], ◌∷◌, ◌++◌, map, Contains, sym, subst, ap, ◌∙◌, refl}
+use Rattle.std.proofs.lemmas.Bool.{and_from, and_parts}
 use Rattle.std.proofs.lemmas.List.Elements.{Contains-append_cases}
 use Rattle.std.specs.List.{list_all}
 use Rattle.cwl_model.proofs.Rounds.{first_is, first_or_later, later_is, none_is}
-
-pub negated : (b : Bool) → not b ≡ true → b ≡ false
-negated true h = absurd (false≢true h)
-negated false h = refl
 
 -- what passes one test passes another
 pub all_kept : {A : Type 0} (f g : A → Bool) (xs : List A) → ((x : A) → Contains xs x → f x ≡ true → g x ≡ true) → list_all f xs ≡ true → list_all g xs ≡ true

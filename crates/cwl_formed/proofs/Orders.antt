@@ -1,7 +1,7 @@
 -- The inputs that a text gives stand in the order of the inputs of the workflow, and so does what is read of their input object.
 use Rattle.std.proofs.Common.{◌≡◌, ℕ, Bool, true, false, not, cond, nat_lt, List, [], ◌∷◌, ◌++◌, length, map, Option, Some, None, Result, Ok, Err, sym, ap, ◌∙◌, subst, refl}
 use Rattle.std.specs.Str.{bytes_eq}
-use Rattle.std.proofs.lemmas.Bool.{and_parts, or_parts}
+use Rattle.std.proofs.lemmas.Bool.{and_parts, or_parts, not-true}
 use Rattle.std.proofs.lemmas.Slice.Eq.{bytes_eq-Decides}
 use Rattle.serde_json.specs.Data.{Data, Members}
 use Rattle.serde_json.specs.Find.{as_object}
@@ -15,10 +15,10 @@ use Rattle.wdl_typed.specs.Kept.{flow_typed}
 use Rattle.wdl_typed.specs.Lists.{are_distinct, has_name}
 use Rattle.wdl_names.proofs.FreshLemmas.{fresh-distinct}
 use Rattle.flow_soundness.proofs.FlowSound.{is_typed}
-use Rattle.flow_laws.proofs.Checked.{each_passes, kept as kept_by}
+use Rattle.flow_laws.proofs.Checked.{kept as kept_by}
 use Rattle.wdl_json.specs.declared.fault.InputFault.{InputFault}
-use Rattle.wdl_json.specs.declared.given.Given.{Given}
-use Rattle.wdl_json.specs.declared.given.Given.TheVariants.{LeftOut, Fitting, Misfit}
+use Rattle.wdl_json.specs.declared.given.GivenInput.{GivenInput}
+use Rattle.wdl_json.specs.declared.given.GivenInput.TheVariants.{LeftOut, Fitting, Misfit}
 use Rattle.wdl_json.specs.Inputs.{bad, bind_of, binds, from_json, from_object, given_of, inputs_in, json_in, misfit_fault, missing_fault, or_fault, unknown_fault}
 use Rattle.wdl_json.proofs.InputsFit.{bytes_fit}
 use Rattle.cwl_model.specs.Means.{Named, named, value_at}
@@ -27,7 +27,7 @@ use Rattle.cwl_laws.specs.Simulation.{object_of}
 use Rattle.cwl_formed.specs.Given.{TextsStand}
 use Rattle.cwl_formed.specs.Objects.{in_order, under_id}
 use Rattle.cwl_formed.proofs.Given.{main_inputs, objects_stand}
-use Rattle.cwl_formed.proofs.Lists.{negated}
+use Rattle.wdl_base.proofs.Options.{all_at}
 
 -- ---- the order
 
@@ -47,7 +47,7 @@ order_skips (i ∷ is) name x ns h =
         by_test false k = refl
 
 module _ (structs : Structs) (flow : List ℕ) (ms : Members) where
-  abbrev given : TInput → Given
+  abbrev given : TInput → GivenInput
   given = given_of structs flow ms
 
   abbrev bound : List TInput → List Bind
@@ -57,7 +57,7 @@ module _ (structs : Structs) (flow : List ℕ) (ms : Members) where
   not_bound [] name h = refl
   not_bound (i ∷ is) name h = let p = or_parts (bytes_eq i.name name) (has_name name (input_names is)) h in by_given (given i) p.0 (not_bound is name p.1)
     where
-      by_given : (g : Given) → bytes_eq i.name name ≡ false → value_at (object_of (bound is)) name ≡ None → value_at (object_of (bind_of i g ++ bound is)) name ≡ None
+      by_given : (g : GivenInput) → bytes_eq i.name name ≡ false → value_at (object_of (bound is)) name ≡ None → value_at (object_of (bind_of i g ++ bound is)) name ≡ None
       by_given LeftOut e rest = rest
       by_given (Fitting x) e rest = ap (λ w. cond w (Some x) (value_at (object_of (bound is)) name)) e ∙ rest
       by_given Misfit e rest = rest
@@ -66,7 +66,7 @@ module _ (structs : Structs) (flow : List ℕ) (ms : Members) where
   bound_in_order [] h = refl
   bound_in_order (i ∷ is) h =
       let p = and_parts (not (has_name i.name (input_names is))) (are_distinct (input_names is)) h in
-      by_given (given i) (negated (has_name i.name (input_names is)) p.0) (bound_in_order is p.1)
+      by_given (given i) (not-true (has_name i.name (input_names is)) p.0) (bound_in_order is p.1)
     where
       rest_of : List Named
       rest_of = object_of (bound is)
@@ -74,7 +74,7 @@ module _ (structs : Structs) (flow : List ℕ) (ms : Members) where
       left : has_name i.name (input_names is) ≡ false → in_order (map cwl_in is) rest_of ≡ rest_of → in_order (map cwl_in (i ∷ is)) rest_of ≡ rest_of
       left new rest = ap (λ o. under_id (cwl_in i) o ++ in_order (map cwl_in is) rest_of) (not_bound is i.name new) ∙ rest
 
-      by_given : (g : Given) → has_name i.name (input_names is) ≡ false → in_order (map cwl_in is) rest_of ≡ rest_of
+      by_given : (g : GivenInput) → has_name i.name (input_names is) ≡ false → in_order (map cwl_in is) rest_of ≡ rest_of
           → in_order (map cwl_in (i ∷ is)) (object_of (bind_of i g ++ bound is)) ≡ object_of (bind_of i g ++ bound is)
       by_given LeftOut new rest = left new rest
       by_given (Fitting x) new rest =
@@ -110,7 +110,7 @@ some_binds structs f text env h = by_length (nat_lt 1048576 (length text)) h
 
 pub texts_stand : TextsStand
 texts_stand lib main f text given checked subset there h =
-    let t = is_typed lib f (each_passes (flow_typed lib) lib.flows main f (kept_by lib (Some main) checked).flows there) in
+    let t = is_typed lib f (all_at (flow_typed lib) lib.flows main f (kept_by lib (Some main) checked).flows there) in
     let differ = sym (fresh-distinct (input_names f.inputs)) ∙ t.inputs_new in
     let o = objects_stand lib main f given checked subset there (bytes_fit lib.structs f text given differ h) in
     let b = some_binds lib.structs f text given h in

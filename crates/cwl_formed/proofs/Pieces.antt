@@ -1,6 +1,6 @@
 -- The argument of a tool is made of joined pieces.
 use Rattle.std.proofs.Common.{◌≡◌, ℕ, ◌==◌, Bool, true, false, cond, not, ◌&&◌, ◌||◌, List, [], ◌∷◌, ◌++◌, map, Option, Some, None, sym, ap, ◌∙◌, refl}
-use Rattle.std.proofs.lemmas.Bool.{false≢true, and_from, and_parts, or_from, or_parts}
+use Rattle.std.proofs.lemmas.Bool.{false≢true, and_from, and_parts, or_from, or_parts, not-true}
 use Rattle.std.specs.List.{list_all}
 use Rattle.wdl_base.specs.declared.name.Key.{Key}
 use Rattle.wdl_base.specs.Names.{is_name}
@@ -22,7 +22,6 @@ use Rattle.cwl_image.specs.Image.{argument, chars_before, hole_by, hole_piece, i
 use Rattle.cwl_image.specs.Subset.{are_input_holes, command_marks, is_input_hole, is_plain_choice, is_scalar_name, is_verbatim, opens as marks_open, some_scalar}
 use Rattle.cwl_emit.specs.Formed.{is_plain}
 use Rattle.cwl_formed.specs.Plain.{piece_plain}
-use Rattle.cwl_formed.proofs.Lists.{negated}
 
 abbrev shown : List ℕ → List (Option ℕ)
 shown s = map (λ (c : ℕ). Some c) s
@@ -45,7 +44,7 @@ plain_front (c ∷ s) ms h n =
     let m = or_parts (c == 0) (has_nul s) n in
     let r = by_next s q.1 in
     and_from (not (is_refused c s) && not (opens c s)) (are_plain s)
-    (and_from (not (is_refused c s)) (not (opens c s)) (ap not (or_from (c == 0 || c == 92) (c == 36 && begins_with 123 s) (or_from (c == 0) (c == 92) m.0 (negated (c == 92) q.0)) r.0)) (ap not r.1))
+    (and_from (not (is_refused c s)) (not (opens c s)) (ap not (or_from (c == 0 || c == 92) (c == 36 && begins_with 123 s) (or_from (c == 0) (c == 92) m.0 (not-true (c == 92) q.0)) r.0)) (ap not r.1))
     (plain_front s ms p.1 m.1)
   where
     none : (b : Bool) → (b && false) ≡ false
@@ -85,20 +84,20 @@ chars_joined : (s : List ℕ) (ps : List Piece) (ms : List (Option ℕ)) → is_
 chars_joined [] ps ms v n j = j
 chars_joined (c ∷ s) [] ms v n j =
     let p = and_parts (is_plain (c ∷ s)) true n in
-    (ms, refl, and_from (is_piece (piece.Chars (c ∷ s)) && true) true (and_from (are_plain (c ∷ s)) true (plain_front (c ∷ s) ms v (negated (has_nul (c ∷ s)) p.0)) refl) refl)
+    (ms, refl, and_from (is_piece (piece.Chars (c ∷ s)) && true) true (and_from (are_plain (c ∷ s)) true (plain_front (c ∷ s) ms v (not-true (has_nul (c ∷ s)) p.0)) refl) refl)
 chars_joined (c ∷ s) (piece.Chars t ∷ ps) ms v n j =
     let p = and_parts (is_plain ((c ∷ s) ++ t)) (list_all piece_plain ps) n in
     let q = and_parts (is_piece (piece.Chars t) && not (begins_with_chars ps)) (are_pieces ps) j.2 in
     let r = and_parts (is_piece (piece.Chars t)) (not (begins_with_chars ps)) q.0 in
     let same : shown (c ∷ s) ++ ms ≡ shown ((c ∷ s) ++ t) ++ j.0 = ap (λ ns. shown (c ∷ s) ++ ns) j.1 ∙ sym (shown_both (c ∷ s) t j.0) in
-    let whole = plain_front ((c ∷ s) ++ t) j.0 (ap is_verbatim (sym same) ∙ v) (negated (has_nul ((c ∷ s) ++ t)) p.0) in
+    let whole = plain_front ((c ∷ s) ++ t) j.0 (ap is_verbatim (sym same) ∙ v) (not-true (has_nul ((c ∷ s) ++ t)) p.0) in
     (j.0, same, and_from (are_plain ((c ∷ s) ++ t) && not (begins_with_chars ps)) (are_pieces ps) (and_from (are_plain ((c ∷ s) ++ t)) (not (begins_with_chars ps)) whole r.1) q.1)
 chars_joined (c ∷ s) (piece.Input m ∷ ps) ms v n j =
     let p = and_parts (is_plain (c ∷ s)) (list_all piece_plain (piece.Input m ∷ ps)) n in
-    (ms, refl, and_from (are_plain (c ∷ s) && true) (are_pieces (piece.Input m ∷ ps)) (and_from (are_plain (c ∷ s)) true (plain_front (c ∷ s) ms v (negated (has_nul (c ∷ s)) p.0)) refl) j.2)
+    (ms, refl, and_from (are_plain (c ∷ s) && true) (are_pieces (piece.Input m ∷ ps)) (and_from (are_plain (c ∷ s)) true (plain_front (c ∷ s) ms v (not-true (has_nul (c ∷ s)) p.0)) refl) j.2)
 chars_joined (c ∷ s) (piece.InputPath m ∷ ps) ms v n j =
     let p = and_parts (is_plain (c ∷ s)) (list_all piece_plain (piece.InputPath m ∷ ps)) n in
-    (ms, refl, and_from (are_plain (c ∷ s) && true) (are_pieces (piece.InputPath m ∷ ps)) (and_from (are_plain (c ∷ s)) true (plain_front (c ∷ s) ms v (negated (has_nul (c ∷ s)) p.0)) refl) j.2)
+    (ms, refl, and_from (are_plain (c ∷ s) && true) (are_pieces (piece.InputPath m ∷ ps)) (and_from (are_plain (c ∷ s)) true (plain_front (c ∷ s) ms v (not-true (has_nul (c ∷ s)) p.0)) refl) j.2)
 
 -- the pieces behind characters hold no NUL either
 plain_behind : (s : List ℕ) (ps : List Piece) → list_all piece_plain (chars_before s ps) ≡ true → list_all piece_plain ps ≡ true
@@ -106,7 +105,7 @@ plain_behind [] ps h = h
 plain_behind (c ∷ s) [] h = refl
 plain_behind (c ∷ s) (piece.Chars t ∷ ps) h =
     let p = and_parts (is_plain ((c ∷ s) ++ t)) (list_all piece_plain ps) h in
-    and_from (is_plain t) (list_all piece_plain ps) (ap not (nul_behind (c ∷ s) t (negated (has_nul ((c ∷ s) ++ t)) p.0))) p.1
+    and_from (is_plain t) (list_all piece_plain ps) (ap not (nul_behind (c ∷ s) t (not-true (has_nul ((c ∷ s) ++ t)) p.0))) p.1
 plain_behind (c ∷ s) (piece.Input m ∷ ps) h = (and_parts (is_plain (c ∷ s)) (list_all piece_plain (piece.Input m ∷ ps)) h).1
 plain_behind (c ∷ s) (piece.InputPath m ∷ ps) h = (and_parts (is_plain (c ∷ s)) (list_all piece_plain (piece.InputPath m ∷ ps)) h).1
 

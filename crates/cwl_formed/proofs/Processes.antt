@@ -1,5 +1,5 @@
 -- Processes that are formed where their texts are plain.
-use Rattle.std.proofs.Common.{◌≡◌, Bool, true, false, cond, ◌&&◌, List, [], ◌∷◌, map, Option, Some, None, Contains, sym, ap, ◌∙◌, subst, refl}
+use Rattle.std.proofs.Common.{◌≡◌, Bool, true, ◌&&◌, List, [], ◌∷◌, map, Option, Some, None, Contains, sym, ap, ◌∙◌, subst, refl}
 use Rattle.std.proofs.lemmas.Bool.{and_from, and_parts}
 use Rattle.std.specs.List.{list_all}
 use Rattle.wdl_base.specs.declared.name.Key.{Key}
@@ -20,7 +20,7 @@ use Rattle.cwl_emit.specs.Formed.{flow_out_formed, input_formed, is_formed, is_p
 use Rattle.cwl_emit.specs.Reading.{flow}
 use Rattle.cwl_formed.specs.Plain.{flow_out_plain, input_plain, link_plain, plain_step, process_plain_at, step_plain, texts_are_plain, tool_plain, wire_plain}
 use Rattle.cwl_formed.proofs.Lists.{all_kept, map_takes}
-use Rattle.wdl_typed.specs.Scope.{same_key}
+use Rattle.cwl_laws.proofs.Blocks.{linkage_in as linked_in}
 
 -- formed, where its texts are plain
 abbrev pub Forms : Process → Type 0
@@ -40,17 +40,6 @@ link_kept (link.Out step out) h p =
 
 abbrev pub AreClear : Scope → Type 0
 AreClear scope = (l : Linkage) → Contains scope l → IsClear l.link
-
-linked_in : (scope : Scope) (key : Key) (l : Linkage) → linkage_at scope key ≡ Some l → Contains scope l
-linked_in [] key l h = cc
-linked_in (m ∷ scope) key l h = by_test (same_key m.key key) h (λ e. linked_in scope key l e)
-  where
-    some_same : Some m ≡ Some l → m ≡ l
-    some_same e = cc
-
-    by_test : (b : Bool) → cond b (Some m) (linkage_at scope key) ≡ Some l → (linkage_at scope key ≡ Some l → Contains scope l) → Contains (m ∷ scope) l
-    by_test true e rest = subst (λ z. Contains (m ∷ scope) z) (some_same e) (first_is m scope)
-    by_test false e rest = later_is m scope l (rest e)
 
 pub source_clear : (scope : Scope) → AreClear scope → (key : Key) → IsClear (link_or (linkage_at scope key))
 source_clear scope h key = by_link (linkage_at scope key) refl

@@ -2,6 +2,7 @@
 use Rattle.std.proofs.Common.{◌≡◌, ℕ, ◌⊎◌, inl, inr, Bool, true, false, cond, ◌&&◌, List, [], ◌∷◌, ◌++◌, map, Option, Some, None, option_and_then, Contains, sym, ap, ◌∙◌, subst, refl}
 use Rattle.std.proofs.lemmas.Bool.{false≢true, and_parts}
 use Rattle.std.proofs.lemmas.List.Elements.{Contains-append_right}
+use Rattle.std.proofs.lemmas.Option.{none-some}
 use Rattle.wdl_base.specs.declared.name.Key.{Key}
 use Rattle.wdl_base.specs.Names.{is_name}
 use Rattle.wdl_value.specs.declared.ty.Ty.{Ty, Ty-F, out-Ty}
@@ -18,7 +19,6 @@ use Rattle.wdl_typed.specs.declared.task.TDecl.{TDecl}
 use Rattle.wdl_typed.specs.Bodies.{Giving, Library, Seen, Signature, arg_names, body_gives, body_step, gives, if_over, joined, optional, retyped, scatter_over, signature, statement_step, with_item}
 use Rattle.wdl_typed.specs.Declarations.{bound, decl_names, in_body, plain_key}
 use Rattle.wdl_typed.specs.Scope.{same_key, type_in}
-use Rattle.flow_soundness.proofs.GivenKeys.{some_inside}
 use Rattle.cwl_model.specs.declared.process.CwlStep.{CwlStep}
 use Rattle.cwl_model.specs.declared.process.FlowOut.{FlowOut}
 use Rattle.cwl_model.specs.declared.process.Process.{Process}
@@ -31,7 +31,6 @@ use Rattle.cwl_image.specs.Image.{Draft, Linkage, Output, Scope, Targets, block_
 use Rattle.cwl_image.specs.Named.{all_true, are_names, named_step, statement_named}
 use Rattle.cwl_image.specs.Subset.{Walk, block_broken, body_walk, called_broken, called_step, scatter_at, scatter_over as scatter_walk, unless, walk, walk_body, walk_step}
 use Rattle.cwl_laws.specs.Parts.{OutsTyped}
-use Rattle.cwl_laws.proofs.Bodies.{key_same}
 use Rattle.cwl_laws.proofs.Covers.{by_side, outer_in}
 use Rattle.cwl_laws.proofs.Elements.{map_has, out_back}
 use Rattle.cwl_laws.proofs.Splits.{split}
@@ -42,9 +41,8 @@ use Rattle.cwl_formed.specs.Plain.{input_plain}
 use Rattle.cwl_formed.proofs.Lists.{all_at, either_side, first_or_rest, map_takes}
 use Rattle.cwl_formed.proofs.Processes.{AreClear, Forms, IsClear, StepForms, flow_kept, step_kept}
 use Rattle.cwl_formed.proofs.Slashes.{if_lacks, name_lacks, output_lacks, scatter_lacks}
-
-none_some : {A : Type 0} {x : A} {B : Type 0} → None ≡ Some x → B
-none_some h = cc
+use Rattle.wdl_base.proofs.Options.{then_parts}
+use Rattle.wdl_flow.proofs.MarkLemmas.{same_key-true as key_same}
 
 -- the ids of these names have no slash
 abbrev pub Slashless : List Bound → Type 0
@@ -81,7 +79,7 @@ item_then names item u word known k h = by_case (by_side names (bound item u ∷
   where
     by_test : (b : Bool) → same_key (plain_key item) k ≡ b → cond b (Some u) None ≡ Some h.0 → lacks 47 (id_of k) ≡ true
     by_test true e q = subst (λ (z : Key). lacks 47 (id_of z) ≡ true) (key_same (plain_key item) k e) (name_lacks item word)
-    by_test false e q = none_some q
+    by_test false e q = absurd (none-some _ q)
 
     by_case : (type_in names k ≡ Some h.0) ⊎ ((type_in names k ≡ None) × (type_in (bound item u ∷ []) k ≡ Some h.0)) → lacks 47 (id_of k) ≡ true
     by_case (inl q) = known k (h.0, q)
@@ -189,7 +187,7 @@ module _ (lib : Library) (processes : Targets) (declared : List (List ℕ)) (tar
     scatter_holds : statement_step lib (map-Statement Statement Giving (gives lib) (plain (layer.Scatter b))) seen ≡ Some given
         → Fine (draft_step lib processes (map-Statement Statement Draft (draft lib processes) (plain (layer.Scatter b))))
     scatter_holds typed =
-        let p = some_inside (in_body lib.structs seen.names b.over) (λ t. scatter_over b.item (body_step (map (gives lib) (firsts b.body))) seen (out-Ty t)) given typed in
+        let p = then_parts (λ t. scatter_over b.item (body_step (map (gives lib) (firsts b.body))) seen (out-Ty t)) (in_body lib.structs seen.names b.over) given typed in
         by_layer p.0 p.1 (out-Ty p.0) refl p.2
       where
         rules : (scatter_walk b.item (body_walk (map (walk lib declared) (firsts b.body))) seen.names (in_body lib.structs seen.names b.over)).broken ≡ []
@@ -198,11 +196,11 @@ module _ (lib : Library) (processes : Targets) (declared : List (List ℕ)) (tar
         by_layer : (t : Ty) → in_body lib.structs seen.names b.over ≡ Some t → (z : Ty-F Ty) → out-Ty t ≡ z → scatter_over b.item (body_step (map (gives lib) (firsts b.body))) seen z ≡ Some given
             → Fine (draft_step lib processes (map-Statement Statement Draft (draft lib processes) (plain (layer.Scatter b))))
         by_layer t is (type.Array u some) e h =
-            let q = some_inside (body_step (map (gives lib) (firsts b.body)) (with_item seen b.item u)) (λ s. Some (retyped (λ w. ty.Array w some) s)) given h in
+            let q = then_parts (λ s. Some (retyped (λ w. ty.Array w some) s)) (body_step (map (gives lib) (firsts b.body)) (with_item seen b.item u)) given h in
             scatter_fine u q.0 q.1
             (ap (λ w. (scatter_at b.item (body_walk (map (walk lib declared) (firsts b.body))) seen.names w).broken) (sym e)
             ∙ ap (λ o. (scatter_walk b.item (body_walk (map (walk lib declared) (firsts b.body))) seen.names o).broken) (sym is) ∙ rules)
-        by_layer t is z e h = none_some h
+        by_layer t is z e h = absurd (none-some _ h)
 
   -- ---- conditions
 
@@ -234,13 +232,13 @@ module _ (lib : Library) (processes : Targets) (declared : List (List ℕ)) (tar
 
     if_holds : statement_step lib (map-Statement Statement Giving (gives lib) (plain (layer.If b))) seen ≡ Some given → Fine (draft_step lib processes (map-Statement Statement Draft (draft lib processes) (plain (layer.If b))))
     if_holds typed =
-        let p = some_inside (in_body lib.structs seen.names b.cond) (if_over (body_step (map (gives lib) (firsts b.body))) seen) given typed in
+        let p = then_parts (if_over (body_step (map (gives lib) (firsts b.body))) seen) (in_body lib.structs seen.names b.cond) given typed in
         by_bool (is_bool p.0) p.2
       where
         by_bool : (w : Bool) → cond w (option_and_then (λ s. Some (retyped optional s)) (body_step (map (gives lib) (firsts b.body)) seen)) None ≡ Some given
             → Fine (draft_step lib processes (map-Statement Statement Draft (draft lib processes) (plain (layer.If b))))
-        by_bool false h = none_some h
-        by_bool true h = let q = some_inside (body_step (map (gives lib) (firsts b.body)) seen) (λ s. Some (retyped optional s)) given h in if_fine q.0 q.1
+        by_bool false h = absurd (none-some _ h)
+        by_bool true h = let q = then_parts (λ s. Some (retyped optional s)) (body_step (map (gives lib) (firsts b.body)) seen) given h in if_fine q.0 q.1
 
   -- ---- each form
 

@@ -2,6 +2,7 @@
 use Rattle.std.proofs.Common.{◌≡◌, Bool, true, false, cond, not, ◌&&◌, List, [], ◌∷◌, ◌++◌, map, Option, Some, None, Contains, subst, refl}
 use Rattle.std.proofs.lemmas.Bool.{and_from, and_parts}
 use Rattle.std.specs.List.{list_all, list_any}
+use Rattle.std.proofs.lemmas.Option.{none-some}
 use Rattle.wdl_base.specs.declared.name.Key.{Key}
 use Rattle.wdl_base.specs.Names.{is_name}
 use Rattle.wdl_value.specs.declared.ty.Ty.{Ty}
@@ -21,7 +22,6 @@ use Rattle.cwl_image.specs.Image.{Linkage, argument, codes_of, cwl_in, id_of, in
 use Rattle.cwl_image.specs.Named.{are_names, task_named}
 use Rattle.cwl_image.specs.Subset.{are_codes, are_input_holes, command_marks, each_broken, input_broken, is_command, is_dark, is_default, is_verbatim, run_allowed, task_broken, task_scope, unless}
 use Rattle.cwl_laws.specs.Premises.{AreInputs, IsPreset}
-use Rattle.cwl_laws.proofs.Bodies.{key_same}
 use Rattle.cwl_laws.proofs.Elements.{map_has}
 use Rattle.cwl_laws.proofs.Tools.{both_empty, rule_holds, rules_of, task_inputs}
 use Rattle.cwl_emit.specs.Formed.{codes_formed, input_formed, is_plain, lacks, preset_formed, tool_out_formed}
@@ -34,15 +34,13 @@ use Rattle.cwl_formed.proofs.Processes.{AreClear, Forms, IsClear, tool_kept}
 use Rattle.cwl_formed.proofs.Slashes.{name_lacks}
 use Rattle.cwl_formed.proofs.Sources.{Slashless}
 use Rattle.cwl_model.specs.declared.process.Process.TheVariants as process
-
-none_some : {A : Type 0} {x : A} {B : Type 0} → None ≡ Some x → B
-none_some h = cc
+use Rattle.wdl_flow.proofs.MarkLemmas.{same_key-true as key_same}
 
 -- ---- names of inputs
 
 -- what is seen among inputs is one of them
 input_seen : (is : List TInput) (k : Key) (t : Ty) → type_in (inputs_bound is) k ≡ Some t → (i : TInput) × Contains is i × (plain_key i.name ≡ k)
-input_seen [] k t h = none_some h
+input_seen [] k t h = absurd (none-some _ h)
 input_seen (i ∷ is) k t h = by_test (same_key (plain_key i.name) k) refl h (λ e. input_seen is k t e)
   where
     by_test : (b : Bool) → same_key (plain_key i.name) k ≡ b → cond b (Some i.ty) (type_in (inputs_bound is) k) ≡ Some t → (type_in (inputs_bound is) k ≡ Some t → (j : TInput) × Contains is j × (plain_key j.name ≡ k))

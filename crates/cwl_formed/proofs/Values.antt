@@ -1,15 +1,14 @@
 -- Values of a type, as they are written in an input object and as they are read.
-use Rattle.std.proofs.Common.{◌≡◌, ℤ, pos, negsuc, true, cond, List, [], ◌∷◌, map, Some, None, option_map, option_and_then, sym, ap, ◌∙◌, subst, refl}
+use Rattle.std.proofs.Common.{◌≡◌, true, List, [], ◌∷◌, map, Some, option_map, option_and_then, sym, ap, ◌∙◌, subst, refl}
 use Rattle.std.proofs.lemmas.Bool.{false≢true, and_from, and_parts}
 use Rattle.std.specs.List.{list_all}
+use Rattle.std.proofs.lemmas.Option.{none-some}
 use Rattle.serde_json.specs.Data.{Data, null, Members, no_members}
-use Rattle.serde_json.specs.Find.{of_integer}
 use Rattle.serde_json.specs.View.{items_of}
 use Rattle.wdl_value.specs.declared.value.Field.{Field}
 use Rattle.wdl_value.specs.declared.value.Value.{Value, Value-F, fold-roll-Value, ind-Value, map-Value, out-Value, roll-Value, roll-out-Value}
 use Rattle.wdl_value.specs.declared.value.Value.TheOpen as value
 use Rattle.wdl_value.specs.declared.value.Value.TheVariants as v
-use Rattle.wdl_value.specs.Fits.{is_int}
 use Rattle.wdl_value.proofs.ValueLayers.{Known, first_fields, firsts, plain}
 use Rattle.json_values.specs.Ordered.{is_ordered, items_ordered, members_ordered}
 use Rattle.json_values.proofs.OrderLemmas.{put_ordered}
@@ -17,8 +16,9 @@ use Rattle.cwl_model.specs.declared.ty.CwlTy.{CwlTy, CwlTy-F, fold-roll-CwlTy, i
 use Rattle.cwl_model.specs.declared.ty.CwlTy.TheOpen as type
 use Rattle.cwl_model.specs.Means.{Test, has_type, typed_at}
 use Rattle.cwl_emit.specs.Objects.{fields_put, object_step, value_object}
-use Rattle.cwl_emit.specs.Reading.{all_of, number_of}
+use Rattle.cwl_emit.specs.Reading.{all_of}
 use Rattle.cwl_formed.specs.Objects.{Reader, typed_in, value_in}
+use Rattle.cwl_emit.proofs.Formed.{int_back}
 
 -- ---- what is written is read
 
@@ -35,13 +35,10 @@ module _ (Holds : CwlTy → Type 0) where
   abbrev plain_type : CwlTy-F Child → CwlTy-F CwlTy
   plain_type = map-CwlTy Child CwlTy (λ (k : Child). k.0)
 
-none_some : {A : Type 0} {x : A} {B : Type 0} → None ≡ Some x → B
-none_some h = cc
-
 -- `null` is read as nothing else.
 null_layer : (y : CwlTy-F (Child NullOnly)) (x : Value) → typed_in (map-CwlTy CwlTy Reader value_in (plain_type NullOnly y)) null ≡ Some x → Some v.Absent ≡ Some x
 null_layer (type.Null k) x h = h
-null_layer y x h = none_some h
+null_layer y x h = absurd (none-some _ h)
 
 null_only : (t : CwlTy) → NullOnly t
 null_only = ind-CwlTy NullOnly (λ l y is. subst (λ (z : CwlTy-F CwlTy). NullOnly (roll-CwlTy z)) is (λ x h.
@@ -50,10 +47,6 @@ null_only = ind-CwlTy NullOnly (λ l y is. subst (λ (z : CwlTy-F CwlTy). NullOn
 null_back : (t : CwlTy) (d : Data) (x : Value) → value_in t d ≡ Some x → typed_in (type.Null (value_in t)) d ≡ Some x
 null_back t null x h = null_only t x h
 null_back t d x h = h
-
-int_back : (n : ℤ) → is_int n ≡ true → number_of (of_integer n) ≡ Some (v.Int n)
-int_back (pos n) h = ap (λ b. cond b (Some (v.Int (pos n))) None) h
-int_back (negsuc n) h = ap (λ b. cond b (Some (v.Int (negsuc n))) None) h
 
 list_back : (k : Child Back) (xs : List Value) → list_all (has_type k.0) xs ≡ true → all_of (value_in k.0) (items_of (map value_object xs)) ≡ Some xs
 list_back k [] h = refl

@@ -1,6 +1,6 @@
 -- The process of a checked form of the subset is formed, where its texts are plain.
-use Rattle.std.proofs.Common.{◌≡◌, ℕ, zero, suc, true, ◌&&◌, List, [], ◌∷◌, ◌++◌, map, Option, Some, None, subst, refl}
-use Rattle.std.proofs.lemmas.Bool.{false≢true, and_parts}
+use Rattle.std.proofs.Common.{◌≡◌, ℕ, zero, suc, true, ◌&&◌, [], ◌++◌, map, Option, Some, None, subst, refl}
+use Rattle.std.proofs.lemmas.Bool.{and_parts}
 use Rattle.std.specs.List.{list_all, slice_get}
 use Rattle.wdl_base.specs.Names.{is_name}
 use Rattle.wdl_typed.specs.declared.flow.FlowDef.{FlowDef}
@@ -12,13 +12,11 @@ use Rattle.wdl_typed.specs.Bodies.{Library, Signature, flow_signature, signature
 use Rattle.wdl_typed.specs.Declarations.{decl_names, input_names, inputs_bound, task_typed}
 use Rattle.wdl_typed.specs.Kept.{flow_typed, inputs_seen}
 use Rattle.flow_soundness.proofs.FlowSound.{is_typed}
-use Rattle.flow_soundness.proofs.GivenKeys.{some_inside}
-use Rattle.flow_laws.proofs.Checked.{IsKept, each_passes, kept as kept_by}
+use Rattle.flow_laws.proofs.Checked.{IsKept, kept as kept_by}
 use Rattle.cwl_model.specs.declared.process.FlowOut.{FlowOut}
-use Rattle.cwl_image.specs.declared.broken.Broken.{Broken}
 use Rattle.cwl_image.specs.Image.{Linkage, body_links, body_steps, cwl_in, draft, flow_at as flow_process_at, flow_image, flow_of, flow_out, input_linkage, reference, target_by, task_process}
 use Rattle.cwl_image.specs.Named.{are_names, body_named, flow_named, task_named}
-use Rattle.cwl_image.specs.Subset.{broken_in, called_broken, declared_by, flow_at, flow_broken, is_empty, reached, target_broken, task_at}
+use Rattle.cwl_image.specs.Subset.{broken_in, called_broken, declared_by, flow_at, flow_broken, reached, target_broken, task_at}
 use Rattle.cwl_laws.proofs.Elements.{map_has}
 use Rattle.cwl_laws.proofs.Flows.{flow_rules}
 use Rattle.cwl_laws.proofs.Tools.{both_empty, inputs_are}
@@ -27,25 +25,23 @@ use Rattle.cwl_formed.proofs.Lists.{all_behind, either_side}
 use Rattle.cwl_formed.proofs.Processes.{Forms, IsClear, empty_kept, flow_kept, output_clear}
 use Rattle.cwl_formed.proofs.Sources.{body_is_fine}
 use Rattle.cwl_formed.proofs.Tools.{inputs_clear, inputs_kept, inputs_slashless, task_kept}
-
-pub nothing_broken : (bs : List Broken) → is_empty bs ≡ true → bs ≡ []
-nothing_broken [] h = refl
-nothing_broken (b ∷ bs) h = absurd (false≢true h)
+use Rattle.wdl_base.proofs.Options.{all_at, then_parts}
+use Rattle.cwl_laws.proofs.Whole.{nothing_broken}
 
 module _ (lib : Library) (kept : IsKept lib) (tasks : list_all task_named lib.tasks ≡ true) (flows : list_all flow_named lib.flows ≡ true) where
   -- the outputs of what is called have names
   outputs_named : (t : Target) (s : Signature) → signature lib t ≡ Some s → are_names (decl_names s.outputs) ≡ true
   outputs_named (target.Task k) s h =
-      let p = some_inside (slice_get lib.tasks k) (λ (t : TaskDef). Some (task_signature t)) s h in
+      let p = then_parts (λ (t : TaskDef). Some (task_signature t)) (slice_get lib.tasks k) s h in
       subst (λ (z : Signature). are_names (decl_names z.outputs) ≡ true) (same (task_signature p.0) s p.2)
-      (all_behind is_name (input_names p.0.inputs ++ decl_names p.0.privates) (decl_names p.0.outputs) (each_passes task_named lib.tasks k p.0 tasks p.1))
+      (all_behind is_name (input_names p.0.inputs ++ decl_names p.0.privates) (decl_names p.0.outputs) (all_at task_named lib.tasks k p.0 tasks p.1))
     where
       same : (a b : Signature) → Some a ≡ Some b → a ≡ b
       same a b e = cc
   outputs_named (target.Flow k) s h =
-      let p = some_inside (slice_get lib.flows k) (λ (f : FlowDef). Some (flow_signature f)) s h in
+      let p = then_parts (λ (f : FlowDef). Some (flow_signature f)) (slice_get lib.flows k) s h in
       subst (λ (z : Signature). are_names (decl_names z.outputs) ≡ true) (same (flow_signature p.0) s p.2)
-      (and_parts (are_names (input_names p.0.inputs) && body_named p.0.body) (are_names (decl_names p.0.outputs)) (each_passes flow_named lib.flows k p.0 flows p.1)).1
+      (and_parts (are_names (input_names p.0.inputs) && body_named p.0.body) (are_names (decl_names p.0.outputs)) (all_at flow_named lib.flows k p.0 flows p.1)).1
     where
       same : (a b : Signature) → Some a ≡ Some b → a ≡ b
       same a b e = cc
@@ -57,9 +53,9 @@ module _ (lib : Library) (kept : IsKept lib) (tasks : list_all task_named lib.ta
       → Forms (flow_of lib (target_by lib (flow_image lib depth)) f)
   flow_made depth k f there broken called made =
       let processes = target_by lib (flow_image lib depth) in
-      let t = is_typed lib f (each_passes (flow_typed lib) lib.flows k f kept.flows there) in
+      let t = is_typed lib f (all_at (flow_typed lib) lib.flows k f kept.flows there) in
       let rules = flow_rules lib f broken in
-      let named = each_passes flow_named lib.flows k f flows there in
+      let named = all_at flow_named lib.flows k f flows there in
       let words = and_parts (are_names (input_names f.inputs)) (body_named f.body) (and_parts (are_names (input_names f.inputs) && body_named f.body) (are_names (decl_names f.outputs)) named).0 in
       let start = map input_linkage f.inputs in
       let ds = map (draft lib processes) f.body in
@@ -74,7 +70,7 @@ module _ (lib : Library) (kept : IsKept lib) (tasks : list_all task_named lib.ta
 
   task_made : (k : ℕ) (o : Option TaskDef) → slice_get lib.tasks k ≡ o → task_at lib.structs o ≡ [] → Forms (task_process o)
   task_made k None there broken = empty_kept
-  task_made k (Some t) there broken = task_kept lib.structs t (each_passes (task_typed lib.structs) lib.tasks k t kept.tasks there) broken (each_passes task_named lib.tasks k t tasks there)
+  task_made k (Some t) there broken = task_kept lib.structs t (all_at (task_typed lib.structs) lib.tasks k t kept.tasks there) broken (all_at task_named lib.tasks k t tasks there)
 
   -- workflows that call each other to a depth
   abbrev FlowsAt : ℕ → Type 0

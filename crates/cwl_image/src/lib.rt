@@ -1,5 +1,5 @@
-//! The CWL process that stands for a checked form of the subset, and the rules of the subset: definitions, and the types
-//! of which they speak.
+//! The CWL process that stands for a checked form of the subset, and the rules of the subset:
+//! definitions, and the types of which they speak.
 #![tactic(auto)]
 
 mod broken;

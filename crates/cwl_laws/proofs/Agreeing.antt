@@ -1,5 +1,5 @@
 -- Each statement of a body of the subset agrees with its step, whatever stands in it.
-use Rattle.std.proofs.Common.{◌≡◌, ℕ, suc, ◌≤◌, true, false, List, [], ◌∷◌, ◌++◌, map, Some, None, Contains, arith, sym, ap, subst, refl}
+use Rattle.std.proofs.Common.{◌≡◌, ℕ, suc, ◌≤◌, true, false, List, [], ◌∷◌, ◌++◌, map, Some, Contains, arith, sym, ap, subst, refl}
 use Rattle.std.proofs.lemmas.Bool.{false≢true, and_parts}
 use Rattle.wdl_base.specs.Names.{is_name}
 use Rattle.wdl_typed.specs.declared.flow.Statement.{Statement, Statement-F, fold-Statement, fold-roll-Statement, ind-Statement, map-Statement, roll-Statement}
@@ -9,7 +9,7 @@ use Rattle.wdl_typed.specs.declared.flow.TCall.{TCall}
 use Rattle.wdl_typed.specs.declared.task.TDecl.{TDecl}
 use Rattle.wdl_typed.specs.Bodies.{Seen, Signature, arg_names, body_nests, call_by, signature, target_nests}
 use Rattle.wdl_typed.specs.Flow.{Callee, Part, Run, call_of, run_of_part, statement_step}
-use Rattle.flow_soundness.proofs.GivenKeys.{some_inside, when_some}
+use Rattle.flow_soundness.proofs.GivenKeys.{when_some}
 use Rattle.flow_laws.proofs.Checked.{OutputsDiffer}
 use Rattle.cwl_model.specs.declared.process.Process.{Process}
 use Rattle.cwl_image.specs.declared.broken.Broken.{Broken}
@@ -25,9 +25,7 @@ use Rattle.cwl_laws.proofs.Nested.{if_done, plain, scatter_done}
 use Rattle.cwl_laws.proofs.Stands.{AreSimple, Layer, opened}
 use Rattle.cwl_laws.proofs.Tools.{both_empty, rule_holds}
 use Rattle.cwl_laws.proofs.Typings.{level_below, outputs_simple}
-
-none_some : {A : Type 0} {x : A} {B : Type 0} → None ≡ Some x → B
-none_some h = cc
+use Rattle.wdl_base.proofs.Options.{then_parts}
 
 -- what is known of a call at a level: it agrees with its step, and its outputs are of the types of the subset
 pub record CallDone (r : Run) (callee : Callee) (flows : ℕ → Process) (c : TCall) (seen : Seen) (scope : Scope) : Type 0 where
@@ -58,7 +56,7 @@ module _ (r : Run) (callee : Callee) (flows : ℕ → Process) (declared_in : Li
   call_done c n all taken seen first scope le l =
       let v = level_below r.library.flows n (layer.Call c) l.nested refl in
       let d = calls v.0 c seen first scope (raised n v.0 depth v.1 le) made l.called v.2 in
-      let p = some_inside (signature r.library c.target) (call_by r.library.structs c seen) first l.typed in
+      let p = then_parts (call_by r.library.structs c seen) (signature r.library c.target) first l.typed in
       let q = when_some _ _ first p.2 in
       (d.agrees, subst (λ (z : Seen). AreSimple z.names) q.1 (outputs_simple c.name p.0.outputs (d.simple p.0 p.1)))
     where

@@ -3,6 +3,7 @@ use Rattle.std.proofs.Common.{◌≡◌, ◌<◌, ℕ, zero, Bool, true, false, 
 use Rattle.std.specs.Str.{bytes_eq}
 use Rattle.std.proofs.lemmas.Bool.{false≢true}
 use Rattle.std.proofs.lemmas.Slice.Eq.{bytes_eq-Decides}
+use Rattle.std.proofs.lemmas.Option.{same_Some}
 use Rattle.wdl_base.specs.declared.answer.Answer.{Answer}
 use Rattle.wdl_base.specs.declared.place.Segment.{Segment}
 use Rattle.wdl_value.specs.declared.env.Bind.{Bind}
@@ -26,9 +27,6 @@ use Rattle.cwl_model.proofs.Rounds.{first_is, first_or_later, later_is, none_is}
 use Rattle.cwl_image.specs.Image.{Output, call_output}
 use Rattle.cwl_laws.specs.Laws.{Agrees, Given}
 use Rattle.cwl_laws.specs.Tools.{AreStatuses, IsFile, SameOutputs, SameValue, ground_of}
-
-some_same : {A : Type 0} {x y : A} → Some x ≡ Some y → x ≡ y
-some_same h = cc
 
 -- ---- what an answer tells
 
@@ -157,7 +155,7 @@ module _ (call : List ℕ) where
         by_file rest (Err c) (Some x) e same = absurd same
 
     files_ids : (os : List ToolOut) (ns : List Named) → files_at (ground_of r) place answer os ≡ Some ns → map (λ (m : Named). m.id) ns ≡ map (λ (o : ToolOut). o.id) os
-    files_ids [] ns e = ap (map (λ (m : Named). m.id)) (some_same (sym e))
+    files_ids [] ns e = ap (map (λ (m : Named). m.id)) (same_Some _ _ (sym e))
     files_ids (o ∷ os) ns e = by_file (file_at (ground_of r) place answer o.origin) (files_at (ground_of r) place answer os) e (files_ids os)
       where
         by_file : (w : Option Value) (p : Option (List Named)) → option_and_then (λ x. option_and_then (λ ns. Some (named o.id x ∷ ns)) p) w ≡ Some ns
@@ -165,7 +163,7 @@ module _ (call : List ℕ) where
             → map (λ (m : Named). m.id) ns ≡ o.id ∷ map (λ (o : ToolOut). o.id) os
         by_file None p h rest = cc
         by_file (Some x) None h rest = cc
-        by_file (Some x) (Some ms) h rest = ap (map (λ (m : Named). m.id)) (sym (some_same h)) ∙ ap (λ is. o.id ∷ is) (rest ms refl)
+        by_file (Some x) (Some ms) h rest = ap (map (λ (m : Named). m.id)) (sym (same_Some _ _ h)) ∙ ap (λ is. o.id ∷ is) (rest ms refl)
 
     given_files : (ds : List TDecl) (os : List ToolOut) → SameOutputs r place ds os → (bs : List Bind) (ns : List Named) → Alike bs ns
         → ((name : List ℕ) → Contains (map (λ (o : ToolOut). o.id) os) name → Contains (map (λ (m : Named). m.id) ns) name)

@@ -5,6 +5,7 @@ use Rattle.std.specs.Str.{bytes_eq}
 use Rattle.std.proofs.lemmas.Bool.{false≢true, and_from, or_parts}
 use Rattle.std.proofs.lemmas.List.Elements.{Contains-append_cases}
 use Rattle.std.proofs.lemmas.Slice.Eq.{bytes_eq-Decides}
+use Rattle.std.proofs.lemmas.Option.{none-some, same_Some}
 use Rattle.wdl_base.specs.declared.name.Key.{Key}
 use Rattle.wdl_value.specs.declared.value.Value.{Value}
 use Rattle.wdl_value.specs.Fits.{Structs}
@@ -23,18 +24,12 @@ use Rattle.cwl_model.specs.declared.tool.CwlIn.{CwlIn}
 use Rattle.cwl_model.specs.Laws.{Apart, IsRunnable, StepsInOnePass, in_order, is_of, owned, pass_means, sources_of}
 use Rattle.cwl_model.specs.Means.{Ground, Meaning, Named, Running, all_taken, are_typed, flow_gives, flow_means, given_outputs, incomplete, input_links, is_given, known_at_last, named, or_null, output_taken, outputs_taken, process_step, running, step_means, value_at}
 use Rattle.cwl_model.specs.Rounds.{Linked, known_value}
-use Rattle.cwl_model.proofs.Passes.{flows_in_one_pass}
+use Rattle.cwl_model.proofs.Passes.{flows_in_one_pass, no_owner}
 use Rattle.cwl_model.proofs.Rounds.{first_is, first_or_later, later_is, none_is, or_else}
 use Rattle.cwl_image.specs.Image.{Draft, Linkage, Output, Scope, block_out, block_output, body_links, body_steps, flow_process, id_of, linkage_at, linkage_of, links_of, link_or, step_of}
 use Rattle.cwl_laws.specs.Laws.{Agrees, AllNew, BodyAgrees, Fit, Given, Shown, Shows, all_running, as_running}
 use Rattle.cwl_laws.specs.Premises.{AllWires, IdsDiffer, IsInner}
 use Rattle.cwl_laws.proofs.Bodies.{bodies_agree, lookup_append}
-
-none_some : {A : Type 0} {x : A} {B : Type 0} → None ≡ Some x → B
-none_some h = cc
-
-some_same : {A : Type 0} {x y : A} → Some x ≡ Some y → x ≡ y
-some_same h = cc
 
 pub running_flow : (g : Ground) (ins : List CwlIn) (outs : List FlowOut) (steps : List (CwlStep Process))
     → running g (flow_process ins outs steps) ≡ flow_means (record { inputs = ins; outputs = outs; steps = all_running g steps })
@@ -48,17 +43,13 @@ pub all_from : {A : Type 0} (p : A → Bool) (xs : List A) → ((x : A) → Cont
 all_from p [] h = refl
 all_from p (x ∷ xs) h = and_from (p x) (list_all p xs) (h x (first_is x xs)) (all_from p xs (λ y c. h y (later_is x xs y c)))
 
-linkage_in : (scope : Scope) (key : Key) (l : Linkage) → linkage_at scope key ≡ Some l → Contains scope l
-linkage_in [] key l h = none_some h
+pub linkage_in : (scope : Scope) (key : Key) (l : Linkage) → linkage_at scope key ≡ Some l → Contains scope l
+linkage_in [] key l h = absurd (none-some _ h)
 linkage_in (m ∷ scope) key l h = by_test (λ e. linkage_in scope key l e) (same_key m.key key) h
   where
     by_test : (linkage_at scope key ≡ Some l → Contains scope l) → (b : Bool) → cond b (Some m) (linkage_at scope key) ≡ Some l → Contains (m ∷ scope) l
-    by_test rest true e = subst (λ (z : Linkage). Contains (m ∷ scope) z) (some_same e) (first_is m scope)
+    by_test rest true e = subst (λ (z : Linkage). Contains (m ∷ scope) z) (same_Some _ _ e) (first_is m scope)
     by_test rest false e = later_is m scope l (rest e)
-
-pub no_owner : (ss : List (CwlStep Running)) (i : List ℕ) → owned is_of ss (link.Input i) ≡ false
-no_owner [] i = refl
-no_owner (s ∷ ss) i = no_owner ss i
 
 -- Nothing in the scope is an output of these steps.
 abbrev pub AllFree : Scope → List (CwlStep Running) → Type 0

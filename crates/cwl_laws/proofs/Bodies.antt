@@ -3,6 +3,7 @@ use Rattle.std.proofs.Common.{◌≡◌, ℕ, ◌⊎◌, inl, inr, Bool, true, f
 use Rattle.std.specs.Str.{bytes_eq}
 use Rattle.std.proofs.lemmas.Bool.{false≢true, and_parts, and_from, or_left, or_right}
 use Rattle.std.proofs.lemmas.Slice.Eq.{bytes_eq-Decides}
+use Rattle.std.proofs.lemmas.Option.{none-some, same_Some}
 use Rattle.wdl_base.specs.declared.name.Key.{Key}
 use Rattle.wdl_base.specs.declared.place.Segment.{Segment}
 use Rattle.wdl_base.specs.declared.request.Request.{Request}
@@ -11,7 +12,7 @@ use Rattle.wdl_value.specs.declared.value.Value.{Value}
 use Rattle.wdl_value.specs.Fits.{Structs}
 use Rattle.wdl_typed.specs.declared.scope.Bound.{Bound}
 use Rattle.wdl_typed.specs.Flow.{Flowing, Known, Runner, Sight, bound_by, env_of, in_turn, is_clean, is_empty, seeing, together}
-use Rattle.wdl_typed.specs.Scope.{lookup, same_key, same_second}
+use Rattle.wdl_typed.specs.Scope.{lookup, same_key}
 use Rattle.cwl_model.specs.declared.process.CwlStep.{CwlStep}
 use Rattle.cwl_model.specs.declared.process.Link.{Link}
 use Rattle.cwl_model.specs.declared.process.Link.TheVariants as link
@@ -21,26 +22,7 @@ use Rattle.cwl_model.specs.Rounds.{Linked, known_value, one_pass, same_link}
 use Rattle.cwl_model.proofs.Rounds.{first_is, first_or_later, known_append, later_is, none_is, or_else}
 use Rattle.cwl_image.specs.Image.{Draft, Linkage, Output, Scope, body_links, body_steps, linkage_at, linkage_of, links_of, out_id, step_of}
 use Rattle.cwl_laws.specs.Laws.{Agrees, AllDiffer, AllNew, AllSimulate, BodyAgrees, Fit, Free, Given, KeysDiffer, New, NewItems, NoItems, NoKeys, Shown, Shows, all_running, as_running, has_key, job_of}
-
-none_some : {A : Type 0} {x : A} {B : Type 0} → None ≡ Some x → B
-none_some h = cc
-
-some_same : {A : Type 0} {x y : A} → Some x ≡ Some y → x ≡ y
-some_same h = cc
-
--- ---- keys
-
-second_same : (s t : Option (List ℕ)) → same_second s t ≡ true → s ≡ t
-second_same None None h = refl
-second_same (Some s) (Some t) h = ap Some ((bytes_eq-Decides s t).0 h)
-second_same None (Some t) h = absurd (false≢true h)
-second_same (Some s) None h = absurd (false≢true h)
-
-pub key_same : (j k : Key) → same_key j k ≡ true → j ≡ k
-key_same j k h =
-    let p = and_parts (bytes_eq j.first k.first) (same_second j.second k.second) h in
-    ap (λ (x : List ℕ). record { first = x; second = j.second }) ((bytes_eq-Decides j.first k.first).0 p.0)
-    ∙ ap (λ (x : Option (List ℕ)). record { first = k.first; second = x }) (second_same j.second k.second p.1)
+use Rattle.wdl_flow.proofs.MarkLemmas.{same_key-true as key_same}
 
 -- ---- what is looked up
 
@@ -146,12 +128,12 @@ abbrev IsLinked : List ℕ → List Output → Key → Linkage → Type 0
 IsLinked step os key l = (o : Output) × Contains os o × (linkage_of step o ≡ l) × (o.key ≡ key)
 
 linked_at : (step : List ℕ) (os : List Output) (key : Key) (l : Linkage) → linkage_at (map (linkage_of step) os) key ≡ Some l → IsLinked step os key l
-linked_at step [] key l h = none_some h
+linked_at step [] key l h = absurd (none-some _ h)
 linked_at step (o ∷ os) key l h = by_test (λ e. linked_at step os key l e) (same_key o.key key) refl h
   where
     by_test : (linkage_at (map (linkage_of step) os) key ≡ Some l → IsLinked step os key l) → (b : Bool) → same_key o.key key ≡ b
         → cond b (Some (linkage_of step o)) (linkage_at (map (linkage_of step) os) key) ≡ Some l → IsLinked step (o ∷ os) key l
-    by_test rest true s h = (o, first_is o os, some_same h, key_same o.key key s)
+    by_test rest true s h = (o, first_is o os, same_Some _ _ h, key_same o.key key s)
     by_test rest false s h = let r = rest h in (r.0, later_is o os r.0 r.1, r.2, r.3)
 
 ids_have : (os : List Output) (o : Output) → Contains os o → Contains (map out_id os) o.id
@@ -194,7 +176,7 @@ extended scope step os names more known ns shows given new free key l h = by_val
 
     by_value : (o : Option Linkage) → linkage_at scope key ≡ o → Shown (names ++ more) (known ++ linked step (map out_id os) ns) l
     by_value (Some m) e =
-        let same : m ≡ l = some_same (sym (ap (λ o. or_else o (linkage_at (map (linkage_of step) os) key)) e) ∙ sym split ∙ h) in
+        let same : m ≡ l = same_Some _ _ (sym (ap (λ o. or_else o (linkage_at (map (linkage_of step) os) key)) e) ∙ sym split ∙ h) in
         shown_more names more known (linked step (map out_id os) ns) l (subst (λ (z : Linkage). Shown names known z) same (shows key m e))
     by_value None e =
         let r = linked_at step os key l (sym (ap (λ o. or_else o (linkage_at (map (linkage_of step) os) key)) e) ∙ sym split ∙ h) in

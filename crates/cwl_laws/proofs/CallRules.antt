@@ -2,6 +2,7 @@
 use Rattle.std.proofs.Common.{◌≡◌, ℕ, suc, Bool, true, false, cond, ◌&&◌, List, [], ◌∷◌, ◌++◌, map, Option, Some, None, option_and_then, Contains, sym, ap, ◌∙◌, subst, refl}
 use Rattle.std.specs.List.{slice_get}
 use Rattle.std.proofs.lemmas.Bool.{false≢true, and_parts}
+use Rattle.std.proofs.lemmas.Option.{none-some}
 use Rattle.wdl_base.specs.declared.name.Key.{Key}
 use Rattle.wdl_value.specs.declared.ty.Ty.{Ty}
 use Rattle.wdl_value.specs.Fits.{Structs}
@@ -34,9 +35,6 @@ use Rattle.cwl_laws.proofs.Ids.{name_reads}
 use Rattle.cwl_laws.proofs.References.{reads_by}
 use Rattle.cwl_laws.proofs.TaskCalls.{call_simulates}
 use Rattle.cwl_laws.proofs.Tools.{both_empty, rule_holds, task_inputs, tool_is}
-
-none_some : {A : Type 0} {x : A} {B : Type 0} → None ≡ Some x → B
-none_some h = cc
 
 -- ---- arguments
 
@@ -97,7 +95,7 @@ call_typed structs c seen given s h = by_test (args_typed structs seen.names s.i
         let q = and_parts (args_typed structs seen.names s.inputs c.args && are_distinct (arg_names c.args)) (all_given s.inputs (arg_names c.args)) p.0 in
         let r = and_parts (args_typed structs seen.names s.inputs c.args) (are_distinct (arg_names c.args)) q.0 in
         record { args = r.0; differ = r.1; given = q.1 }
-    by_test false e h = none_some h
+    by_test false e h = absurd (none-some _ h)
 
 module _ (lib : Library) (declared : List (List ℕ)) (c : TCall) (seen given : Seen) (scope : Scope) (called : IsCalled lib declared c seen given scope) where
   call_is : (s : Signature) → signature lib c.target ≡ Some s → AreInputs lib.structs s.inputs → are_distinct (input_names s.inputs) ≡ true → IsCall lib.structs seen.names scope s.inputs c

@@ -3,6 +3,7 @@ use Rattle.std.proofs.Common.{◌≡◌, ℕ, ◌⊎◌, inl, inr, Bool, true, f
 use Rattle.std.specs.Str.{bytes_eq}
 use Rattle.std.proofs.lemmas.Bool.{false≢true, and_from, and_parts}
 use Rattle.std.proofs.lemmas.Slice.Eq.{bytes_eq-Decides}
+use Rattle.std.proofs.lemmas.Option.{none-some, same_Some}
 use Rattle.wdl_value.specs.declared.ty.Ty.{Ty, Ty-F, out-Ty, roll-Ty, roll-out-Ty}
 use Rattle.wdl_value.specs.declared.ty.Ty.TheVariants as ty
 use Rattle.wdl_value.specs.declared.ty.Ty.TheOpen as type
@@ -32,12 +33,6 @@ use Rattle.cwl_laws.proofs.Inputs.{name_apart}
 use Rattle.cwl_laws.proofs.Objects.{value_in}
 use Rattle.cwl_laws.proofs.Reading.{arg_fit, args_object}
 use Rattle.cwl_laws.proofs.Starts.{preset_kept}
-
-none_some : {A : Type 0} {x : A} {B : Type 0} → None ≡ Some x → B
-none_some h = cc
-
-some_same : {A : Type 0} {x y : A} → Some x ≡ Some y → x ≡ y
-some_same h = cc
 
 -- ---- types of inputs
 
@@ -98,32 +93,32 @@ module _ (structs : Structs) (bounds : List Bound) (scope : Scope) (inputs : Lis
   FitsName name x = (t : Ty) × (input_type inputs name ≡ Some t) × (fits structs x t ≡ true)
 
   arg_fits : (as_ : List (TField TExpr)) (h : AreArgs structs bounds scope inputs as_) (name : List ℕ) (x : Value) → value_at (object as_ h) name ≡ Some x → FitsName name x
-  arg_fits [] h name x e = none_some e
+  arg_fits [] h name x e = absurd (none-some _ e)
   arg_fits (a ∷ as_) h name x e = by_test (λ q. arg_fits as_ h.1 name x q) (bytes_eq a.name name) refl e
     where
       by_test : (value_at (object as_ h.1) name ≡ Some x → FitsName name x) → (b : Bool) → bytes_eq a.name name ≡ b → cond b (Some (value_in names h.0.key)) (value_at (object as_ h.1) name) ≡ Some x → FitsName name x
       by_test rest true s q = (
         h.0.ty,
         subst (λ (n : List ℕ). input_type inputs n ≡ Some h.0.ty) ((bytes_eq-Decides a.name name).0 s) h.0.input,
-        ap (λ y. fits structs y h.0.ty) (sym (some_same q)) ∙ h.0.reads.fit (value_in names h.0.key) (arg_fit structs bounds scope inputs names known fit shows a h.0),
+        ap (λ y. fits structs y h.0.ty) (sym (same_Some _ _ q)) ∙ h.0.reads.fit (value_in names h.0.key) (arg_fit structs bounds scope inputs names known fit shows a h.0),
       )
       by_test rest false s q = rest q
 
   input_fits : (as_ : List (TField TExpr)) (h : AreArgs structs bounds scope inputs as_) (i : TInput) → Contains inputs i → (x : Value) → value_at (object as_ h) i.name ≡ Some x → fits structs x i.ty ≡ true
   input_fits as_ h i c x e =
       let f = arg_fits as_ h i.name x e in
-      ap (fits structs x) (some_same (sym (own_type inputs i differ c) ∙ f.1)) ∙ f.2
+      ap (fits structs x) (same_Some _ _ (sym (own_type inputs i differ c) ∙ f.1)) ∙ f.2
 
   not_among : (as_ : List (TField TExpr)) (h : AreArgs structs bounds scope inputs as_) (name : List ℕ) → value_at (object as_ h) name ≡ None → has_name name (arg_names as_) ≡ false
   not_among [] h name e = refl
   not_among (a ∷ as_) h name e = by_test (λ q. not_among as_ h.1 name q) (bytes_eq a.name name) e
     where
       by_test : (value_at (object as_ h.1) name ≡ None → has_name name (arg_names as_) ≡ false) → (b : Bool) → cond b (Some (value_in names h.0.key)) (value_at (object as_ h.1) name) ≡ None → (b || has_name name (arg_names as_)) ≡ false
-      by_test rest true q = none_some (sym q)
+      by_test rest true q = absurd (none-some _ (sym q))
       by_test rest false q = rest q
 
   among_known : (as_ : List (TField TExpr)) (h : AreArgs structs bounds scope inputs as_) (name : List ℕ) (x : Value) → value_at (object as_ h) name ≡ Some x → has_name name (arg_names as_) ≡ true
-  among_known [] h name x e = none_some e
+  among_known [] h name x e = absurd (none-some _ e)
   among_known (a ∷ as_) h name x e = by_test (λ q. among_known as_ h.1 name x q) (bytes_eq a.name name) e
     where
       by_test : (value_at (object as_ h.1) name ≡ Some x → has_name name (arg_names as_) ≡ true) → (b : Bool) → cond b (Some (value_in names h.0.key)) (value_at (object as_ h.1) name) ≡ Some x → (b || has_name name (arg_names as_)) ≡ true
@@ -157,19 +152,19 @@ module _ (structs : Structs) (bounds : List Bound) (scope : Scope) (inputs : Lis
       (record { given = λ x e. (h.0 x e, w i.name x e); left = h.1 }, all_met ns is (λ j c. t j (later_is i is j c)) w)
 
   within_each : (ns : List Named) (name : List ℕ) (x : Value) → are_within ns ≡ true → value_at ns name ≡ Some x → is_within x ≡ true
-  within_each [] name x w e = none_some e
+  within_each [] name x w e = absurd (none-some _ e)
   within_each (n ∷ ns) name x w e =
       let p = and_parts (is_within n.value) (are_within ns) w in
       by_test (λ q. within_each ns name x p.1 q) p.0 (bytes_eq n.id name) e
     where
       by_test : (value_at ns name ≡ Some x → is_within x ≡ true) → is_within n.value ≡ true → (b : Bool) → cond b (Some n.value) (value_at ns name) ≡ Some x → is_within x ≡ true
-      by_test rest here true q = ap is_within (sym (some_same q)) ∙ here
+      by_test rest here true q = ap is_within (sym (same_Some _ _ q)) ∙ here
       by_test rest here false q = rest q
 
   -- what a tool or a flow takes of an argument is its value
   taken_within : (ns : List Named) (is : List TInput) → AreInputs structs is → are_within (all_taken ns (map cwl_in is)) ≡ true → (name : List ℕ) (t : Ty) (x : Value) → input_type is name ≡ Some t
       → value_at ns name ≡ Some x → ((i : TInput) → Contains is i → bytes_eq i.name name ≡ true → fits structs x i.ty ≡ true) → is_within x ≡ true
-  taken_within ns [] h w name t x e q f = none_some e
+  taken_within ns [] h w name t x e q f = absurd (none-some _ e)
   taken_within ns (i ∷ is) h w name t x e q f =
       let p = and_parts (is_within (input_value ns i)) (are_within (all_taken ns (map cwl_in is))) w in
       by_test (λ k. taken_within ns is h.1 p.1 name t x k q (λ j c s. f j (later_is i is j c) s)) p.0 (bytes_eq i.name name) refl e

@@ -16,7 +16,6 @@ use Rattle.wdl_value.specs.Limits.{all_short, is_short, is_within, limited, shor
 use Rattle.wdl_value.specs.Outcome.{and_then}
 use Rattle.wdl_value.specs.Parts.{int_in, items_in}
 use Rattle.wdl_value.specs.Size.{size, size_step, sum_of}
-use Rattle.wdl_value.proofs.SameTypeLemmas.{same_type-true}
 use Rattle.wdl_typed.specs.declared.expr.TExpr.{TExpr, TExpr-F, fold-roll-TExpr, ind-TExpr, map-TExpr, roll-TExpr}
 use Rattle.wdl_typed.specs.declared.expr.TExpr.TheOpen as layer
 use Rattle.wdl_typed.specs.declared.scope.Bound.{Bound}
@@ -27,7 +26,6 @@ use Rattle.wdl_typed.specs.Declarations.{codes_typed, context, in_body, output_c
 use Rattle.wdl_typed.specs.Evaluation.{settled, value_of}
 use Rattle.wdl_typed.specs.KnownTypes.{is_some}
 use Rattle.wdl_typed.specs.Requests.{any_status, before, codes_met, is_among, is_success, only_these, zero_alone}
-use Rattle.wdl_typed.specs.Typing.{is_type}
 use Rattle.cwl_model.specs.Means as means
 use Rattle.cwl_image.specs.declared.literal.Literal.{Literal}
 use Rattle.cwl_image.specs.Expressions.{are_allowed, is_simple, is_zero, literal_of, literal_step as kind_step, simple_step}
@@ -37,12 +35,7 @@ use Rattle.cwl_laws.specs.Tools.{CodesAgree}
 use Rattle.cwl_laws.proofs.Files.{number_itself, number_same}
 use Rattle.cwl_laws.proofs.Literals.{int_within, literal_is, number_is}
 use Rattle.cwl_laws.proofs.References.{settled_met}
-
-none_some : {A : Type 0} {x : A} {B : Type 0} → None ≡ Some x → B
-none_some h = cc
-
-some_same : {A : Type 0} {x y : A} → Some x ≡ Some y → x ≡ y
-some_same h = cc
+use Rattle.flow_soundness.proofs.Fitting.{is_type-some as typed_as}
 
 -- ---- lists of statuses
 
@@ -203,10 +196,6 @@ module _ (structs : Structs) (names more : List Bound) where
   literal_met x t env l a h s w =
       ap settled ((literal_is structs x (output_context structs more) (context structs names) false false t l a h s).met (before env)) ∙ settled_met (limited (literal x))
       ∙ ap (λ b. cond b (Ok (literal x)) (Err TooLarge)) w
-
-  typed_as : (o : Option Ty) (t : Ty) → is_type o t ≡ true → o ≡ Some t
-  typed_as None t h = absurd (false≢true h)
-  typed_as (Some u) t h = ap Some (same_type-true u t h)
 
   int_simple : is_simple ty.Int ≡ true
   int_simple = ap is_simple (sym ty.rolls-Int) ∙ fold-roll-Ty Bool simple_step type.Int

@@ -4,6 +4,8 @@ use Rattle.std.specs.List.{list_all, list_any}
 use Rattle.std.specs.Str.{bytes_eq}
 use Rattle.std.proofs.lemmas.Bool.{false≢true, and_parts}
 use Rattle.std.proofs.lemmas.Slice.Eq.{bytes_eq-Decides}
+use Rattle.std.proofs.lemmas.Option.{none-some, same_Some}
+use Rattle.std.proofs.Math.Bool.{and_assoc}
 use Rattle.wdl_base.specs.declared.fault.EvalCode.TheVariants.{TooLarge}
 use Rattle.wdl_base.specs.declared.name.Key.{Key}
 use Rattle.wdl_value.specs.declared.env.Bind.{Bind}
@@ -47,14 +49,8 @@ use Rattle.cwl_image.specs.Expressions.{are_allowed, is_simple, simple_step}
 use Rattle.cwl_image.specs.Image.{argument, chars_before, cwl_in, hole_by, hole_piece, is_file, reference, type_at, type_of, type_step}
 use Rattle.cwl_image.specs.Subset.{are_input_holes, command_marks, is_blank, is_command, is_dark, is_input_hole, is_plain_choice, is_scalar_name, is_verbatim, some_scalar}
 use Rattle.cwl_laws.specs.Tools.{CommandsAgree, IsBound, input_value}
-use Rattle.cwl_laws.proofs.Bodies.{key_same}
 use Rattle.cwl_laws.proofs.References.{Cast, allowed_is, allowed_same, place_is, refers_under, settled_met, type_same, under, under_casts}
-
-none_some : {A : Type 0} {x : A} {B : Type 0} → None ≡ Some x → B
-none_some h = cc
-
-some_same : {A : Type 0} {x y : A} → Some x ≡ Some y → x ≡ y
-some_same h = cc
+use Rattle.wdl_flow.proofs.MarkLemmas.{same_key-true as key_same}
 
 -- ---- blanks
 
@@ -67,10 +63,6 @@ or_turned false false false = refl
 
 blank_same : (c : ℕ) → means.is_blank c ≡ is_blank c
 blank_same c = or_turned (c == 32 || c == 9) (c == 13) (c == 10)
-
-and_assoc : (a b c : Bool) → ((a && b) && c) ≡ (a && (b && c))
-and_assoc true b c = refl
-and_assoc false b c = refl
 
 all_append : (f : ℕ → Bool) (s t : List ℕ) → list_all f (s ++ t) ≡ (list_all f s && list_all f t)
 all_append f [] t = refl
@@ -132,8 +124,8 @@ text_before env (c ∷ s) [] t h = ap (option_and_then (λ u. Some ((c ∷ s) ++
 text_before env (c ∷ s) (piece.Chars u ∷ ps) t h = by_rest (pieces_text env ps) h
   where
     by_rest : (o : Option (List ℕ)) → option_and_then (λ w. Some (u ++ w)) o ≡ Some t → option_and_then (λ w. Some (((c ∷ s) ++ u) ++ w)) o ≡ Some ((c ∷ s) ++ t)
-    by_rest None h = none_some h
-    by_rest (Some w) h = ap Some (append_assoc (c ∷ s) u w ∙ ap (λ z. (c ∷ s) ++ z) (some_same h))
+    by_rest None h = absurd (none-some _ h)
+    by_rest (Some w) h = ap Some (append_assoc (c ∷ s) u w ∙ ap (λ z. (c ∷ s) ++ z) (same_Some _ _ h))
 text_before env (c ∷ s) (piece.Input n ∷ ps) t h = ap (option_and_then (λ u. Some ((c ∷ s) ++ u))) h
 text_before env (c ∷ s) (piece.InputPath n ∷ ps) t h = ap (option_and_then (λ u. Some ((c ∷ s) ++ u))) h
 
@@ -218,7 +210,7 @@ IsInputAt object all is k u =
     (i : TInput) × (Contains all i) × (plain_key i.name ≡ k) × (i.ty ≡ u) × (type_at (map cwl_in is) k.first ≡ Some (type_of u)) × (value_at (all_taken object (map cwl_in is)) k.first ≡ Some (input_value object i))
 
 input_at : (object : List Named) (all is : List TInput) → ((i : TInput) → Contains is i → Contains all i) → (k : Key) (u : Ty) → type_in (inputs_bound is) k ≡ Some u → IsInputAt object all is k u
-input_at object all [] within k u h = none_some h
+input_at object all [] within k u h = absurd (none-some _ h)
 input_at object all (i ∷ is) within k u h = by_test (λ q. input_at object all is (λ j c. within j (later_is i is j c)) k u q) (same_key (plain_key i.name) k) refl h
   where
     by_test : (type_in (inputs_bound is) k ≡ Some u → IsInputAt object all is k u) → (b : Bool) → same_key (plain_key i.name) k ≡ b → cond b (Some i.ty) (type_in (inputs_bound is) k) ≡ Some u → IsInputAt object all (i ∷ is) k u
@@ -228,8 +220,8 @@ input_at object all (i ∷ is) within k u h = by_test (λ q. input_at object all
           i,
           within i (first_is i is),
           same,
-          some_same q,
-          ap (λ b. cond b (Some (type_of i.ty)) (type_at (map cwl_in is) k.first)) found ∙ ap (λ t. Some (type_of t)) (some_same q),
+          same_Some _ _ q,
+          ap (λ b. cond b (Some (type_of i.ty)) (type_at (map cwl_in is) k.first)) found ∙ ap (λ t. Some (type_of t)) (same_Some _ _ q),
           ap (λ b. cond b (Some (input_value object i)) (value_at (all_taken object (map cwl_in is)) k.first)) found,
         )
     by_test rest false s q =

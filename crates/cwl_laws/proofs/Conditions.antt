@@ -1,5 +1,5 @@
 -- Conditions and steps with `when`.
-use Rattle.std.proofs.Common.{◌≡◌, ℕ, nat_le, ◌⊎◌, inl, inr, Bool, true, false, cond, ◌||◌, List, [], ◌∷◌, ◌++◌, map, Option, Some, None, option_and_then, Ok, Err, Contains, sym, ap, ◌∙◌, subst, refl}
+use Rattle.std.proofs.Common.{◌≡◌, ℕ, nat_le, ◌⊎◌, inl, inr, Bool, true, false, cond, ◌||◌, List, [], ◌∷◌, ◌++◌, map, Some, None, option_and_then, Ok, Err, Contains, sym, ap, ◌∙◌, subst, refl}
 use Rattle.std.specs.Str.{bytes_eq}
 use Rattle.std.proofs.lemmas.Bool.{false≢true, and_from, or_parts}
 use Rattle.std.proofs.lemmas.Slice.Eq.{bytes_eq-Decides}
@@ -23,7 +23,7 @@ use Rattle.wdl_typed.specs.declared.scope.Bound.{Bound}
 use Rattle.wdl_typed.specs.Evaluation.{value_of}
 use Rattle.wdl_typed.specs.Flow.{Flowing, Known, Names, Runner, Sight, all_known, chosen, conditional, each_key, env_of, if_run, in_turn, inside, missing, seeing, with_count}
 use Rattle.wdl_typed.specs.Requests.{before}
-use Rattle.wdl_typed.specs.Scope.{lookup, same_key, same_second}
+use Rattle.wdl_typed.specs.Scope.{lookup, same_key}
 use Rattle.cwl_model.specs.declared.process.CwlFlow.{CwlFlow}
 use Rattle.cwl_model.specs.declared.process.Mode.TheVariants as mode
 use Rattle.cwl_model.specs.declared.process.Link.TheVariants as link
@@ -40,9 +40,8 @@ use Rattle.cwl_laws.specs.Premises.{IsCondition, when_id}
 use Rattle.cwl_laws.proofs.Blocks.{block_agrees, running_flow}
 use Rattle.cwl_laws.proofs.Bodies.{lookup_append}
 use Rattle.cwl_laws.proofs.Objects.{IsSeen, given_same, inner_shows, is_seen, keys_known, keys_typed, value_in, value_under, wired_keys}
-
-none_some : {A : Type 0} {x : A} {B : Type 0} → None ≡ Some x → B
-none_some h = cc
+use Rattle.flow_soundness.proofs.Shapes.{none_lookup as each_missing}
+use Rattle.flow_soundness.proofs.NewNames.{same_key-refl as same_itself}
 
 -- ---- types
 
@@ -142,23 +141,12 @@ turn_own g structs seen after f (r ∷ fs) (d ∷ ds) scope s all key h =
     ∙ ap (λ o. or_else o (lookup (env_of (in_turn fs next).names) key)) (all.2.own s key p.0)
     ∙ turn_own g structs (seen ++ all.0) after f fs ds (scope ++ links_of d) next all.3 key p.1
 
-pub each_missing : (ks : List Key) (key : Key) → lookup (env_of (each_key None ks)) key ≡ None
-each_missing [] key = refl
-each_missing (k ∷ ks) key = each_missing ks key
-
 each_other : (f : CwlTy → CwlTy) (ls : List Linkage) (x : Value) (key : Key) → has_key (map (block_output f) ls) key ≡ false
     → lookup (env_of (each_key (Some x) (map (λ (l : Linkage). l.key) ls))) key ≡ None
 each_other f [] x key h = refl
 each_other f (l ∷ ls) x key h =
     let p = or_parts (same_key l.key key) (has_key (map (block_output f) ls) key) h in
     ap (λ b. cond b (Some x) (lookup (env_of (each_key (Some x) (map (λ (l : Linkage). l.key) ls))) key)) p.0 ∙ each_other f ls x key p.1
-
-pub same_itself : (k : Key) → same_key k k ≡ true
-same_itself k = and_from (bytes_eq k.first k.first) (same_second k.second k.second) ((bytes_eq-Decides k.first k.first).1 refl) (second k.second)
-  where
-    second : (s : Option (List ℕ)) → same_second s s ≡ true
-    second None = refl
-    second (Some t) = (bytes_eq-Decides t t).1 refl
 
 each_value : (ks : List Key) (x : Value) (key : Key) → Contains ks key → lookup (env_of (each_key (Some x) ks)) key ≡ Some x
 each_value [] x key c = absurd (none_is key c)

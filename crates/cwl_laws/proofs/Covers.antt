@@ -1,6 +1,7 @@
 -- What a block refers to outside, and what its flow sees.
 use Rattle.std.proofs.Common.{◌≡◌, ℕ, ◌⊎◌, inl, inr, Bool, true, false, cond, List, [], ◌∷◌, ◌++◌, Option, Some, None, Contains, sym, ap, ◌∙◌, subst, refl}
 use Rattle.std.proofs.lemmas.Bool.{false≢true, or_from}
+use Rattle.std.proofs.lemmas.Option.{none-some, same_Some}
 use Rattle.wdl_base.specs.declared.name.Key.{Key}
 use Rattle.wdl_value.specs.declared.ty.Ty.{Ty}
 use Rattle.wdl_typed.specs.declared.expr.TExpr.{TExpr}
@@ -11,18 +12,13 @@ use Rattle.cwl_model.specs.declared.process.Link.TheVariants as link
 use Rattle.cwl_model.proofs.Rounds.{first_is, first_or_later, later_is, none_is, or_else}
 use Rattle.cwl_image.specs.Image.{Draft, Linkage, Scope, body_links, body_uses, firsts, id_of, inner_linkage, inner_scope, item_linkage, keys_of, linkage_at, links_of, outer_uses, type_of, type_or, without}
 use Rattle.cwl_laws.specs.Parts.{OutsTyped}
-use Rattle.cwl_laws.proofs.Bodies.{key_same, linkage_append}
-use Rattle.cwl_laws.proofs.Conditions.{same_itself}
+use Rattle.cwl_laws.proofs.Bodies.{linkage_append}
 use Rattle.cwl_laws.proofs.Differ.{NoTypes, no_link, not_given}
 use Rattle.cwl_laws.proofs.Elements.{link_seen, link_typed, map_has}
 use Rattle.cwl_laws.proofs.Given.{outs_linked}
 use Rattle.cwl_laws.proofs.Uses.{HasType, type_append, without_has}
-
-none_some : {A : Type 0} {x : A} {B : Type 0} → None ≡ Some x → B
-none_some h = cc
-
-some_same : {A : Type 0} {x y : A} → Some x ≡ Some y → x ≡ y
-some_same h = cc
+use Rattle.wdl_flow.proofs.MarkLemmas.{same_key-true as key_same}
+use Rattle.flow_soundness.proofs.NewNames.{same_key-refl as same_itself}
 
 -- the reference is linked, with the type of the name
 abbrev pub IsLinked : Scope → Key → Ty → Type 0
@@ -63,7 +59,7 @@ covers_then scope names bs d uses outs within covers k t c h = by_case (by_side 
   where
     new : type_in names k ≡ None → (o : Option Linkage) → linkage_at scope k ≡ o → linkage_at scope k ≡ None
     new n None e = e
-    new n (Some l) e = none_some (sym n ∙ (within k l e).1)
+    new n (Some l) e = absurd (none-some _ (sym n ∙ (within k l e).1))
 
     by_case : (type_in names k ≡ Some t) ⊎ ((type_in names k ≡ None) × (type_in bs k ≡ Some t)) → IsLinked (scope ++ links_of d) k t
     by_case (inl e) = let l = covers k t c e in (l.0, linkage_append scope (links_of d) k ∙ ap (λ o. or_else o (linkage_at (links_of d) k)) l.1, l.2)
@@ -142,7 +138,7 @@ inner_at scope (j ∷ us) k c = by_test (same_key j k) refl (first_or_later j us
     by_test false e (inr d) f = f d
 
 inner_back : (scope : Scope) (us : List Key) (k : Key) (l : Linkage) → linkage_at (inner_scope scope us) k ≡ Some l → Contains us k
-inner_back scope [] k l h = none_some h
+inner_back scope [] k l h = absurd (none-some _ h)
 inner_back scope (j ∷ us) k l h = by_test (same_key j k) refl h (λ q. inner_back scope us k l q)
   where
     by_test : (b : Bool) → same_key j k ≡ b → cond b (Some (inner_linkage scope j)) (linkage_at (inner_scope scope us) k) ≡ Some l → (linkage_at (inner_scope scope us) k ≡ Some l → Contains us k) → Contains (j ∷ us) k
@@ -192,8 +188,8 @@ module _ (scope : Scope) (names : List Bound) (ds : List Draft) where
         rest = inner_scope scope (outer_uses (plain_key item ∷ []) ds)
 
         one : (w : Bool) → cond w (Some u) None ≡ Some t → (w ≡ true) × (u ≡ t)
-        one true q = (refl, some_same q)
-        one false q = none_some q
+        one true q = (refl, same_Some _ _ q)
+        one false q = absurd (none-some _ q)
 
         outside : same_key (plain_key item) k ≡ false → type_in names k ≡ Some t → IsLinked Inner k t
         outside e q =
@@ -205,7 +201,7 @@ module _ (scope : Scope) (names : List Bound) (ds : List Draft) where
             )
 
         by_test : (w : Bool) → same_key (plain_key item) k ≡ w → (type_in names k ≡ Some t) ⊎ ((type_in names k ≡ None) × (type_in (bound item u ∷ []) k ≡ Some t)) → IsLinked Inner k t
-        by_test true e (inl q) = none_some (sym new ∙ ap (type_in names) (key_same (plain_key item) k e) ∙ q)
+        by_test true e (inl q) = absurd (none-some _ (sym new ∙ ap (type_in names) (key_same (plain_key item) k e) ∙ q))
         by_test true e (inr q) = (
           item_linkage scope item over,
           ap (λ w. cond w (Some (item_linkage scope item over)) (linkage_at rest k)) e,
@@ -236,4 +232,4 @@ body_found scope names ds within fresh own l c = linkage_append scope (body_link
   where
     by_link : (o : Option Linkage) → linkage_at scope l.key ≡ o → or_else (linkage_at scope l.key) (linkage_at (body_links ds) l.key) ≡ Some l
     by_link None e = ap (λ o. or_else o (linkage_at (body_links ds) l.key)) e ∙ own l c
-    by_link (Some m) e = none_some (sym (no_link names ds fresh l c) ∙ (within l.key m e).1)
+    by_link (Some m) e = absurd (none-some _ (sym (no_link names ds fresh l c) ∙ (within l.key m e).1))

@@ -1,6 +1,7 @@
 -- Workflows of the subset that call each other, to any depth.
 use Rattle.std.proofs.Common.{◌≡◌, ℕ, zero, suc, ◌<◌, ◌≤◌, ◌^◌, ◌+◌, ◌⊎◌, inl, inr, true, false, ◌&&◌, List, [], ◌∷◌, ◌++◌, map, Option, Some, None, option_and_then, Contains, arith, sym, ap, ◌∙◌, subst, refl}
 use Rattle.std.specs.List.{list_all, slice_get}
+use Rattle.std.proofs.lemmas.Option.{none-some, same_Some}
 use Rattle.wdl_typed.specs.declared.flow.FlowDef.{FlowDef}
 use Rattle.wdl_typed.specs.declared.flow.Statement.{Statement}
 use Rattle.wdl_typed.specs.declared.flow.Target.{Target}
@@ -15,7 +16,7 @@ use Rattle.wdl_typed.specs.Flow.{Run, flow}
 use Rattle.wdl_typed.specs.Kept.{count_statements, flow_typed, sum_of}
 use Rattle.flow_soundness.proofs.FlowSound.{is_typed}
 use Rattle.wdl_names.proofs.FreshLemmas.{fresh-distinct}
-use Rattle.flow_laws.proofs.Checked.{IsKept, OutputsDiffer, each_passes, flow_at_kept}
+use Rattle.flow_laws.proofs.Checked.{IsKept, OutputsDiffer, flow_at_kept}
 use Rattle.cwl_image.specs.declared.broken.Broken.{Broken}
 use Rattle.cwl_image.specs.Expressions.{are_allowed, is_file, is_file_type, is_simple, output_allowed, refers_to_output}
 use Rattle.cwl_image.specs.Image.{Scope, flow_image}
@@ -30,12 +31,7 @@ use Rattle.cwl_laws.proofs.Flows.{flow_rules, workflow_is}
 use Rattle.cwl_laws.proofs.Statements.{IsSound}
 use Rattle.cwl_laws.proofs.Tools.{both_empty, inputs_are, rule_holds, rules_of}
 use Rattle.cwl_model.proofs.Rounds.{first_or_later, none_is}
-
-none_some : {A : Type 0} {x : A} {B : Type 0} → None ≡ Some x → B
-none_some h = cc
-
-some_same : {A : Type 0} {x y : A} → Some x ≡ Some y → x ≡ y
-some_same h = cc
+use Rattle.wdl_base.proofs.Options.{all_at}
 
 -- ---- the types of outputs
 
@@ -69,8 +65,8 @@ reached_parts lib depth k f there h =
     both_empty (flow_broken lib f) (called_broken (target_broken lib (reached lib depth)) f.body) (sym (ap (flow_at lib (reached lib depth)) there) ∙ h)
 
 few_of : (fs : List FlowDef) (k : ℕ) (f : FlowDef) → slice_get fs k ≡ Some f → sum_of (map (λ (g : FlowDef). count_statements g.body) fs) < 2 ^ 32 → count_statements f.body < 2 ^ 32
-few_of [] k f e h = none_some e
-few_of (g ∷ fs) zero f e h = subst (λ (z : FlowDef). count_statements z.body < 2 ^ 32) (some_same e) (first (count_statements g.body) (sum_of (map (λ (z : FlowDef). count_statements z.body) fs)) h)
+few_of [] k f e h = absurd (none-some _ e)
+few_of (g ∷ fs) zero f e h = subst (λ (z : FlowDef). count_statements z.body < 2 ^ 32) (same_Some _ _ e) (first (count_statements g.body) (sum_of (map (λ (z : FlowDef). count_statements z.body) fs)) h)
   where
     first : (m n : ℕ) → m + n < 2 ^ 32 → m < 2 ^ 32
     first m n h = omega arith
@@ -97,34 +93,34 @@ module _ (r : Run) (small : AreStatuses r.table) (kept : IsKept r.library) (diff
       let p = reached_parts r.library depth k f there broken in
       callee_agrees r depth k f there
       (workflow_is r (flow r depth) (flow_image r.library depth) (target_broken r.library (reached r.library depth)) differ (sound depth) depth f (calls (declared_by f.body))
-      (is_typed r.library f (each_passes (flow_typed r.library) r.library.flows k f kept.flows there)) (flow_at_kept r.library kept k f there) m le nested p.0 p.1
-      (each_passes flow_named r.library.flows k f named there) (few_of r.library.flows k f there few))
+      (is_typed r.library f (all_at (flow_typed r.library) r.library.flows k f kept.flows there)) (flow_at_kept r.library kept k f there) m le nested p.0 p.1
+      (all_at flow_named r.library.flows k f named there) (few_of r.library.flows k f there few))
 
   task_done : (depth : ℕ) (declared : List (List ℕ)) (c : TCall) (seen given : Seen) (scope : Scope) → IsCalled r.library declared c seen given scope → (k : ℕ) → c.target ≡ target.Task k
       → (o : Option TaskDef) → slice_get r.library.tasks k ≡ o → task_at r.library.structs o ≡ [] → CallDone r (flow r depth) (flow_image r.library depth) c seen scope
   task_done depth declared c seen given scope called k at None there broken =
-      none_some (sym (ap (option_and_then (call_by r.library.structs c seen)) (ap (signature r.library) at ∙ ap (option_and_then (λ t. Some (task_signature t))) there)) ∙ called.typed)
+      absurd (none-some _ (sym (ap (option_and_then (call_by r.library.structs c seen)) (ap (signature r.library) at ∙ ap (option_and_then (λ t. Some (task_signature t))) there)) ∙ called.typed))
   task_done depth declared c seen given scope called k at (Some t) there broken =
       record {
-        agrees = task_call_kept r small (flow r depth) (flow_image r.library depth) declared c seen given scope called k t at there (each_passes (task_typed r.library.structs) r.library.tasks k t kept.tasks there) broken;
+        agrees = task_call_kept r small (flow r depth) (flow_image r.library depth) declared c seen given scope called k t at there (all_at (task_typed r.library.structs) r.library.tasks k t kept.tasks there) broken;
         simple = λ s e d i.
-            let same : task_signature t ≡ s = some_same (sym (ap (signature r.library) at ∙ ap (option_and_then (λ u. Some (task_signature u))) there) ∙ e) in
+            let same : task_signature t ≡ s = same_Some _ _ (sym (ap (signature r.library) at ∙ ap (option_and_then (λ u. Some (task_signature u))) there) ∙ e) in
             task_simple r.library.structs t broken d (subst (λ (z : Signature). Contains z.outputs d) (sym same) i);
       }
 
   flow_done : (depth : ℕ) → AgreesAt depth → (declared : List (List ℕ)) (c : TCall) (seen given : Seen) (scope : Scope) → IsCalled r.library declared c seen given scope → (m k : ℕ) → m ≤ depth → c.target ≡ target.Flow k
       → reached r.library (suc depth) k ≡ [] → (o : Option FlowDef) → slice_get r.library.flows k ≡ o → flow_nests (body_nests r.library.flows m) o ≡ true → CallDone r (flow r (suc depth)) (flow_image r.library (suc depth)) c seen scope
   flow_done depth agrees declared c seen given scope called m k le at broken None there nested =
-      none_some (sym (ap (option_and_then (call_by r.library.structs c seen)) (ap (signature r.library) at ∙ ap (option_and_then (λ f. Some (flow_signature f))) there)) ∙ called.typed)
+      absurd (none-some _ (sym (ap (option_and_then (call_by r.library.structs c seen)) (ap (signature r.library) at ∙ ap (option_and_then (λ f. Some (flow_signature f))) there)) ∙ called.typed))
   flow_done depth agrees declared c seen given scope called m k le at broken (Some f) there nested =
       let p = reached_parts r.library depth k f there broken in
-      let t = is_typed r.library f (each_passes (flow_typed r.library) r.library.flows k f kept.flows there) in
+      let t = is_typed r.library f (all_at (flow_typed r.library) r.library.flows k f kept.flows there) in
       record {
         agrees =
             flow_call_kept r (flow r (suc depth)) depth declared c seen given scope called k f at there
             (inputs_are r.library.structs [] (inputs_bound f.inputs) f.inputs t.inputs_are (flow_rules r.library f p.0).inputs) (sym (fresh-distinct (input_names f.inputs)) ∙ t.inputs_new) (agrees m k f le there nested broken);
         simple = λ s e d i.
-            let same : flow_signature f ≡ s = some_same (sym (ap (signature r.library) at ∙ ap (option_and_then (λ u. Some (flow_signature u))) there) ∙ e) in
+            let same : flow_signature f ≡ s = same_Some _ _ (sym (ap (signature r.library) at ∙ ap (option_and_then (λ u. Some (flow_signature u))) there) ∙ e) in
             flow_simple r.library f p.0 d (subst (λ (z : Signature). Contains z.outputs d) (sym same) i);
       }
 

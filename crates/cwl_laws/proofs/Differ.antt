@@ -2,6 +2,7 @@
 use Rattle.std.proofs.Common.{◌≡◌, ℕ, ◌⊎◌, inl, inr, Bool, true, false, List, [], ◌∷◌, ◌++◌, map, Option, Some, None, Contains, sym, ap, ◌∙◌, subst, refl}
 use Rattle.std.proofs.lemmas.Bool.{false≢true, and_parts}
 use Rattle.std.proofs.lemmas.List.Elements.{Contains-append_cases}
+use Rattle.std.proofs.lemmas.Option.{none-some}
 use Rattle.wdl_base.specs.declared.name.Key.{Key}
 use Rattle.wdl_value.specs.declared.ty.Ty.{Ty}
 use Rattle.wdl_typed.specs.declared.flow.Statement.{Statement, fold-Statement}
@@ -20,9 +21,6 @@ use Rattle.cwl_laws.proofs.Elements.{among_has, map_has, no_out, none_left, none
 use Rattle.cwl_laws.proofs.Keys.{items_new}
 use Rattle.cwl_laws.proofs.Splits.{split}
 use Rattle.cwl_laws.proofs.Uses.{HasType}
-
-none_some : {A : Type 0} {x : A} {B : Type 0} → None ≡ Some x → B
-none_some h = cc
 
 -- what a step gives, and the items in it, are no names of these
 pub record NoType (names : List Bound) (d : Draft) : Type 0 where
@@ -65,7 +63,7 @@ not_given names ds h k t = by_test (is_among k (keys_of (body_links ds))) refl
     by_test false e = refl
     by_test true e =
         let r = among_has (body_links ds) k e in
-        none_some (sym (no_link names ds h r.0 r.1) ∙ ap (type_in names) r.2 ∙ t.1)
+        absurd (none-some _ (sym (no_link names ds h r.0 r.1) ∙ ap (type_in names) r.2 ∙ t.1))
 
 -- ---- references that differ
 

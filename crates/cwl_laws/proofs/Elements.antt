@@ -1,25 +1,19 @@
 -- Elements of lists that are made of others, and names by their types.
 use Rattle.std.proofs.Common.{◌≡◌, ◌⊎◌, inl, inr, Bool, true, false, cond, not, ◌||◌, List, [], ◌∷◌, ◌++◌, map, Option, Some, None, Contains, sym, ap, ◌∙◌, refl}
 use Rattle.std.proofs.lemmas.Bool.{false≢true, and_parts, not-true, or_left, or_parts, or_right}
+use Rattle.std.proofs.lemmas.Option.{none-some, same_Some}
 use Rattle.wdl_base.specs.declared.name.Key.{Key}
 use Rattle.wdl_value.specs.declared.ty.Ty.{Ty}
 use Rattle.wdl_typed.specs.declared.scope.Bound.{Bound}
 use Rattle.wdl_typed.specs.Journal.{keys_distinct}
 use Rattle.wdl_typed.specs.Scope.{is_among, same_key, type_in}
-use Rattle.flow_soundness.proofs.NewNames.{keys_of as bound_keys}
+use Rattle.flow_soundness.proofs.NewNames.{keys_of as bound_keys, same_key-refl as same_itself}
 use Rattle.cwl_model.proofs.Rounds.{first_is, first_or_later, later_is, none_is, or_else}
 use Rattle.cwl_image.specs.Image.{Linkage, Output, Scope, keys_of, linkage_at, type_of}
 use Rattle.cwl_laws.specs.Laws.{has_key}
 use Rattle.cwl_laws.specs.Parts.{LinksTyped, OutsTyped}
-use Rattle.cwl_laws.proofs.Bodies.{key_same}
-use Rattle.cwl_laws.proofs.Conditions.{same_itself}
 use Rattle.cwl_laws.proofs.Uses.{HasType, type_append}
-
-none_some : {A : Type 0} {x : A} {B : Type 0} → None ≡ Some x → B
-none_some h = cc
-
-some_same : {A : Type 0} {x y : A} → Some x ≡ Some y → x ≡ y
-some_same h = cc
+use Rattle.wdl_flow.proofs.MarkLemmas.{same_key-true as key_same}
 
 -- ---- elements
 
@@ -79,7 +73,7 @@ none_left bs cs k h = by_type (type_in bs k) refl
   where
     by_type : (o : Option Ty) → type_in bs k ≡ o → type_in bs k ≡ None
     by_type None e = e
-    by_type (Some t) e = none_some (sym h ∙ type_append bs cs k ∙ ap (λ o. or_else o (type_in cs k)) e)
+    by_type (Some t) e = absurd (none-some _ (sym h ∙ type_append bs cs k ∙ ap (λ o. or_else o (type_in cs k)) e))
 
 pub none_right : (bs cs : List Bound) (k : Key) → type_in (bs ++ cs) k ≡ None → type_in cs k ≡ None
 none_right bs cs k h = sym (ap (λ o. or_else o (type_in cs k)) (none_left bs cs k h)) ∙ sym (type_append bs cs k) ∙ h
@@ -101,23 +95,23 @@ no_out (o ∷ os) [] h k n = absurd h
 no_out (o ∷ os) (b ∷ bs) h k n = by_test (λ q. no_out os bs h.2 k q) (same_key b.key k) (ap (λ j. same_key j k) h.0) n
   where
     by_test : (type_in bs k ≡ None → has_key os k ≡ false) → (w : Bool) → same_key o.key k ≡ w → cond w (Some b.ty) (type_in bs k) ≡ None → (same_key o.key k || has_key os k) ≡ false
-    by_test rest true e q = none_some (sym q)
+    by_test rest true e q = absurd (none-some _ (sym q))
     by_test rest false e q = ap (λ c. c || has_key os k) e ∙ rest q
 
 pub link_typed : (ls : Scope) (bs : List Bound) → LinksTyped ls bs → (k : Key) (t : Ty) → type_in bs k ≡ Some t → (l : Linkage) × (linkage_at ls k ≡ Some l) × (l.ty ≡ type_of t)
-link_typed [] [] h k t e = none_some e
+link_typed [] [] h k t e = absurd (none-some _ e)
 link_typed [] (b ∷ bs) h k t e = absurd h
 link_typed (l ∷ ls) [] h k t e = absurd h
 link_typed (l ∷ ls) (b ∷ bs) h k t e = by_test (λ q. link_typed ls bs h.2 k t q) (same_key b.key k) (ap (λ j. same_key j k) h.0) e
   where
     by_test : (type_in bs k ≡ Some t → (m : Linkage) × (linkage_at ls k ≡ Some m) × (m.ty ≡ type_of t)) → (w : Bool) → same_key l.key k ≡ w → cond w (Some b.ty) (type_in bs k) ≡ Some t
         → (m : Linkage) × (cond (same_key l.key k) (Some l) (linkage_at ls k) ≡ Some m) × (m.ty ≡ type_of t)
-    by_test rest true s q = (l, ap (λ c. cond c (Some l) (linkage_at ls k)) s, h.1 ∙ ap type_of (some_same q))
+    by_test rest true s q = (l, ap (λ c. cond c (Some l) (linkage_at ls k)) s, h.1 ∙ ap type_of (same_Some _ _ q))
     by_test rest false s q = let r = rest q in (r.0, ap (λ c. cond c (Some l) (linkage_at ls k)) s ∙ r.1, r.2)
 
 -- what is linked has a type
 pub link_seen : (ls : Scope) (bs : List Bound) → LinksTyped ls bs → (k : Key) (l : Linkage) → linkage_at ls k ≡ Some l → HasType bs k
-link_seen [] bs h k l e = none_some e
+link_seen [] bs h k l e = absurd (none-some _ e)
 link_seen (m ∷ ls) [] h k l e = absurd h
 link_seen (m ∷ ls) (b ∷ bs) h k l e = by_test (λ q. link_seen ls bs h.2 k l q) (same_key m.key k) (ap (λ j. same_key j k) (sym h.0)) e
   where
@@ -133,7 +127,7 @@ link_keys (l ∷ ls) (b ∷ bs) h = ap (λ k. k ∷ keys_of ls) h.0 ∙ ap (λ k
 
 -- each name is that of an output
 pub out_back : (os : List Output) (bs : List Bound) → OutsTyped os bs → (k : Key) → HasType bs k → (o : Output) × Contains os o × (o.key ≡ k)
-out_back [] [] h k t = none_some t.1
+out_back [] [] h k t = absurd (none-some _ t.1)
 out_back [] (b ∷ bs) h k t = absurd h
 out_back (o ∷ os) [] h k t = absurd h
 out_back (o ∷ os) (b ∷ bs) h k t = by_test (λ q. out_back os bs h.2 k (t.0, q)) (same_key b.key k) refl t.1

@@ -19,7 +19,6 @@ use Rattle.wdl_typed.specs.Flow.{Callee, Flowing, Known, Names, Run, Sight, args
 use Rattle.wdl_typed.specs.Lists.{has_name}
 use Rattle.wdl_typed.specs.Requests.{Tried}
 use Rattle.wdl_typed.specs.Scope.{lookup}
-use Rattle.flow_laws.proofs.KnownNames.{keys_of}
 use Rattle.flow_laws.proofs.Under.{Gives}
 use Rattle.cwl_model.specs.Means.{Meaning, Named, Running, all_taken, are_typed, are_within, flow_gives, given_outputs, incomplete, known_at_last, running, step_means, value_at, wired_means}
 use Rattle.cwl_model.specs.Rounds.{Linked}
@@ -34,9 +33,7 @@ use Rattle.cwl_laws.proofs.Calls.{args_meet, args_past, args_typed}
 use Rattle.cwl_laws.proofs.Reading.{MetBy, args_are_known, args_are_met, args_are_wired, args_object}
 use Rattle.cwl_laws.proofs.TaskCalls.{bind_of, binds_at, call_own}
 use Rattle.cwl_laws.proofs.Workflows.{named_among}
-
-some_same : {A : Type 0} {x y : A} → Some x ≡ Some y → x ≡ y
-some_same h = cc
+use Rattle.flow_laws.proofs.Called.{flow_keys as ended_keys}
 
 -- ---- what the callee gives, as the call's outputs
 
@@ -92,10 +89,6 @@ ended_agrees call outs f m a =
     }
 
 -- ---- calls
-
-ended_keys : (call : List ℕ) (names : List Known) (ds : List TDecl) → keys_of (map (output_of names call) ds) ≡ output_keys call ds
-ended_keys call names [] = refl
-ended_keys call names (d ∷ ds) = ap (λ (ks : List Key). out_key call d.name ∷ ks) (ended_keys call names ds)
 
 module _ (r : Run) (callee : Callee) (n : Names) (seen : List Bound) (scope : Scope) (processes : Targets) (c : TCall) (k : ℕ) (f : FlowDef)
     (keys : n.keys ≡ output_keys c.name f.outputs) (calls : n.calls ≡ c.name ∷ []) (is : IsFlowCall r callee seen scope processes c k f) where

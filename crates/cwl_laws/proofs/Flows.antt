@@ -2,6 +2,7 @@
 use Rattle.std.proofs.Common.{◌≡◌, ℕ, ◌<◌, ◌≤◌, ◌^◌, Bool, true, false, cond, ◌&&◌, List, [], ◌∷◌, ◌++◌, map, Option, Some, None, Contains, append-nil, append_assoc, sym, ap, ◌∙◌, subst, refl}
 use Rattle.std.specs.Str.{bytes_eq}
 use Rattle.std.proofs.lemmas.Bool.{false≢true, and_parts}
+use Rattle.std.proofs.lemmas.Option.{none-some, same_Some}
 use Rattle.wdl_base.specs.declared.name.Key.{Key}
 use Rattle.wdl_base.specs.Names.{is_name}
 use Rattle.wdl_value.specs.declared.value.Value.{Value}
@@ -22,7 +23,6 @@ use Rattle.wdl_typed.specs.Scope.{is_among, lookup, same_key, same_second, type_
 use Rattle.wdl_typed.specs.Typing.{is_type}
 use Rattle.wdl_names.proofs.FreshLemmas.{fresh-distinct}
 use Rattle.flow_soundness.proofs.FlowSound.{Typed, body_is_new}
-use Rattle.flow_soundness.proofs.Fitting.{is_type-some}
 use Rattle.flow_soundness.proofs.NewNames.{name_left}
 use Rattle.flow_laws.proofs.Checked.{IsFlow, OutputsDiffer, names_right}
 use Rattle.flow_laws.proofs.Owned.{shared_by_none}
@@ -37,7 +37,6 @@ use Rattle.cwl_laws.specs.Parts.{LinksTyped}
 use Rattle.cwl_laws.specs.Premises.{AreOutputs, IsOutput, IsWorkflow, input_names_with}
 use Rattle.cwl_laws.specs.Tools.{drafts_of, ground_of, runners_of}
 use Rattle.cwl_laws.proofs.Agreeing.{CallsDone, statements_done}
-use Rattle.cwl_laws.proofs.Bodies.{key_same}
 use Rattle.cwl_laws.proofs.Differ.{all_new, body_differs, body_fresh}
 use Rattle.cwl_laws.proofs.Elements.{among_has, link_seen, link_typed, not_linked}
 use Rattle.cwl_laws.proofs.Statements.{AllDone, BodyHere, IsSound, all_wires, new_differ}
@@ -50,12 +49,8 @@ use Rattle.cwl_laws.proofs.Steps.{AreNumbered, are_numbered, steps_apart}
 use Rattle.cwl_laws.proofs.Tools.{both_empty, inputs_are, rule_holds}
 use Rattle.cwl_laws.proofs.Uses.{key_typed, type_append}
 use Rattle.cwl_laws.proofs.Workflows.{named_among}
-
-none_some : {A : Type 0} {x : A} {B : Type 0} → None ≡ Some x → B
-none_some h = cc
-
-some_same : {A : Type 0} {x y : A} → Some x ≡ Some y → x ≡ y
-some_same h = cc
+use Rattle.wdl_flow.proofs.MarkLemmas.{same_key-true as key_same}
+use Rattle.flow_soundness.proofs.Fitting.{is_type-some}
 
 -- ---- rules
 
@@ -78,7 +73,7 @@ inputs_linked [] = tt
 inputs_linked (i ∷ is) = (refl, refl, inputs_linked is)
 
 inputs_simple : (structs : Structs) (names : List Bound) (is : List TInput) → each_broken (input_broken structs names) is ≡ [] → AreSimple (inputs_bound is)
-inputs_simple structs names [] h k t e = none_some e
+inputs_simple structs names [] h k t e = absurd (none-some _ e)
 inputs_simple structs names (i ∷ is) h k t e =
     let p = both_empty (input_broken structs names i) (each_broken (input_broken structs names) is) h in
     let q = both_empty (unless (is_simple i.ty) 605 i.span ++ unless (default_allowed structs names i.value) 606 i.span) (unless (is_default i.ty i.value) 607 i.span) p.0 in
@@ -86,11 +81,11 @@ inputs_simple structs names (i ∷ is) h k t e =
     by_test (same_key (plain_key i.name) k) e (rule_holds (is_simple i.ty) 605 i.span s.0) (λ z. inputs_simple structs names is p.1 k t z)
   where
     by_test : (b : Bool) → cond b (Some i.ty) (type_in (inputs_bound is) k) ≡ Some t → is_simple i.ty ≡ true → (type_in (inputs_bound is) k ≡ Some t → is_simple t ≡ true) → is_simple t ≡ true
-    by_test true z own rest = ap is_simple (sym (some_same z)) ∙ own
+    by_test true z own rest = ap is_simple (sym (same_Some _ _ z)) ∙ own
     by_test false z own rest = rest z
 
 inputs_words : (is : List TInput) → are_names (input_names is) ≡ true → AreWords (inputs_bound is)
-inputs_words [] h k t e = none_some e
+inputs_words [] h k t e = absurd (none-some _ e)
 inputs_words (i ∷ is) h k t e =
     let p = and_parts (is_name i.name) (are_names (input_names is)) h in
     by_test (same_key (plain_key i.name) k) refl e p.0 (λ z. inputs_words is p.1 k t z)
@@ -105,7 +100,7 @@ inputs_unseen value (i ∷ is) k h = by_test (same_key (plain_key i.name) k) h (
   where
     by_test : (b : Bool) → cond b (Some i.ty) (type_in (inputs_bound is) k) ≡ None → (type_in (inputs_bound is) k ≡ None → lookup (env_of (input_names_with value is)) k ≡ None)
         → cond b (Some (value i)) (lookup (env_of (input_names_with value is)) k) ≡ None
-    by_test true z rest = none_some (sym z)
+    by_test true z rest = absurd (none-some _ (sym z))
     by_test false z rest = rest z
 
 -- ---- outputs
@@ -119,7 +114,7 @@ call_none (d ∷ ds) k s h = ap (λ o. cond (bytes_eq d.name k.first && same_sec
     by_and true = refl
     by_and false = refl
 
-or_nothing : {A : Type 0} (o : Option A) → or_else o None ≡ o
+pub or_nothing : {A : Type 0} (o : Option A) → or_else o None ≡ o
 or_nothing (Some x) = refl
 or_nothing None = refl
 
@@ -224,7 +219,7 @@ module _ (r : Run) (callee : Callee) (flows : ℕ → Process) (targets : Target
   plain_none name = not_linked (body_links Ds) (plain_key name) (by_test (is_among (plain_key name) (keys_of (body_links Ds))) refl)
     where
       clash : (k : Key) → IsOutputKey k → k ≡ plain_key name → ⊥
-      clash k o e = none_some (sym (ap (λ (z : Key). z.second) e) ∙ o.second)
+      clash k o e = absurd (none-some _ (sym (ap (λ (z : Key). z.second) e) ∙ o.second))
 
       by_test : (b : Bool) → is_among (plain_key name) (keys_of (body_links Ds)) ≡ b → b ≡ false
       by_test false e = refl

@@ -1,6 +1,7 @@
 -- What a statement gives out, and the outputs of its step.
 use Rattle.std.proofs.Common.{◌≡◌, ℕ, Bool, true, false, cond, List, [], ◌∷◌, ◌++◌, map, Option, Some, None, option_and_then, sym, ap, ◌∙◌, subst, refl}
 use Rattle.std.proofs.lemmas.Bool.{false≢true}
+use Rattle.std.proofs.lemmas.Option.{none-some, same_Some}
 use Rattle.wdl_value.specs.declared.ty.Ty.{Ty, Ty-F, fold-roll-Ty, map-Ty, out-Ty, roll-Ty, roll-out-Ty}
 use Rattle.wdl_value.specs.declared.ty.Ty.TheOpen as type
 use Rattle.wdl_value.specs.declared.ty.Ty.TheVariants as ty
@@ -20,12 +21,6 @@ use Rattle.cwl_image.specs.Subset.{Walk, Walked, block_broken, body_walk, output
 use Rattle.cwl_laws.specs.Parts.{LinksTyped, OutsTyped}
 use Rattle.cwl_laws.proofs.Scatters.{array_type}
 use Rattle.cwl_laws.proofs.Tools.{both_empty, rule_holds}
-
-none_some : {A : Type 0} {x : A} {B : Type 0} → None ≡ Some x → B
-none_some h = cc
-
-some_same : {A : Type 0} {x y : A} → Some x ≡ Some y → x ≡ y
-some_same h = cc
 
 -- ---- types
 
@@ -129,7 +124,7 @@ module _ (lib : Library) (processes : Targets) (declared : List (List ℕ)) wher
       LinksTyped (body_links (map (draft lib processes) ss)) g.names × ((body_walk (map (walk lib declared) ss) seen.names).given ≡ g.names)
 
   body_same : (ks : List KnownSame) (seen g : Seen) → body_step (map (gives lib) (firsts ks)) seen ≡ Some g → (body_walk (map (walk lib declared) (firsts ks)) seen.names).broken ≡ [] → SameBody (firsts ks) seen g
-  body_same [] seen g h w = let same = ap (λ (s : Seen). s.names) (some_same h) in (subst (LinksTyped []) same tt, same)
+  body_same [] seen g h w = let same = ap (λ (s : Seen). s.names) (same_Some _ _ h) in (subst (LinksTyped []) same tt, same)
   body_same (k ∷ ks) seen g h w = by_first (λ first r q b. body_same ks (joined seen first) r q b) (gives lib k.0 seen) refl h
     where
       split : ((walk lib declared k.0 seen.names).broken ≡ []) × ((body_walk (map (walk lib declared) (firsts ks)) (seen.names ++ (walk lib declared k.0 seen.names).given)).broken ≡ [])
@@ -140,17 +135,17 @@ module _ (lib : Library) (processes : Targets) (declared : List (List ℕ)) wher
           (r : Seen) → body_step (map (gives lib) (firsts ks)) (joined seen first) ≡ Some r → (body_walk (map (walk lib declared) (firsts ks)) (seen.names ++ first.names)).broken ≡ [] → SameBody (firsts ks) (joined seen first) r
 
       by_first : ((first : Seen) → Rest first) → (o : Option Seen) → gives lib k.0 seen ≡ o → option_and_then (λ first. option_and_then (λ rest. Some (joined first rest)) (body_step (map (gives lib) (firsts ks)) (joined seen first))) o ≡ Some g → SameBody (firsts (k ∷ ks)) seen g
-      by_first rests None e h = none_some h
+      by_first rests None e h = absurd (none-some _ h)
       by_first rests (Some first) e h = by_rest (rests first) (body_step (map (gives lib) (firsts ks)) (joined seen first)) refl h
         where
           here : OutsTyped (draft lib processes k.0).outs first.names × ((walk lib declared k.0 seen.names).given ≡ first.names)
           here = k.1 seen first e split.0
 
           by_rest : Rest first → (o : Option Seen) → body_step (map (gives lib) (firsts ks)) (joined seen first) ≡ o → option_and_then (λ rest. Some (joined first rest)) o ≡ Some g → SameBody (firsts (k ∷ ks)) seen g
-          by_rest rest None q h = none_some h
+          by_rest rest None q h = absurd (none-some _ h)
           by_rest rest (Some more) q h =
               let r = rest more q (subst (λ bs. (body_walk (map (walk lib declared) (firsts ks)) (seen.names ++ bs)).broken ≡ []) here.1 split.1) in
-              let names : first.names ++ more.names ≡ g.names = ap (λ (s : Seen). s.names) (some_same h) in (
+              let names : first.names ++ more.names ≡ g.names = ap (λ (s : Seen). s.names) (same_Some _ _ h) in (
                 subst (LinksTyped (body_links (map (draft lib processes) (firsts (k ∷ ks))))) names
                     (links_append (links_of (draft lib processes k.0)) (body_links (map (draft lib processes) (firsts ks))) first.names more.names
                     (outs_linked (draft lib processes k.0).id (draft lib processes k.0).outs first.names here.0) r.0),
@@ -167,11 +162,11 @@ module _ (lib : Library) (processes : Targets) (declared : List (List ℕ)) wher
   layer_same (layer.Call c) seen given h w = by_signature (signature lib c.target) h
     where
       by_test : (s : Signature) (b : Bool) → cond b (Some (call_gives c.name s.outputs)) None ≡ Some given → OutsTyped (map (call_output c.name) s.outputs) given.names × (map (output_bound c.name) s.outputs ≡ given.names)
-      by_test s true h = let same = ap (λ (z : Seen). z.names) (some_same h) in (subst (OutsTyped (map (call_output c.name) s.outputs)) same (call_typed c.name s.outputs), same)
-      by_test s false h = none_some h
+      by_test s true h = let same = ap (λ (z : Seen). z.names) (same_Some _ _ h) in (subst (OutsTyped (map (call_output c.name) s.outputs)) same (call_typed c.name s.outputs), same)
+      by_test s false h = absurd (none-some _ h)
 
       by_signature : (o : Option Signature) → option_and_then (call_by lib.structs c seen) o ≡ Some given → OutsTyped (signature_outputs c.name o) given.names × (outputs_bound c.name o ≡ given.names)
-      by_signature None h = none_some h
+      by_signature None h = absurd (none-some _ h)
       by_signature (Some s) h = by_test s _ h
   layer_same (layer.Scatter b) seen given h w = by_type (in_body lib.structs seen.names b.over) h rest
     where
@@ -186,10 +181,10 @@ module _ (lib : Library) (processes : Targets) (declared : List (List ℕ)) wher
 
       by_body : (u : Ty) (some : Bool) (o : Option Seen) → body_step (map (gives lib) (firsts b.body)) (with_item seen b.item u) ≡ o → option_and_then (λ s. Some (retyped (λ z. ty.Array z some) s)) o ≡ Some given
           → (body_walk ws (seen.names ++ bound b.item u ∷ [])).broken ≡ [] → OutsTyped outs given.names × (retyped_by (λ z. ty.Array z some) (body_walk ws (seen.names ++ bound b.item u ∷ [])).given ≡ given.names)
-      by_body u some None e h w = none_some h
+      by_body u some None e h w = absurd (none-some _ h)
       by_body u some (Some g) e h w =
           let r = body_same b.body (with_item seen b.item u) g e w in
-          let names : retyped_by (λ z. ty.Array z some) g.names ≡ given.names = ap (λ (z : Seen). z.names) (some_same h) in (
+          let names : retyped_by (λ z. ty.Array z some) g.names ≡ given.names = ap (λ (z : Seen). z.names) (same_Some _ _ h) in (
             subst (OutsTyped outs) names (block_typed list_type (λ z. ty.Array z some) (λ t. sym (array_type t some)) (body_links (map (draft lib processes) (firsts b.body))) g.names r.0),
             ap (retyped_by (λ z. ty.Array z some)) r.1 ∙ names,
           )
@@ -197,11 +192,11 @@ module _ (lib : Library) (processes : Targets) (declared : List (List ℕ)) wher
       by_layer : (z : Ty-F Ty) → scatter_over b.item (body_step (map (gives lib) (firsts b.body))) seen z ≡ Some given → (scatter_at b.item (body_walk ws) seen.names z).broken ≡ []
           → OutsTyped outs given.names × ((scatter_at b.item (body_walk ws) seen.names z).given ≡ given.names)
       by_layer (type.Array u some) h w = by_body u some (body_step (map (gives lib) (firsts b.body)) (with_item seen b.item u)) refl h w
-      by_layer z h w = none_some h
+      by_layer z h w = absurd (none-some _ h)
 
       by_type : (o : Option Ty) → option_and_then (λ t. scatter_over b.item (body_step (map (gives lib) (firsts b.body))) seen (out-Ty t)) o ≡ Some given → (scatter_walk b.item (body_walk ws) seen.names o).broken ≡ []
           → OutsTyped outs given.names × ((scatter_walk b.item (body_walk ws) seen.names o).given ≡ given.names)
-      by_type None h w = none_some h
+      by_type None h w = absurd (none-some _ h)
       by_type (Some t) h w = by_layer (out-Ty t) h w
   layer_same (layer.If b) seen given h w = by_type (in_body lib.structs seen.names b.cond) h
     where
@@ -215,20 +210,20 @@ module _ (lib : Library) (processes : Targets) (declared : List (List ℕ)) wher
       outs = map (block_output null_type) (body_links (map (draft lib processes) (firsts b.body)))
 
       by_body : (o : Option Seen) → body_step (map (gives lib) (firsts b.body)) seen ≡ o → option_and_then (λ s. Some (retyped optional s)) o ≡ Some given → OutsTyped outs given.names × (retyped_by optional (body_walk ws seen.names).given ≡ given.names)
-      by_body None e h = none_some h
+      by_body None e h = absurd (none-some _ h)
       by_body (Some g) e h =
           let r = body_same b.body seen g e rest in
-          let names : retyped_by optional g.names ≡ given.names = ap (λ (z : Seen). z.names) (some_same h) in (
+          let names : retyped_by optional g.names ≡ given.names = ap (λ (z : Seen). z.names) (same_Some _ _ h) in (
             subst (OutsTyped outs) names (block_typed null_type optional optional_type (body_links (map (draft lib processes) (firsts b.body))) g.names r.0),
             ap (retyped_by optional) r.1 ∙ names,
           )
 
       by_bool : (t : Ty) (c : Bool) → cond c (option_and_then (λ s. Some (retyped optional s)) (body_step (map (gives lib) (firsts b.body)) seen)) None ≡ Some given → OutsTyped outs given.names × (retyped_by optional (body_walk ws seen.names).given ≡ given.names)
       by_bool t true h = by_body (body_step (map (gives lib) (firsts b.body)) seen) refl h
-      by_bool t false h = none_some h
+      by_bool t false h = absurd (none-some _ h)
 
       by_type : (o : Option Ty) → option_and_then (if_over (body_step (map (gives lib) (firsts b.body))) seen) o ≡ Some given → OutsTyped outs given.names × (retyped_by optional (body_walk ws seen.names).given ≡ given.names)
-      by_type None h = none_some h
+      by_type None h = absurd (none-some _ h)
       by_type (Some t) h = by_bool t (is_bool t) h
 
   pub given_same : (st : Statement) → Same st

@@ -1,25 +1,23 @@
 -- The ids of references and of steps.
-use Rattle.std.proofs.Common.{◌≡◌, ℕ, ◌<◌, ◌^◌, ◌==◌, nat_le, Bool, true, false, not, ◌&&◌, ◌||◌, List, [], ◌∷◌, ◌++◌, length, Option, Some, None, codes, decimal, sym, ap, ◌∙◌, refl}
+use Rattle.std.proofs.Common.{◌≡◌, ℕ, ◌<◌, ◌^◌, ◌==◌, Bool, true, false, ◌&&◌, ◌||◌, List, [], ◌∷◌, ◌++◌, Option, Some, None, codes, decimal, sym, ap, ◌∙◌, refl}
 use Rattle.std.specs.Char.{is_ascii_alphabetic, is_ascii_alphanumeric}
 use Rattle.std.specs.Str.{bytes_eq}
 use Rattle.std.proofs.lemmas.Bool.{false≢true, and_parts, or_parts}
 use Rattle.std.proofs.lemmas.Slice.Eq.{bytes_eq-Decides}
 use Rattle.wdl_base.specs.declared.name.Key.{Key}
 use Rattle.wdl_base.specs.declared.place.Segment.TheVariants as segment
-use Rattle.wdl_base.specs.Names.{is_among, is_name, is_word, is_word_from, reserved_words}
+use Rattle.wdl_base.specs.Names.{is_name, is_word, is_word_from}
 use Rattle.wdl_typed.specs.Declarations.{plain_key}
 use Rattle.wdl_typed.specs.Scope.{same_key}
 use Rattle.cwl_model.specs.Ids.{segment_of}
 use Rattle.cwl_image.specs.Image.{id_of, joined_id}
 use Rattle.cwl_laws.specs.Premises.{when_id}
-use Rattle.cwl_laws.proofs.Conditions.{same_itself}
 use Rattle.cwl_laws.proofs.Files.{number_same}
 use Rattle.cwl_laws.proofs.Segments.{call_reads, has_dash, if_reads, scatter_reads}
+use Rattle.flow_soundness.proofs.NewNames.{same_key-refl as same_itself}
+use Rattle.wdl_base.proofs.PlaceLemmas.{name_word as is_a_word}
 
 -- ---- names
-
-is_a_word : (s : List ℕ) → is_name s ≡ true → is_word s ≡ true
-is_a_word s h = (and_parts (nat_le (length s) 128) (is_word s) (and_parts (nat_le (length s) 128 && is_word s) (not (is_among s reserved_words)) h).0).1
 
 -- a character of a word is no dash
 no_dash_at : (f : ℕ → Bool) (c : ℕ) → f 45 ≡ false → f c ≡ true → (c == 45) ≡ false

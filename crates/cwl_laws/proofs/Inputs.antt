@@ -23,9 +23,6 @@ use Rattle.cwl_image.specs.Image.{cwl_in, literal, preset_of}
 use Rattle.cwl_laws.specs.Tools.{input_value}
 use Rattle.cwl_laws.proofs.Starts.{AllMeet, LeftOut, absent_within}
 
-none_some : {A : Type 0} {x : A} {B : Type 0} → None ≡ Some x → B
-none_some h = cc
-
 binds_append : (bs cs : List Bind) (name : List ℕ) → lookup (bs ++ cs) (plain_key name) ≡ or_else (lookup bs (plain_key name)) (lookup cs (plain_key name))
 binds_append [] cs name = refl
 binds_append (b ∷ bs) cs name = split (binds_append bs cs name) (same_key b.key (plain_key name))

@@ -3,6 +3,7 @@ use Rattle.std.proofs.Common.{arith, ◌≡◌, ◌≤◌, ◌<◌, ℕ, zero, s
 use Rattle.std.specs.List.{list_all}
 use Rattle.std.specs.Prelude.{neg_ℤ}
 use Rattle.std.proofs.lemmas.Bool.{false≢true, and_from, and_parts, le-leb, leb-true, lt-ltb, ltb-true}
+use Rattle.std.proofs.lemmas.Option.{none-some, same_Some}
 use Rattle.wdl_base.specs.declared.fault.EvalCode.TheVariants.{Overflow, TooLarge}
 use Rattle.wdl_base.specs.declared.name.Key.{Key}
 use Rattle.wdl_value.specs.declared.ty.Ty.{Ty, Ty-F, fold-roll-Ty, out-Ty, roll-Ty, roll-out-Ty}
@@ -34,12 +35,6 @@ use Rattle.cwl_image.specs.Expressions.{Placing, casts_step, casts_widen, is_sim
 use Rattle.cwl_image.specs.Image.{literal, literal_step, negated}
 use Rattle.cwl_laws.proofs.Casts.{casts_keep, simple_from}
 use Rattle.cwl_laws.proofs.References.{cast_met}
-
-none_some : {A : Type 0} {x : A} {B : Type 0} → None ≡ Some x → B
-none_some h = cc
-
-some_same : {A : Type 0} {x y : A} → Some x ≡ Some y → x ≡ y
-some_same h = cc
 
 -- ---- limits
 
@@ -93,17 +88,17 @@ abbrev number_plain : TExpr-F KnownNumbers → TExpr-F TExpr
 number_plain = map-TExpr KnownNumbers TExpr (λ (k : KnownNumbers). k.0)
 
 minus_is : (o : Option ℤ) (n : ℤ) → minus o ≡ Some n → (m : ℕ) × (o ≡ Some (pos m)) × (negated (pos m) ≡ n)
-minus_is None n h = none_some h
-minus_is (Some (pos m)) n h = (m, refl, some_same h)
-minus_is (Some (negsuc m)) n h = none_some h
+minus_is None n h = absurd (none-some _ h)
+minus_is (Some (pos m)) n h = (m, refl, same_Some _ _ h)
+minus_is (Some (negsuc m)) n h = absurd (none-some _ h)
 
 layer_number : (y : TExpr-F KnownNumbers) (n : ℤ) → (kind_step (map-TExpr TExpr Literal literal_of (number_plain y))).number ≡ Some n
     → (literal_step (map-TExpr TExpr Value literal (number_plain y)) ≡ v.Int n) × ((kind_step (map-TExpr TExpr Literal literal_of (number_plain y))).is_literal ≡ true)
 layer_number (layer.Lit x) n h = by_layer (out-Value x) refl h
   where
     by_layer : (y : Value-F Value) → out-Value x ≡ y → number_at y ≡ Some n → (x ≡ v.Int n) × (is_written_at y ≡ true)
-    by_layer (value.Int m) e h = (is_int_value x m e ∙ ap v.Int (some_same h), refl)
-    by_layer y e h = none_some h
+    by_layer (value.Int m) e h = (is_int_value x m e ∙ ap v.Int (same_Some _ _ h), refl)
+    by_layer y e h = absurd (none-some _ h)
 layer_number (layer.Neg k) n h =
     let r = minus_is (literal_of k.0).number n h in
     let x = (k.1 (pos r.0) r.1).0 in (
@@ -111,7 +106,7 @@ layer_number (layer.Neg k) n h =
       ap (λ o. is_some o) h,
     )
 layer_number (layer.Cast k t) n h = k.1 n h
-layer_number y n h = none_some h
+layer_number y n h = absurd (none-some _ h)
 
 -- A literal that has a number is that number.
 pub number_is : (x : TExpr) (n : ℤ) → (literal_of x).number ≡ Some n → (literal x ≡ v.Int n) × ((literal_of x).is_literal ≡ true)
@@ -200,10 +195,10 @@ module _ (structs : Structs) where
         by_type : (o : Option Ty) (w : Option (List Ty)) → type_by c k.0 p ≡ o → option_and_then (λ u. option_and_then (λ us. Some (u ∷ us)) w) o ≡ Some ts → all_same t ts ≡ true
             → ((u : Ty) → casts_widen c k.0 p ≡ true → type_by c k.0 p ≡ Some u → is_simple u ≡ true → IsLit structs k.0 u) → casts_widen c k.0 p ≡ true
             → ((us : List Ty) → w ≡ Some us → all_same t us ≡ true → AreLits ks t) → AreLits (k ∷ ks) t
-        by_type None w e q a own h rest = none_some q
-        by_type (Some u) None e q a own h rest = none_some q
+        by_type None w e q a own h rest = absurd (none-some _ q)
+        by_type (Some u) None e q a own h rest = absurd (none-some _ q)
         by_type (Some u) (Some us) e q a own h rest =
-            let d = and_parts (same_type u t) (all_same t us) (subst (λ zs. all_same t zs ≡ true) (sym (some_same q)) a) in
+            let d = and_parts (same_type u t) (all_same t us) (subst (λ zs. all_same t zs ≡ true) (sym (same_Some _ _ q)) a) in
             let same : u ≡ t = same_type-true u t d.0 in
             let here = own u h e (ap is_simple same ∙ s) in
             let there = rest us refl d.1 in
@@ -234,13 +229,13 @@ module _ (structs : Structs) where
   layer_lit (layer.Lit x) l c p t h q s = record { names = refl; met = λ z. refl; ok = by_layer (out-Value x) refl l q }
     where
       by_layer : (y : Value-F Value) → out-Value x ≡ y → is_written_at y ≡ true → literal_at y ≡ Some t → fits structs x t ≡ true
-      by_layer (value.Bool b) e l q = ap (fits structs x) (sym (some_same q)) ∙ ap (λ z. fits structs z ty.Bool) (sym (roll-out-Value x) ∙ ap roll-Value e ∙ v.rolls-Bool b) ∙ bool_fits structs b
-      by_layer (value.Str w) e l q = ap (fits structs x) (sym (some_same q)) ∙ ap (λ z. fits structs z ty.Str) (sym (roll-out-Value x) ∙ ap roll-Value e ∙ v.rolls-Str w) ∙ str_fits structs w
+      by_layer (value.Bool b) e l q = ap (fits structs x) (sym (same_Some _ _ q)) ∙ ap (λ z. fits structs z ty.Bool) (sym (roll-out-Value x) ∙ ap roll-Value e ∙ v.rolls-Bool b) ∙ bool_fits structs b
+      by_layer (value.Str w) e l q = ap (fits structs x) (sym (same_Some _ _ q)) ∙ ap (λ z. fits structs z ty.Str) (sym (roll-out-Value x) ∙ ap roll-Value e ∙ v.rolls-Str w) ∙ str_fits structs w
       by_layer (value.Int n) e l q = by_range (in_range n) refl q
         where
           by_range : (b : Bool) → in_range n ≡ b → when b ty.Int ≡ Some t → fits structs x t ≡ true
-          by_range true r q = ap (fits structs x) (sym (some_same q)) ∙ ap (λ z. fits structs z ty.Int) (is_int_value x n e) ∙ int_fits structs n r
-          by_range false r q = none_some q
+          by_range true r q = ap (fits structs x) (sym (same_Some _ _ q)) ∙ ap (λ z. fits structs z ty.Int) (is_int_value x n e) ∙ int_fits structs n r
+          by_range false r q = absurd (none-some _ q)
       by_layer y e l q = absurd (false≢true l)
   layer_lit (layer.Neg k) l c p t h q s =
       let o = some_number (minus (literal_of k.0).number) l in
@@ -261,11 +256,11 @@ module _ (structs : Structs) where
 
       by_type : (o : Option Ty) → type_by c k.0 p ≡ o → option_and_then (λ u. when (is_int u) ty.Int) o ≡ Some t → (n : ℕ) → literal k.0 ≡ v.Int (pos n)
           → ((u : Ty) → casts_widen c k.0 p ≡ true → type_by c k.0 p ≡ Some u → is_simple u ≡ true → IsLit structs k.0 u) → LayerLit (layer.Neg k.0) t
-      by_type None e q n x own = none_some q
+      by_type None e q n x own = absurd (none-some _ q)
       by_type (Some u) e q n x own = by_int (is_int u) refl q
         where
           by_int : (b : Bool) → is_int u ≡ b → when b ty.Int ≡ Some t → LayerLit (layer.Neg k.0) t
-          by_int false i q = none_some q
+          by_int false i q = absurd (none-some _ q)
           by_int true i q =
               let int : u ≡ ty.Int = int_type u i in
               let here = own u h e (ap is_simple int ∙ ap is_simple (sym ty.rolls-Int) ∙ fold-roll-Ty Bool simple_step type.Int) in
@@ -280,7 +275,7 @@ module _ (structs : Structs) where
                     ∙ ap (λ m. then_ (met (int_of m)) (λ y. met (limited y))) (negative_is n)
                     ∙ ap (λ b. then_ (met (cond b (Ok (v.Int (negated (pos n)))) (Err Overflow))) (λ y. met (limited y))) range
                     ∙ ap (λ y. met (limited y)) (sym (written x));
-                ok = ap (λ y. fits structs y t) (written x) ∙ ap (fits structs (v.Int (negated (pos n)))) (sym (some_same q)) ∙ int_fits structs (negated (pos n)) range;
+                ok = ap (λ y. fits structs y t) (written x) ∙ ap (fits structs (v.Int (negated (pos n)))) (sym (same_Some _ _ q)) ∙ int_fits structs (negated (pos n)) range;
               }
             where
               written : literal k.0 ≡ v.Int (pos n) → v.Int (negated (int_in (literal k.0))) ≡ v.Int (negated (pos n))
@@ -289,8 +284,8 @@ module _ (structs : Structs) where
     where
       by_types : (ks : List KnownLits) → list_all (λ (l : Literal). l.is_literal) (map literal_of (firsts ks)) ≡ true → items_hold (pairs c p (firsts ks)) p ≡ true → (o : Option (List Ty))
           → all_types (items_in (map (type_by c) (firsts ks)) p) ≡ o → option_and_then list_type o ≡ Some t → LayerLit (layer.ListOf (firsts ks)) t
-      by_types ks l h None e q = none_some q
-      by_types ks l h (Some []) e q = absurd (false≢true (sym (not_simple t (some_same q)) ∙ s))
+      by_types ks l h None e q = absurd (none-some _ q)
+      by_types ks l h (Some []) e q = absurd (false≢true (sym (not_simple t (same_Some _ _ q)) ∙ s))
         where
           not_simple : (t : Ty) → ty.Array ty.Empty false ≡ t → is_simple t ≡ false
           not_simple t e =
@@ -300,16 +295,16 @@ module _ (structs : Structs) where
       by_types (k ∷ ks) l h (Some (u ∷ us)) e q = by_same (all_same u us) refl q
         where
           by_same : (b : Bool) → all_same u us ≡ b → when b (ty.Array u true) ≡ Some t → LayerLit (layer.ListOf (firsts (k ∷ ks))) t
-          by_same false w q = none_some q
+          by_same false w q = absurd (none-some _ q)
           by_same true w q =
-              let array : is_simple u ≡ true = sym (ap is_simple (sym (ty.rolls-Array u true)) ∙ fold-roll-Ty Bool simple_step (type.Array u true)) ∙ ap is_simple (some_same q) ∙ s in
+              let array : is_simple u ≡ true = sym (ap is_simple (sym (ty.rolls-Array u true)) ∙ fold-roll-Ty Bool simple_step (type.Array u true)) ∙ ap is_simple (same_Some _ _ q) ∙ s in
               let r = items_lit c p (k ∷ ks) u (u ∷ us) l h e (and_from (same_type u u) (all_same u us) (same_type-refl u) w) array in
               record {
                 names = r.names;
                 met = λ z.
                     ap (λ m. then_ (then_ m (λ xs. Ok (v.List xs))) (λ x. met (limited x))) (r.met z)
                     ∙ list_met (list_all is_within (map literal (firsts (k ∷ ks)))) (map literal (firsts (k ∷ ks))) refl;
-                ok = ap (fits structs (v.List (map literal (firsts (k ∷ ks))))) (sym (some_same q)) ∙ some_fit structs (literal k.0) (map literal (firsts ks)) u true r.ok;
+                ok = ap (fits structs (v.List (map literal (firsts (k ∷ ks))))) (sym (same_Some _ _ q)) ∙ some_fit structs (literal k.0) (map literal (firsts ks)) u true r.ok;
               }
   layer_lit (layer.Cast k u) l c p t h q s =
       let r = k.1 l c p in
@@ -324,7 +319,7 @@ module _ (structs : Structs) where
 
       by_type : (o : Option Ty) → type_by c k.0 p ≡ o → option_and_then (λ w. when (coerces w u) u) o ≡ Some t → some_widens o u ≡ true → casts_widen c k.0 p ≡ true
           → ((w : Ty) → casts_widen c k.0 p ≡ true → type_by c k.0 p ≡ Some w → is_simple w ≡ true → IsLit structs k.0 w) → LayerLit (layer.Cast k.0 u) t
-      by_type None e q w a own = none_some q
+      by_type None e q w a own = absurd (none-some _ q)
       by_type (Some d) e q w a own =
           let same : u ≡ t = made (coerces d u) q in
           let from : is_simple d ≡ true = simple_from d u (ap is_simple same ∙ s) w in
@@ -339,8 +334,8 @@ module _ (structs : Structs) where
           }
         where
           made : (b : Bool) → when b u ≡ Some t → u ≡ t
-          made true h = some_same h
-          made false h = none_some h
+          made true h = same_Some _ _ h
+          made false h = absurd (none-some _ h)
   layer_lit y l c p t h q s = absurd (false≢true l)
 
   -- ---- where files are written

@@ -2,6 +2,7 @@
 use Rattle.std.proofs.Common.{◌≡◌, ℕ, suc, ◌<◌, ◌≤◌, ◌^◌, ◌+◌, Bool, true, false, cond, not, List, [], ◌∷◌, ◌++◌, map, length, Option, Some, None, option_and_then, Contains, arith, sym, ap, ◌∙◌, subst, refl}
 use Rattle.std.proofs.lemmas.Bool.{false≢true, and_parts, not-true, or_from, or_parts}
 use Rattle.std.proofs.lemmas.List.Elements.{Contains-append_left, Contains-append_right}
+use Rattle.std.proofs.lemmas.Option.{same_Some, none-some}
 use Rattle.wdl_base.specs.declared.name.Key.{Key}
 use Rattle.wdl_base.specs.declared.span.Span.{Span}
 use Rattle.wdl_base.specs.Names.{is_name}
@@ -21,7 +22,6 @@ use Rattle.wdl_typed.specs.Flow.{Callee, Part, Run, Runner, body_names, body_run
 use Rattle.wdl_typed.specs.Lists.{has_name}
 use Rattle.wdl_typed.specs.Scope.{is_among, same_key, type_in}
 use Rattle.flow_soundness.specs.Readiness.{IsNew}
-use Rattle.flow_soundness.proofs.GivenKeys.{some_inside}
 use Rattle.flow_soundness.proofs.Newness.{new_inside}
 use Rattle.flow_laws.proofs.Checked.{OutputsDiffer}
 use Rattle.cwl_model.specs.declared.process.Process.{Process}
@@ -35,7 +35,6 @@ use Rattle.cwl_image.specs.Subset.{block_broken, scatter_at, scatter_over as sca
 use Rattle.cwl_laws.specs.Laws.{Simulates}
 use Rattle.cwl_laws.specs.Premises.{IsCondition, IsScatter}
 use Rattle.cwl_laws.specs.Tools.{ground_of}
-use Rattle.cwl_laws.proofs.Bodies.{key_same}
 use Rattle.cwl_laws.proofs.Conditions.{if_simulates}
 use Rattle.cwl_laws.proofs.Covers.{Covers, if_covers, if_within, inner_inputs, outer_in, outer_linked, outer_out, scatter_covers, scatter_inputs, scatter_within}
 use Rattle.cwl_laws.proofs.Differ.{NoTypes, body_fresh, keys_differ, no_link}
@@ -49,12 +48,8 @@ use Rattle.cwl_laws.proofs.Steps.{AreNumbered, are_numbered, number_itself}
 use Rattle.cwl_laws.proofs.Uses.{HasType}
 use Rattle.cwl_laws.proofs.Tools.{both_empty, rule_holds}
 use Rattle.cwl_laws.proofs.Typings.{a_bool, array_simple, item_linked, item_simple, level_below, optional_simple, reference_simple, retyped_simple}
-
-some_same : {A : Type 0} {x y : A} → Some x ≡ Some y → x ≡ y
-some_same h = cc
-
-none_some : {A : Type 0} {x : A} {B : Type 0} → None ≡ Some x → B
-none_some h = cc
+use Rattle.wdl_base.proofs.Options.{then_parts}
+use Rattle.wdl_flow.proofs.MarkLemmas.{same_key-true as key_same}
 
 lower : (n m d : ℕ) → n ≡ suc m → n ≤ d → m ≤ d
 lower n m d e h = omega arith
@@ -189,15 +184,15 @@ module _ (r : Run) (callee : Callee) (flows : ℕ → Process) (declared_in : Li
     -- A condition agrees with its step.
     pub if_done : IfAgrees
     if_done =
-        let p = some_inside (in_body r.library.structs seen.names b.cond) (if_over (body_step (map (gives r.library) (firsts b.body))) seen) first l.typed in
+        let p = then_parts (if_over (body_step (map (gives r.library) (firsts b.body))) seen) (in_body r.library.structs seen.names b.cond) first l.typed in
         by_bool p.0 p.1 (is_bool p.0) refl p.2
       where
         by_bool : (t : Ty) → in_body r.library.structs seen.names b.cond ≡ Some t → (w : Bool) → is_bool t ≡ w
             → cond w (option_and_then (λ s. Some (retyped optional s)) (body_step (map (gives r.library) (firsts b.body)) seen)) None ≡ Some first → IfAgrees
-        by_bool t typed false e h = none_some h
+        by_bool t typed false e h = absurd (none-some _ h)
         by_bool t typed true e h =
-            let q = some_inside (body_step (map (gives r.library) (firsts b.body)) seen) (λ s. Some (retyped optional s)) first h in
-            if_made q.0 (typed ∙ ap Some (a_bool t e)) q.1 (some_same q.2)
+            let q = then_parts (λ s. Some (retyped optional s)) (body_step (map (gives r.library) (firsts b.body)) seen) first h in
+            if_made q.0 (typed ∙ ap Some (a_bool t e)) q.1 (same_Some _ _ q.2)
 
   -- ---- scatters
 
@@ -256,11 +251,11 @@ module _ (r : Run) (callee : Callee) (flows : ℕ → Process) (declared_in : Li
 
     one_type : (u : Ty) (k : Key) (w : Bool) → same_key (plain_key b.item) k ≡ w → type_in (bound b.item u ∷ []) k ≡ None → w ≡ false
     one_type u k false e h = refl
-    one_type u k true e h = none_some (sym h ∙ ap (λ c. cond c (Some u) None) e)
+    one_type u k true e h = absurd (none-some _ (sym h ∙ ap (λ c. cond c (Some u) None) e))
 
     item_type : (u : Ty) (k : Key) (t : Ty) (w : Bool) → same_key (plain_key b.item) k ≡ w → type_in (bound b.item u ∷ []) k ≡ Some t → (plain_key b.item ≡ k) × (u ≡ t)
-    item_type u k t true e h = (key_same (plain_key b.item) k e, some_same (sym (ap (λ c. cond c (Some u) None) e) ∙ h))
-    item_type u k t false e h = none_some (sym (ap (λ c. cond c (Some u) None) e) ∙ h)
+    item_type u k t true e h = (key_same (plain_key b.item) k e, same_Some _ _ (sym (ap (λ c. cond c (Some u) None) e) ∙ h))
+    item_type u k t false e h = absurd (none-some _ (sym (ap (λ c. cond c (Some u) None) e) ∙ h))
 
     module _ (u : Ty) (some : Bool) (sb : Seen) (typed : in_body r.library.structs seen.names b.over ≡ Some (ty.Array u some)) (inside : body_gives r.library (firsts b.body) (with_item seen b.item u) ≡ Some sb)
         (kept : (walk_body r.library declared_in (firsts b.body) (seen.names ++ bound b.item u ∷ [])).broken ≡ []) (key : Key) (refers_ : reference b.over ≡ Some key)
@@ -355,15 +350,15 @@ module _ (r : Run) (callee : Callee) (flows : ℕ → Process) (declared_in : Li
     -- A scatter agrees with its step.
     pub scatter_done : ScatterAgrees
     scatter_done =
-        let p = some_inside (in_body r.library.structs seen.names b.over) (λ t. scatter_over b.item (body_step (map (gives r.library) (firsts b.body))) seen (out-Ty t)) first l.typed in
+        let p = then_parts (λ t. scatter_over b.item (body_step (map (gives r.library) (firsts b.body))) seen (out-Ty t)) (in_body r.library.structs seen.names b.over) first l.typed in
         by_layer p.0 p.1 (out-Ty p.0) refl p.2
       where
         by_layer : (t : Ty) → in_body r.library.structs seen.names b.over ≡ Some t → (z : Ty-F Ty) → out-Ty t ≡ z → scatter_over b.item (body_step (map (gives r.library) (firsts b.body))) seen z ≡ Some first → ScatterAgrees
         by_layer t typed (type.Array u some) e h =
-            let q = some_inside (body_step (map (gives r.library) (firsts b.body)) (with_item seen b.item u)) (λ s. Some (retyped (λ w. ty.Array w some) s)) first h in
+            let q = then_parts (λ s. Some (retyped (λ w. ty.Array w some) s)) (body_step (map (gives r.library) (firsts b.body)) (with_item seen b.item u)) first h in
             let array : t ≡ ty.Array u some = sym (roll-out-Ty t) ∙ ap roll-Ty e ∙ ty.rolls-Array u some in
             let walked : (scatter_at b.item (body_walk (map (walk r.library declared_in) (firsts b.body))) seen.names (type.Array u some)).broken ≡ [] =
             ap (λ w. (scatter_at b.item (body_walk (map (walk r.library declared_in) (firsts b.body))) seen.names w).broken) (sym e)
             ∙ ap (λ o. (scatter_walk b.item (body_walk (map (walk r.library declared_in) (firsts b.body))) seen.names o).broken) (sym typed) ∙ scatter_rules.1 in
-            scatter_made u some q.0 (typed ∙ ap Some array) q.1 (some_same q.2) walked
-        by_layer t typed z e h = none_some h
+            scatter_made u some q.0 (typed ∙ ap Some array) q.1 (same_Some _ _ q.2) walked
+        by_layer t typed z e h = absurd (none-some _ h)

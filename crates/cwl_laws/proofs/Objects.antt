@@ -3,6 +3,7 @@ use Rattle.std.proofs.Common.{◌≡◌, ◌⊎◌, inl, inr, Bool, true, false,
 use Rattle.std.specs.Str.{bytes_eq}
 use Rattle.std.proofs.lemmas.Bool.{false≢true, and_from}
 use Rattle.std.proofs.lemmas.Slice.Eq.{bytes_eq-Decides}
+use Rattle.std.proofs.lemmas.Option.{none-some, same_Some}
 use Rattle.wdl_base.specs.declared.name.Key.{Key}
 use Rattle.wdl_value.specs.declared.value.Value.{Value, Value-F, out-Value, roll-Value, roll-out-Value}
 use Rattle.wdl_value.specs.declared.value.Value.TheVariants as v
@@ -17,13 +18,7 @@ use Rattle.cwl_model.specs.Rounds.{Linked, known_value}
 use Rattle.cwl_model.proofs.Rounds.{first_is, first_or_later, later_is, none_is}
 use Rattle.cwl_image.specs.Image.{Linkage, Scope, id_of, inner_linkage, inner_scope, input_of, linkage_at, link_or, outer_wire, type_or}
 use Rattle.cwl_laws.specs.Laws.{Shown, Shows}
-use Rattle.cwl_laws.proofs.Bodies.{key_same}
-
-none_some : {A : Type 0} {x : A} {B : Type 0} → None ≡ Some x → B
-none_some h = cc
-
-some_same : {A : Type 0} {x y : A} → Some x ≡ Some y → x ≡ y
-some_same h = cc
+use Rattle.wdl_flow.proofs.MarkLemmas.{same_key-true as key_same}
 
 -- ---- a value that is given
 
@@ -42,11 +37,11 @@ given_same x = by_test (is_undefined x) refl
     by_test false e = refl
 
 linkage_key : (scope : Scope) (key : Key) (l : Linkage) → linkage_at scope key ≡ Some l → l.key ≡ key
-linkage_key [] key l h = none_some h
+linkage_key [] key l h = absurd (none-some _ h)
 linkage_key (m ∷ scope) key l h = by_test (λ e. linkage_key scope key l e) (same_key m.key key) refl h
   where
     by_test : (linkage_at scope key ≡ Some l → l.key ≡ key) → (b : Bool) → same_key m.key key ≡ b → cond b (Some m) (linkage_at scope key) ≡ Some l → l.key ≡ key
-    by_test rest true s e = ap (λ (z : Linkage). z.key) (sym (some_same e)) ∙ key_same m.key key s
+    by_test rest true s e = ap (λ (z : Linkage). z.key) (sym (same_Some _ _ e)) ∙ key_same m.key key s
     by_test rest false s e = rest e
 
 abbrev pub value_in : List Known → Key → Value
@@ -130,14 +125,14 @@ module _ (scope : Scope) (names : List Known) (known : List Linked) (all : List 
 
   -- A reference of the inner scope is one of those that the body uses.
   pub inner_key : (ks : List Key) (key : Key) (l : Linkage) → linkage_at (inner_scope scope ks) key ≡ Some l → IsInnerOf ks key l
-  inner_key [] key l h = none_some h
+  inner_key [] key l h = absurd (none-some _ h)
   inner_key (k ∷ ks) key l h = by_test (λ e. inner_key ks key l e) (same_key k key) refl h
     where
       by_test : (linkage_at (inner_scope scope ks) key ≡ Some l → IsInnerOf ks key l) → (b : Bool) → same_key k key ≡ b
           → cond b (Some (inner_linkage scope k)) (linkage_at (inner_scope scope ks) key) ≡ Some l → IsInnerOf (k ∷ ks) key l
       by_test rest true s e =
           let same = key_same k key s in
-          (subst (λ j. Contains (k ∷ ks) j) same (first_is k ks), ap (inner_linkage scope) (sym same) ∙ some_same e)
+          (subst (λ j. Contains (k ∷ ks) j) same (first_is k ks), ap (inner_linkage scope) (sym same) ∙ same_Some _ _ e)
       by_test rest false s e = let r = rest e in (later_is k ks key r.0, r.1)
 
   -- What has the values of these references shows the inner scope.

@@ -5,6 +5,7 @@ use Rattle.std.specs.List.{list_all, list_any}
 use Rattle.std.specs.Str.{bytes_eq}
 use Rattle.std.proofs.lemmas.Bool.{false≢true, and_parts, or_parts}
 use Rattle.std.proofs.lemmas.Slice.Eq.{bytes_eq-Decides}
+use Rattle.std.proofs.lemmas.Option.{none-some, same_Some}
 use Rattle.wdl_base.specs.declared.fault.EvalCode.TheVariants.{TooLarge}
 use Rattle.wdl_base.specs.declared.place.Segment.{Segment}
 use Rattle.wdl_value.specs.declared.operator.Func.{Func}
@@ -23,7 +24,6 @@ use Rattle.wdl_value.specs.Kinds.{file_at as is_file_layer}
 use Rattle.wdl_value.specs.Limits.{is_within, limited}
 use Rattle.wdl_value.specs.Outcome.{Outcome, and_then}
 use Rattle.wdl_value.proofs.FitsForms.{a_file, file_fits, str_fits}
-use Rattle.wdl_value.proofs.SameTypeLemmas.{same_type-true}
 use Rattle.wdl_typed.specs.declared.expr.TExpr.{TExpr, TExpr-F, fold-TExpr, fold-roll-TExpr, ind-TExpr, map-TExpr, out-TExpr, para-roll-TExpr, roll-TExpr}
 use Rattle.wdl_typed.specs.declared.expr.TExpr.TheOpen as layer
 use Rattle.wdl_typed.specs.declared.expr.TExpr.TheVariants as e
@@ -45,12 +45,7 @@ use Rattle.cwl_laws.specs.Tools.{IsFile, SameOutput, SameValue, ground_of}
 use Rattle.cwl_laws.proofs.Casts.{casts_keep, simple_widens}
 use Rattle.cwl_laws.proofs.Files.{IsFileName, glob_met, has_slash, number_same, stdout_met}
 use Rattle.cwl_laws.proofs.References.{cast_met, cast_type}
-
-none_some : {A : Type 0} {x : A} {B : Type 0} → None ≡ Some x → B
-none_some h = cc
-
-some_same : {A : Type 0} {x y : A} → Some x ≡ Some y → x ≡ y
-some_same h = cc
+use Rattle.flow_soundness.proofs.Fitting.{is_type-some as typed_as}
 
 -- ---- an expression under casts
 
@@ -109,7 +104,7 @@ module _ (structs : Structs) (c : Context) (p : Bool) (a : TExpr) (x : Value) (t
 
   over_kept : (ts : List Ty) (t : Ty) → type_by c (over a ts) p ≡ Some t → casts_widen c (over a ts) p ≡ true → Kept ts t
   over_kept [] t h w =
-      let same : t0 ≡ t = some_same (sym typed0 ∙ h) in
+      let same : t0 ≡ t = same_Some _ _ (sym typed0 ∙ h) in
       record { simple = subst (λ (u : Ty). is_simple u ≡ true) same simple0; ok = subst (λ (u : Ty). fits structs x u ≡ true) same ok0; met = λ s m. m }
   over_kept (u ∷ ts) t h w =
       let q = over_allowed c p a plain0 u ts w in
@@ -133,8 +128,8 @@ module _ (structs : Structs) (c : Context) (p : Bool) (a : TExpr) (x : Value) (t
           })
         where
           made : (b : Bool) → when b u ≡ Some t → u ≡ t
-          made true h = some_same h
-          made false h = none_some h
+          made true h = same_Some _ _ h
+          made false h = absurd (none-some _ h)
 
 -- ---- the form of an output
 
@@ -186,10 +181,6 @@ simple_file = ap is_simple (sym ty.rolls-File) ∙ fold-roll-Ty Bool simple_step
 simple_str : is_simple ty.Str ≡ true
 simple_str = ap is_simple (sym ty.rolls-Str) ∙ fold-roll-Ty Bool simple_step type.Str
 
-typed_as : (o : Option Ty) (t : Ty) → is_type o t ≡ true → o ≡ Some t
-typed_as None t h = absurd (false≢true h)
-typed_as (Some u) t h = ap Some (same_type-true u t h)
-
 -- ---- the standard output
 
 is_stdout_func : (f : Func) → is_stdout f ≡ true → f ≡ func.Stdout
@@ -204,22 +195,22 @@ stdout_typed c p es t outputs h =
     ∙ sym (ap (λ x. type_by c x p) (sym (e.rolls-Apply func.Stdout es)) ∙ ap (λ (f : Typing). f p) (fold-roll-TExpr Typing (type_step c) (layer.Apply func.Stdout es))) ∙ h)
   where
     by_some : (es : List TExpr) (us : List Ty) → option_and_then (exact_args us) (function_type func.Stdout us) ≡ Some t → (us ≡ []) × (t ≡ ty.File)
-    by_some es [] h = (refl, sym (some_same h))
-    by_some es (u ∷ []) h = none_some h
-    by_some es (u ∷ (w ∷ [])) h = none_some h
-    by_some es (u ∷ (w ∷ (z ∷ us))) h = none_some h
+    by_some es [] h = (refl, sym (same_Some _ _ h))
+    by_some es (u ∷ []) h = absurd (none-some _ h)
+    by_some es (u ∷ (w ∷ [])) h = absurd (none-some _ h)
+    by_some es (u ∷ (w ∷ (z ∷ us))) h = absurd (none-some _ h)
 
     none_left : (es : List TExpr) → all_types (items_in (map (type_by c) es) p) ≡ Some [] → es ≡ []
     none_left [] h = refl
     none_left (x ∷ es) h = by_type (type_by c x p) (all_types (items_in (map (type_by c) es) p)) h
       where
         by_type : (o : Option Ty) (q : Option (List Ty)) → option_and_then (λ a. option_and_then (λ as_. Some (a ∷ as_)) q) o ≡ Some [] → x ∷ es ≡ []
-        by_type None q h = none_some h
-        by_type (Some a) None h = none_some h
+        by_type None q h = absurd (none-some _ h)
+        by_type (Some a) None h = absurd (none-some _ h)
         by_type (Some a) (Some as_) h = cc
 
     by_types : (es : List TExpr) (o : Option (List Ty)) → all_types (items_in (map (type_by c) es) p) ≡ o → option_and_then (apply_type true func.Stdout) o ≡ Some t → (es ≡ []) × (t ≡ ty.File)
-    by_types es None q h = none_some h
+    by_types es None q h = absurd (none-some _ h)
     by_types es (Some us) q h = let r = by_some es us h in (none_left es (q ∙ ap Some r.0), r.1)
 
 stdout_plain : (c : Context) (p : Bool) → IsPlain c p (e.Apply func.Stdout [])
@@ -336,11 +327,11 @@ no_literal es f (t ∷ (u ∷ ts)) =
 
 -- Casts of what has no type have none.
 none_over : (ts : List Ty) (t : Ty) → over_type None ts ≡ Some t → ⊥
-none_over [] t h = none_some h
+none_over [] t h = absurd (none-some _ h)
 none_over (u ∷ ts) t h = by_rest (λ w q. none_over ts w q) (over_type None ts) refl h
   where
     by_rest : ((w : Ty) → over_type None ts ≡ Some w → ⊥) → (o : Option Ty) → over_type None ts ≡ o → cast_type o u ≡ Some t → ⊥
-    by_rest rest None q h = none_some h
+    by_rest rest None q h = absurd (none-some _ h)
     by_rest rest (Some w) q h = rest w q
 
 -- ---- one output
@@ -370,8 +361,8 @@ module _ (r : Run) (place : List Segment) (names more : List Bound) where
       value_typed = typed_as (in_output r.library.structs names d.value) d.ty typed ∙ ap (λ t. Some t) at_file
 
       within_file : (b : Bool) (path : List ℕ) (x : Value) → cond b (Some (v.File path)) None ≡ Some x → IsFile x
-      within_file true path x h = (path, sym (some_same h))
-      within_file false path x h = none_some h
+      within_file true path x h = (path, sym (same_Some _ _ h))
+      within_file false path x h = absurd (none-some _ h)
 
       by_name : (ts : List Ty) (name : List ℕ) → d.value ≡ over (e.Lit (v.Str name)) ts → is_file_name name ≡ true → (b : Bool) → is_file_literal (out-TExpr d.value) ≡ b → (b || are_allowed r.library.structs more d.value false) ≡ true
           → SameOutput r place d (tool_out d)

@@ -2,6 +2,7 @@
 use Rattle.std.proofs.Common.{◌≡◌, Bool, true, false, cond, ◌&&◌, List, [], ◌∷◌, Option, Some, None, option_and_then, Ok, Err, sym, ap, ◌∙◌, subst, refl}
 use Rattle.std.specs.List.{list_all}
 use Rattle.std.proofs.lemmas.Bool.{and_parts}
+use Rattle.std.proofs.lemmas.Option.{none-some, same_Some}
 use Rattle.wdl_base.specs.declared.fault.EvalCode.TheVariants.{TooLarge}
 use Rattle.wdl_base.specs.declared.name.Key.{Key}
 use Rattle.wdl_value.specs.declared.ty.Ty.{Ty}
@@ -28,12 +29,6 @@ use Rattle.cwl_laws.specs.Laws.{FitsAt}
 use Rattle.cwl_laws.specs.Premises.{Reads}
 use Rattle.cwl_laws.proofs.Casts.{casts_keep, fits_typed, simple_widens}
 
-none_some : {A : Type 0} {x : A} {B : Type 0} → None ≡ Some x → B
-none_some h = cc
-
-some_same : {A : Type 0} {x y : A} → Some x ≡ Some y → x ≡ y
-some_same h = cc
-
 -- ---- the form
 
 -- a name under casts, the outermost first
@@ -51,9 +46,9 @@ abbrev plain : TExpr-F KnownRefers → TExpr-F TExpr
 plain = map-TExpr KnownRefers TExpr (λ (k : KnownRefers). k.0)
 
 layer_refers : (y : TExpr-F KnownRefers) (key : Key) → reference_step (map-TExpr TExpr (Option Key) reference (plain y)) ≡ Some key → (ts : List Ty) × (roll-TExpr (plain y) ≡ under key ts)
-layer_refers (layer.Get k) key h = ([], e.rolls-Get k ∙ ap e.Get (some_same h))
+layer_refers (layer.Get k) key h = ([], e.rolls-Get k ∙ ap e.Get (same_Some _ _ h))
 layer_refers (layer.Cast k t) key h = let r = k.1 key h in (t ∷ r.0, e.rolls-Cast k.0 t ∙ ap (λ a. e.Cast a t) r.1)
-layer_refers y key h = none_some h
+layer_refers y key h = absurd (none-some _ h)
 
 -- A reference is a name under casts.
 pub refers_under : (x : TExpr) (key : Key) → reference x ≡ Some key → (ts : List Ty) × (x ≡ under key ts)
@@ -133,7 +128,7 @@ module _ (structs : Structs) (seen : List Bound) (key : Key) (x : Value) (fit : 
 
   pub under_casts : (ts : List Ty) (t : Ty) → under_type key ts seen ≡ Some t → under_allowed key ts seen ≡ true → Cast ts t
   under_casts [] t h a =
-      let same : fit.0 ≡ t = some_same (sym fit.1 ∙ h) in
+      let same : fit.0 ≡ t = same_Some _ _ (sym fit.1 ∙ h) in
       record {
         simple = subst (λ (u : Ty). is_simple u ≡ true) same own_simple;
         ok = subst (λ (u : Ty). fits structs x u ≡ true) same fit.2;
@@ -147,7 +142,7 @@ module _ (structs : Structs) (seen : List Bound) (key : Key) (x : Value) (fit : 
       by_type (under_type key ts seen) refl h p.0 (λ w q. under_casts ts w q p.1)
     where
       by_type : (o : Option Ty) → under_type key ts seen ≡ o → cast_type o u ≡ Some t → some_widens o u ≡ true → ((w : Ty) → under_type key ts seen ≡ Some w → Cast ts w) → Cast (u ∷ ts) t
-      by_type None q h w rest = none_some h
+      by_type None q h w rest = absurd (none-some _ h)
       by_type (Some v) q h w rest =
           let r = rest v q in
           let same : u ≡ t = made (coerces v u) h in
@@ -164,8 +159,8 @@ module _ (structs : Structs) (seen : List Bound) (key : Key) (x : Value) (fit : 
           })
         where
           made : (b : Bool) → when b u ≡ Some t → u ≡ t
-          made true h = some_same h
-          made false h = none_some h
+          made true h = same_Some _ _ h
+          made false h = absurd (none-some _ h)
 
 pub settled_met : (o : Outcome Value) → settled (met o) ≡ o
 settled_met (Ok x) = refl

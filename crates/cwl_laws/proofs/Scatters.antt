@@ -4,6 +4,7 @@ use Rattle.std.specs.List.{list_all}
 use Rattle.std.specs.Str.{bytes_eq}
 use Rattle.std.proofs.lemmas.Bool.{false≢true, and_from, and_parts, or_parts}
 use Rattle.std.proofs.lemmas.Slice.Eq.{bytes_eq-Decides}
+use Rattle.std.proofs.lemmas.Option.{none-some, same_Some}
 use Rattle.wdl_base.specs.declared.fault.EvalCode.TheVariants.{TooLarge}
 use Rattle.wdl_base.specs.declared.name.Key.{Key}
 use Rattle.wdl_base.specs.declared.place.Segment.{Segment}
@@ -43,15 +44,12 @@ use Rattle.cwl_image.specs.Image.{Draft, Linkage, Output, Scope, block_out, bloc
 use Rattle.cwl_laws.specs.Laws.{Agrees, Fit, FitsAt, Given, New, NewItems, Shown, Shows, Simulates, all_running, as_running, has_key, job_of, jobs_of}
 use Rattle.cwl_laws.specs.Premises.{IsScatter}
 use Rattle.cwl_laws.proofs.Blocks.{block_agrees, running_flow}
-use Rattle.cwl_laws.proofs.Bodies.{all_new_more, bound_lookup, clean_together, jobs_append, key_same, lookup_append}
-use Rattle.cwl_laws.proofs.Conditions.{all_new, each_missing, new_link, same_itself}
+use Rattle.cwl_laws.proofs.Bodies.{all_new_more, bound_lookup, clean_together, jobs_append, lookup_append}
+use Rattle.cwl_laws.proofs.Conditions.{all_new, new_link}
 use Rattle.cwl_laws.proofs.Objects.{IsSeen, given_same, inner_shows, is_seen, keys_known, keys_typed, value_in, value_under, wired_keys}
-
-none_some : {A : Type 0} {x : A} {B : Type 0} → None ≡ Some x → B
-none_some h = cc
-
-some_same : {A : Type 0} {x y : A} → Some x ≡ Some y → x ≡ y
-some_same h = cc
+use Rattle.wdl_flow.proofs.MarkLemmas.{same_key-true as key_same}
+use Rattle.flow_soundness.proofs.Shapes.{none_lookup as each_missing}
+use Rattle.flow_soundness.proofs.NewNames.{same_key-refl as same_itself}
 
 -- ---- lists
 
@@ -252,18 +250,18 @@ item_fit structs seen names item t x fit new ok key y h = by_value (lookup (env_
     Has z = FitsAt structs (seen ++ bound item t ∷ []) key z
 
     by_test : (b : Bool) → same_key (plain_key item) key ≡ b → cond b (Some x) None ≡ Some y → Has y
-    by_test false e q = none_some q
+    by_test false e q = absurd (none-some _ q)
     by_test true e q = (
       t,
       types seen ∙ ap (λ k. or_else (type_in seen k) (cond (same_key (plain_key item) key) (Some t) None)) (sym (key_same (plain_key item) key e))
           ∙ ap (λ o. or_else o (cond (same_key (plain_key item) key) (Some t) None)) new ∙ ap (λ b. cond b (Some t) None) e,
-      ap (λ z. fits structs z t) (sym (some_same q)) ∙ ok,
+      ap (λ z. fits structs z t) (sym (same_Some _ _ q)) ∙ ok,
     )
 
     by_value : (o : Option Value) → lookup (env_of names) key ≡ o → Has y
     by_value (Some z) e =
         let r = fit key z e in
-        let same : z ≡ y = some_same (sym (ap (λ o. or_else o (lookup (env_of one) key)) e) ∙ sym split ∙ h) in
+        let same : z ≡ y = same_Some _ _ (sym (ap (λ o. or_else o (lookup (env_of one) key)) e) ∙ sym split ∙ h) in
         subst Has same (r.0, types seen ∙ ap (λ o. or_else o (cond (same_key (plain_key item) key) (Some t) None)) r.1, r.2)
     by_value None e = by_test (same_key (plain_key item) key) refl (sym (ap (λ o. or_else o (lookup (env_of one) key)) e) ∙ sym split ∙ h)
 
@@ -358,7 +356,7 @@ module _ (g : Ground) (structs : Structs) (bounds : List Bound) (scope : Scope) 
           by_test : (b : Bool) → same_key (plain_key item) j ≡ b → cond b (Some (item_linkage scope item e)) (linkage_at (inner_scope scope Uses) j) ≡ Some l
               → Shown (s.names ++ one) (input_links (all_taken Object Ins)) l
           by_test true same q =
-              subst (λ (z : Linkage). Shown (s.names ++ one) (input_links (all_taken Object Ins)) z) (some_same q) (
+              subst (λ (z : Linkage). Shown (s.names ++ one) (input_links (all_taken Object Ins)) z) (same_Some _ _ q) (
                 x,
                 lookup_append s.names one (plain_key item) ∙ ap (λ o. or_else o (lookup (env_of one) (plain_key item))) items.0
                     ∙ ap (λ b. cond b (Some x) None) (same_itself (plain_key item)),

@@ -4,6 +4,7 @@ use Rattle.std.specs.List.{list_all}
 use Rattle.std.specs.Str.{bytes_eq}
 use Rattle.std.proofs.lemmas.Bool.{false≢true, and_from, and_parts}
 use Rattle.std.proofs.lemmas.Slice.Eq.{bytes_eq-Decides}
+use Rattle.std.proofs.lemmas.Option.{none-some, same_Some}
 use Rattle.wdl_base.specs.declared.fault.EvalCode.TheVariants.{TooLarge}
 use Rattle.wdl_base.specs.declared.name.Key.{Key}
 use Rattle.wdl_value.specs.declared.env.Bind.{Bind}
@@ -31,14 +32,9 @@ use Rattle.cwl_image.specs.Image.{Linkage, cwl_in, input_linkage, linkage_at, li
 use Rattle.cwl_laws.specs.Laws.{Fit, Shown, Shows}
 use Rattle.cwl_laws.specs.Premises.{AreInputs, AreMet, IsInput, IsMet, IsPreset, input_names_with}
 use Rattle.cwl_laws.specs.Tools.{input_value}
-use Rattle.cwl_laws.proofs.Bodies.{clean_together, key_same}
+use Rattle.cwl_laws.proofs.Bodies.{clean_together}
 use Rattle.cwl_laws.proofs.Objects.{absent_is, given_same}
-
-none_some : {A : Type 0} {x : A} {B : Type 0} → None ≡ Some x → B
-none_some h = cc
-
-some_same : {A : Type 0} {x y : A} → Some x ≡ Some y → x ≡ y
-some_same h = cc
+use Rattle.wdl_flow.proofs.MarkLemmas.{same_key-true as key_same}
 
 pub and_true : (b : Bool) → (b && true) ≡ b
 and_true true = refl
@@ -203,13 +199,13 @@ module _ (structs : Structs) (object : List Named) (given : List Bind) (same : (
   -- ---- what the body sees at its beginning
 
   pub start_fit : (is : List TInput) → ((i : TInput) → Contains is i → fits structs (input_value object i) i.ty ≡ true) → Fit structs (inputs_bound is) (input_names_with (input_value object) is)
-  start_fit [] h key x e = none_some e
+  start_fit [] h key x e = absurd (none-some _ e)
   start_fit (i ∷ is) h key x e = by_test (h i (first_is i is)) (start_fit is (λ j c. h j (later_is i is j c)) key x) (same_key (plain_key i.name) key) e
     where
       by_test : fits structs (input_value object i) i.ty ≡ true
           → (lookup (env_of (input_names_with (input_value object) is)) key ≡ Some x → (t : Ty) × (type_in (inputs_bound is) key ≡ Some t) × (fits structs x t ≡ true)) → (b : Bool)
           → cond b (Some (input_value object i)) (lookup (env_of (input_names_with (input_value object) is)) key) ≡ Some x → (t : Ty) × (cond b (Some i.ty) (type_in (inputs_bound is) key) ≡ Some t) × (fits structs x t ≡ true)
-      by_test here rest true q = (i.ty, refl, ap (λ y. fits structs y i.ty) (sym (some_same q)) ∙ here)
+      by_test here rest true q = (i.ty, refl, ap (λ y. fits structs y i.ty) (sym (same_Some _ _ q)) ∙ here)
       by_test here rest false q = rest q
 
   abbrev FoundIn : List TInput → Key → Linkage → Type 0
@@ -218,7 +214,7 @@ module _ (structs : Structs) (object : List Named) (given : List Bind) (same : (
       × (known_value (input_links (all_taken object (map cwl_in is))) (link.Input j.name) ≡ Some (input_value object j)) × (has_type (type_of j.ty) (input_value object j) ≡ true)
 
   input_found : (is : List TInput) → are_typed object (map cwl_in is) ≡ true → (key : Key) (l : Linkage) → linkage_at (map input_linkage is) key ≡ Some l → FoundIn is key l
-  input_found [] t key l h = none_some h
+  input_found [] t key l h = absurd (none-some _ h)
   input_found (i ∷ is) t key l h =
       let p = and_parts (has_type (type_of i.ty) (input_value object i)) (are_typed object (map cwl_in is)) t in
       by_test p.0 (λ e. input_found is p.1 key l e) (same_key (plain_key i.name) key) refl h
@@ -227,7 +223,7 @@ module _ (structs : Structs) (object : List Named) (given : List Bind) (same : (
           → cond b (Some (input_linkage i)) (linkage_at (map input_linkage is) key) ≡ Some l → FoundIn (i ∷ is) key l
       by_test t rest true e q = (
         i,
-        some_same q,
+        same_Some _ _ q,
         key_same (plain_key i.name) key e,
         ap (λ b. cond b (Some (input_value object i)) (lookup (env_of (input_names_with (input_value object) is)) key)) e,
         ap (λ b. cond b (Some (input_value object i)) (known_value (input_links (all_taken object (map cwl_in is))) (link.Input i.name))) ((bytes_eq-Decides i.name i.name).1 refl),

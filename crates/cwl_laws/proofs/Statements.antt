@@ -1,6 +1,7 @@
 -- Each statement of a body of the subset agrees with its step.
 use Rattle.std.proofs.Common.{◌≡◌, ℕ, ◌≤◌, true, List, [], ◌∷◌, ◌++◌, map, Option, Some, None, Contains, append-nil, append_assoc, sym, ap, ◌∙◌, subst, refl}
 use Rattle.std.proofs.lemmas.Bool.{false≢true}
+use Rattle.std.proofs.lemmas.Option.{same_Some, none-some}
 use Rattle.wdl_value.specs.declared.ty.Ty.{Ty}
 use Rattle.wdl_value.specs.Fits.{Structs}
 use Rattle.wdl_typed.specs.declared.flow.Statement.{Statement, fold-Statement}
@@ -35,12 +36,6 @@ use Rattle.cwl_laws.proofs.Splits.{body_linked}
 use Rattle.cwl_laws.proofs.Stands.{AreSimple, Body, One, head_of, parted, simple_then, tail_of}
 use Rattle.cwl_laws.proofs.Steps.{AreNumbered, steps_apart}
 use Rattle.cwl_laws.proofs.Uses.{statement_wires}
-
-some_same : {A : Type 0} {x y : A} → Some x ≡ Some y → x ≡ y
-some_same h = cc
-
-none_some : {A : Type 0} {x : A} {B : Type 0} → None ≡ Some x → B
-none_some h = cc
 
 -- ---- names that fit
 
@@ -117,8 +112,8 @@ module _ (r : Run) (callee : Callee) (flows : ℕ → Process) (declared_in : Li
   pub body_done : (depth : ℕ) (ks : List (KnownDone depth)) (n : ℕ) (all taken : List (List ℕ)) (seen g : Seen) (scope : Scope) → n ≤ depth
       → BodyHere n all taken seen g scope (map (λ (k : KnownDone depth). k.0) ks) → AllDone seen g scope (map (λ (k : KnownDone depth). k.0) ks)
   body_done depth [] n all taken seen g scope le b =
-      let same = ap (λ (s : Seen). s.names) (some_same b.typed) in
-      record { agree = sym (append-nil seen.names) ∙ ap (λ (bs : List Bound). seen.names ++ bs) same; simple = subst AreSimple same (λ k t e. none_some e) }
+      let same = ap (λ (s : Seen). s.names) (same_Some _ _ b.typed) in
+      record { agree = sym (append-nil seen.names) ∙ ap (λ (bs : List Bound). seen.names ++ bs) same; simple = subst AreSimple same (λ k t e. absurd (none-some _ e)) }
   body_done depth (k ∷ ks) n all taken seen g scope le b =
       let ss = map (λ (z : KnownDone depth). z.0) ks in
       let s = parted r.library processes declared_in targets n all taken seen g scope k.0 ss b in

@@ -1,7 +1,6 @@
 -- A task of the subset and its tool.
-use Rattle.std.proofs.Common.{◌≡◌, ℕ, Bool, true, false, cond, not, ◌&&◌, ◌||◌, List, [], ◌∷◌, ◌++◌, map, Option, Some, None, sym, ap, ◌∙◌, subst, refl}
-use Rattle.std.specs.Str.{bytes_eq}
-use Rattle.std.proofs.lemmas.Bool.{false≢true, and_from, and_parts}
+use Rattle.std.proofs.Common.{◌≡◌, ℕ, Bool, true, false, cond, not, ◌&&◌, List, [], ◌∷◌, ◌++◌, map, Option, Some, None, sym, ap, ◌∙◌, subst, refl}
+use Rattle.std.proofs.lemmas.Bool.{false≢true, and_parts}
 use Rattle.wdl_base.specs.declared.name.Key.{Key}
 use Rattle.wdl_base.specs.declared.place.Segment.{Segment}
 use Rattle.wdl_base.specs.declared.span.Span.{Span}
@@ -13,7 +12,6 @@ use Rattle.wdl_value.specs.declared.value.Value.TheVariants as v
 use Rattle.wdl_value.specs.Fits.{Structs, fits, is_absent}
 use Rattle.wdl_value.specs.Limits.{limited}
 use Rattle.wdl_value.proofs.FitsForms.{a_bool, a_list, a_str, an_int}
-use Rattle.wdl_value.proofs.SameTypeLemmas.{same_type-true}
 use Rattle.wdl_typed.specs.declared.expr.TExpr.{TExpr}
 use Rattle.wdl_typed.specs.declared.scope.Bound.{Bound}
 use Rattle.wdl_typed.specs.declared.task.TDecl.{TDecl}
@@ -23,7 +21,7 @@ use Rattle.wdl_typed.specs.Declarations.{bound, codes_typed, command_typed, cont
 use Rattle.wdl_typed.specs.Evaluation.{settled}
 use Rattle.wdl_typed.specs.Flow.{Run}
 use Rattle.wdl_typed.specs.KnownTypes.{is_some, is_written}
-use Rattle.wdl_typed.specs.Lists.{are_distinct, has_name}
+use Rattle.wdl_typed.specs.Lists.{are_distinct}
 use Rattle.wdl_typed.specs.Requests.{before}
 use Rattle.wdl_typed.specs.Scope.{same_key, type_in}
 use Rattle.wdl_typed.specs.Typing.{is_type, type_of as type_by}
@@ -38,6 +36,8 @@ use Rattle.cwl_laws.proofs.Commands.{commands_agree}
 use Rattle.cwl_laws.proofs.Literals.{literal_is}
 use Rattle.cwl_laws.proofs.Outputs.{output_agrees}
 use Rattle.cwl_laws.proofs.References.{settled_met}
+use Rattle.flow_laws.proofs.Checked.{names_left as first_distinct}
+use Rattle.flow_soundness.proofs.Fitting.{is_type-some as typed_as}
 
 -- ---- rules that are kept
 
@@ -51,24 +51,6 @@ rule_holds true n s h = refl
 rule_holds false n s h = cc
 
 -- ---- names
-
-has_either : (name : List ℕ) (ns ms : List (List ℕ)) → has_name name (ns ++ ms) ≡ (has_name name ns || has_name name ms)
-has_either name [] ms = refl
-has_either name (n ∷ ns) ms = ap (λ b. bytes_eq n name || b) (has_either name ns ms) ∙ or_assoc (bytes_eq n name) (has_name name ns) (has_name name ms)
-  where
-    or_assoc : (a b c : Bool) → (a || (b || c)) ≡ ((a || b) || c)
-    or_assoc true b c = refl
-    or_assoc false b c = refl
-
-pub first_distinct : (ns ms : List (List ℕ)) → are_distinct (ns ++ ms) ≡ true → are_distinct ns ≡ true
-first_distinct [] ms h = refl
-first_distinct (n ∷ ns) ms h =
-    let p = and_parts (not (has_name n (ns ++ ms))) (are_distinct (ns ++ ms)) h in
-    and_from (not (has_name n ns)) (are_distinct ns) (not_either (has_name n ns) (has_name n ms) (ap not (sym (has_either n ns ms)) ∙ p.0)) (first_distinct ns ms p.1)
-  where
-    not_either : (a b : Bool) → not (a || b) ≡ true → not a ≡ true
-    not_either true b h = h
-    not_either false b h = refl
 
 pub type_first : (bs cs : List Bound) (key : Key) (t : Ty) → type_in bs key ≡ Some t → type_in (bs ++ cs) key ≡ Some t
 type_first [] cs key t h = cc
@@ -105,10 +87,6 @@ module _ (structs : Structs) where
       by_fit false e = refl
       by_fit true e =
           absurd (by_layer (out-Ty t) (sym (roll-out-Ty t)) (sym (fold-roll-Ty Bool default_step (out-Ty t)) ∙ ap takes_default (roll-out-Ty t) ∙ h) e)
-
-  typed_as : (o : Option Ty) (t : Ty) → is_type o t ≡ true → o ≡ Some t
-  typed_as None t h = absurd (false≢true h)
-  typed_as (Some u) t h = ap Some (same_type-true u t h)
 
   preset_is : (names seen : List Bound) (i : TInput) (o : Option TExpr) → is_simple i.ty ≡ true → default_typed structs names i.ty o ≡ true → default_allowed structs seen o ≡ true → is_default i.ty o ≡ true → IsPreset structs i o
   preset_is names seen i None s h a d = tt

@@ -2,6 +2,7 @@
 use Rattle.std.proofs.Common.{◌≡◌, ℕ, suc, zero, Bool, true, false, cond, List, [], ◌∷◌, map, Option, Some, None, Contains, sym, ap, ◌∙◌, refl}
 use Rattle.std.specs.List.{list_all}
 use Rattle.std.proofs.lemmas.Bool.{false≢true, and_parts}
+use Rattle.std.proofs.lemmas.Option.{none-some, same_Some}
 use Rattle.wdl_base.specs.declared.name.Key.{Key}
 use Rattle.wdl_value.specs.declared.ty.Ty.{Ty, Ty-F, fold-roll-Ty, out-Ty, roll-Ty, roll-out-Ty}
 use Rattle.wdl_value.specs.declared.ty.Ty.TheOpen as type
@@ -31,12 +32,6 @@ use Rattle.cwl_laws.proofs.Casts.{simple_widens}
 use Rattle.cwl_laws.proofs.References.{allowed_is, cast_type, refers_under, type_is, under, under_allowed, under_type}
 use Rattle.cwl_laws.proofs.Scatters.{array_type}
 use Rattle.cwl_laws.proofs.Stands.{AreSimple}
-
-none_some : {A : Type 0} {x : A} {B : Type 0} → None ≡ Some x → B
-none_some h = cc
-
-some_same : {A : Type 0} {x y : A} → Some x ≡ Some y → x ≡ y
-some_same h = cc
 
 -- ---- levels
 
@@ -70,23 +65,23 @@ pub item_simple : (t : Ty) (some : Bool) → is_simple (ty.Array t some) ≡ tru
 item_simple t some h = sym (ap is_simple (sym (ty.rolls-Array t some)) ∙ fold-roll-Ty Bool simple_step (type.Array t some)) ∙ h
 
 retyped_type : (f : Ty → Ty) (bs : List Bound) (k : Key) (t : Ty) → type_in (map (λ (b : Bound). record { key = b.key; ty = f b.ty }) bs) k ≡ Some t → (u : Ty) × (type_in bs k ≡ Some u) × (f u ≡ t)
-retyped_type f [] k t e = none_some e
+retyped_type f [] k t e = absurd (none-some _ e)
 retyped_type f (b ∷ bs) k t e = by_test (same_key b.key k) e (λ q. retyped_type f bs k t q)
   where
     by_test : (c : Bool) → cond c (Some (f b.ty)) (type_in (map (λ (b : Bound). record { key = b.key; ty = f b.ty }) bs) k) ≡ Some t
         → (type_in (map (λ (b : Bound). record { key = b.key; ty = f b.ty }) bs) k ≡ Some t → (u : Ty) × (type_in bs k ≡ Some u) × (f u ≡ t)) → (u : Ty) × (cond c (Some b.ty) (type_in bs k) ≡ Some u) × (f u ≡ t)
-    by_test true q rest = (b.ty, refl, some_same q)
+    by_test true q rest = (b.ty, refl, same_Some _ _ q)
     by_test false q rest = rest q
 
 pub retyped_simple : (f : Ty → Ty) → ((t : Ty) → is_simple t ≡ true → is_simple (f t) ≡ true) → (bs : List Bound) → AreSimple bs → AreSimple (map (λ (b : Bound). record { key = b.key; ty = f b.ty }) bs)
 retyped_simple f keeps bs h k t e = let r = retyped_type f bs k t e in ap is_simple (sym r.2) ∙ keeps r.0 (h k r.0 r.1)
 
 pub outputs_simple : (call : List ℕ) (ds : List TDecl) → ((d : TDecl) → Contains ds d → is_simple d.ty ≡ true) → AreSimple (map (output_bound call) ds)
-outputs_simple call [] h k t e = none_some e
+outputs_simple call [] h k t e = absurd (none-some _ e)
 outputs_simple call (d ∷ ds) h k t e = by_test (same_key (record { first = call; second = Some d.name }) k) e (λ q. outputs_simple call ds (λ c i. h c (later_is d ds c i)) k t q)
   where
     by_test : (c : Bool) → cond c (Some d.ty) (type_in (map (output_bound call) ds) k) ≡ Some t → (type_in (map (output_bound call) ds) k ≡ Some t → is_simple t ≡ true) → is_simple t ≡ true
-    by_test true q rest = ap is_simple (sym (some_same q)) ∙ h d (first_is d ds)
+    by_test true q rest = ap is_simple (sym (same_Some _ _ q)) ∙ h d (first_is d ds)
     by_test false q rest = rest q
 
 -- ---- the type under which a body sees a reference
@@ -99,11 +94,11 @@ seen_under scope key (u ∷ ts) names t h linked =
     ap (seen_type scope) (sym (e.rolls-Cast (under key ts) u)) ∙ fold-roll-TExpr CwlTy (seen_step scope) (layer.Cast (under key ts) u) ∙ ap type_of (by_type (under_type key ts names) h)
   where
     by_when : (w : Bool) → when w u ≡ Some t → u ≡ t
-    by_when true q = some_same q
-    by_when false q = none_some q
+    by_when true q = same_Some _ _ q
+    by_when false q = absurd (none-some _ q)
 
     by_type : (o : Option Ty) → cast_type o u ≡ Some t → u ≡ t
-    by_type None q = none_some q
+    by_type None q = absurd (none-some _ q)
     by_type (Some v) q = by_when (coerces v u) q
 
 -- The item of a scatter has the type of the collection's items.
@@ -123,11 +118,11 @@ under_simple key (u ∷ ts) names t h a simple =
     by_type (under_type key ts names) refl h p.0 (λ w q. under_simple key ts names w q p.1 simple)
   where
     by_when : (v : Ty) (w : Bool) → when w u ≡ Some t → u ≡ t
-    by_when v true q = some_same q
-    by_when v false q = none_some q
+    by_when v true q = same_Some _ _ q
+    by_when v false q = absurd (none-some _ q)
 
     by_type : (o : Option Ty) → under_type key ts names ≡ o → cast_type o u ≡ Some t → some_widens o u ≡ true → ((w : Ty) → under_type key ts names ≡ Some w → is_simple w ≡ true) → is_simple t ≡ true
-    by_type None q h w rest = none_some h
+    by_type None q h w rest = absurd (none-some _ h)
     by_type (Some v) q h w rest = ap is_simple (sym (by_when v (coerces v u) h)) ∙ simple_widens v u (rest v q) w
 
 -- A reference of the subset has a type of the subset.

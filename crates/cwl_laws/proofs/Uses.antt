@@ -2,6 +2,7 @@
 use Rattle.std.proofs.Common.{◌≡◌, ℕ, ◌⊎◌, inl, inr, Bool, true, false, cond, ◌&&◌, ◌||◌, List, [], ◌∷◌, ◌++◌, map, Option, Some, None, option_and_then, Contains, sym, ap, ◌∙◌, subst, refl}
 use Rattle.std.proofs.lemmas.Bool.{false≢true, and_parts, or_left, or_parts, or_right}
 use Rattle.std.proofs.lemmas.List.Elements.{Contains-append_cases}
+use Rattle.std.proofs.lemmas.Option.{none-some}
 use Rattle.wdl_base.specs.declared.name.Key.{Key}
 use Rattle.wdl_value.specs.declared.ty.Ty.{Ty, Ty-F, out-Ty}
 use Rattle.wdl_value.specs.declared.ty.Ty.TheOpen as type
@@ -29,12 +30,6 @@ use Rattle.cwl_laws.proofs.Reading.{call_wires, if_wires, scatter_wires}
 use Rattle.cwl_laws.proofs.References.{cast_type, refers_under, type_is, under_type}
 use Rattle.cwl_laws.proofs.Tools.{both_empty}
 
-none_some : {A : Type 0} {x : A} {B : Type 0} → None ≡ Some x → B
-none_some h = cc
-
-some_same : {A : Type 0} {x y : A} → Some x ≡ Some y → x ≡ y
-some_same h = cc
-
 -- ---- types of names
 
 abbrev pub HasType : List Bound → Key → Type 0
@@ -60,7 +55,7 @@ under_has k [] names u h = (u, h)
 under_has k (w ∷ ts) names u h = by_rest (λ z q. under_has k ts names z q) (under_type k ts names) refl h
   where
     by_rest : ((z : Ty) → under_type k ts names ≡ Some z → HasType names k) → (o : Option Ty) → under_type k ts names ≡ o → cast_type o w ≡ Some u → HasType names k
-    by_rest rest None q h = none_some h
+    by_rest rest None q h = absurd (none-some _ h)
     by_rest rest (Some z) q h = rest z q
 
 -- A well typed reference is to a name with a type.
@@ -72,7 +67,7 @@ key_typed structs names x k t r h =
 -- ---- keys of links
 
 typed_among : (ls : List Linkage) (bs : List Bound) (k : Key) → LinksTyped ls bs → HasType bs k → is_among k (keys_of ls) ≡ true
-typed_among [] [] k h t = none_some t.1
+typed_among [] [] k h t = absurd (none-some _ t.1)
 typed_among [] (b ∷ bs) k h t = absurd h
 typed_among (l ∷ ls) [] k h t = absurd h
 typed_among (l ∷ ls) (b ∷ bs) k h t = by_test (λ q. typed_among ls bs k h.2 (t.0, q)) (same_key b.key k) refl t.1
@@ -179,7 +174,7 @@ module _ (lib : Library) (processes : Targets) (declared : List (List ℕ)) wher
 
       by_first : ((first : Seen) → Rest first) → (o : Option Seen) → gives lib s.0 seen ≡ o → option_and_then (λ first. option_and_then (λ rest. Some (joined first rest)) (body_step (map (gives lib) (firsts ks)) (joined seen first))) o ≡ Some g
           → Found (firsts (s ∷ ks)) seen k
-      by_first rests None e h = none_some h
+      by_first rests None e h = absurd (none-some _ h)
       by_first rests (Some first) e h = by_rest (rests first) (body_step (map (gives lib) (firsts ks)) (joined seen first)) refl h
         where
           here : OutsTyped (draft lib processes s.0).outs first.names × ((walk lib declared s.0 seen.names).given ≡ first.names)
@@ -191,7 +186,7 @@ module _ (lib : Library) (processes : Targets) (declared : List (List ℕ)) wher
           by_case rest more q (inr d) = later first here.0 (rest more q (subst (λ bs. (body_walk (map (walk lib declared) (firsts ks)) (seen.names ++ bs)).broken ≡ []) here.1 split.1) d)
 
           by_rest : Rest first → (o : Option Seen) → body_step (map (gives lib) (firsts ks)) (joined seen first) ≡ o → option_and_then (λ rest. Some (joined first rest)) o ≡ Some g → Found (firsts (s ∷ ks)) seen k
-          by_rest rest None q h = none_some h
+          by_rest rest None q h = absurd (none-some _ h)
           by_rest rest (Some more) q h = by_case rest more q (Contains-append_cases (draft lib processes s.0).uses (body_uses (map (draft lib processes) (firsts ks))) k c)
 
   layer_used : (y : Statement-F KnownUses) (seen given : Seen) → statement_step lib (map-Statement Statement Giving (gives lib) (plain y)) seen ≡ Some given
@@ -206,10 +201,10 @@ module _ (lib : Library) (processes : Targets) (declared : List (List ℕ)) wher
           let p = and_parts (args_typed lib.structs seen.names s.inputs c.args && are_distinct (arg_names c.args) && all_given s.inputs (arg_names c.args)) (all_seen seen.calls c.after) e in
           let q = and_parts (args_typed lib.structs seen.names s.inputs c.args && are_distinct (arg_names c.args)) (all_given s.inputs (arg_names c.args)) p.0 in
           args_used_typed lib.structs seen.names s.inputs c.args (and_parts (args_typed lib.structs seen.names s.inputs c.args) (are_distinct (arg_names c.args)) q.0).0 k d
-      by_test s false e h = none_some h
+      by_test s false e h = absurd (none-some _ h)
 
       by_signature : (o : Option Signature) → option_and_then (call_by lib.structs c seen) o ≡ Some given → HasType seen.names k
-      by_signature None h = none_some h
+      by_signature None h = absurd (none-some _ h)
       by_signature (Some s) h = by_test s (args_typed lib.structs seen.names s.inputs c.args && are_distinct (arg_names c.args) && all_given s.inputs (arg_names c.args) && all_seen seen.calls c.after) refl h
   layer_used (layer.Scatter b) seen given h w k c = by_type (in_body lib.structs seen.names b.over) refl h rest (Contains-append_cases (option_list (reference b.over)) (without inside (body_uses ds)) k c)
     where
@@ -230,7 +225,7 @@ module _ (lib : Library) (processes : Targets) (declared : List (List ℕ)) wher
         where
           by_test : (c : Bool) → cond c (Some u) None ≡ Some t.0 → c ≡ true
           by_test true h = refl
-          by_test false h = none_some h
+          by_test false h = absurd (none-some _ h)
 
       outside : (u : Ty) → is_among k inside ≡ false → Found (firsts b.body) (with_item seen b.item u) k → HasType seen.names k
       outside u n (inr d) = absurd (false≢true (sym (or_parts (same_key (plain_key b.item) k) (is_among k (keys_of (body_links ds))) n).1 ∙ d))
@@ -242,7 +237,7 @@ module _ (lib : Library) (processes : Targets) (declared : List (List ℕ)) wher
 
       by_body : (u : Ty) (some : Bool) (o : Option Seen) → body_step (map (gives lib) (firsts b.body)) (with_item seen b.item u) ≡ o → option_and_then (λ s. Some (retyped (λ z. ty.Array z some) s)) o ≡ Some given
           → (body_walk ws (seen.names ++ bound b.item u ∷ [])).broken ≡ [] → Contains (without inside (body_uses ds)) k → HasType seen.names k
-      by_body u some None e h w d = none_some h
+      by_body u some None e h w d = absurd (none-some _ h)
       by_body u some (Some g) e h w d =
           let r = without_has inside (body_uses ds) k d in
           outside u r.1 (body_used b.body (with_item seen b.item u) g e w k r.0)
@@ -250,11 +245,11 @@ module _ (lib : Library) (processes : Targets) (declared : List (List ℕ)) wher
       by_layer : (z : Ty-F Ty) → scatter_over b.item (body_step (map (gives lib) (firsts b.body))) seen z ≡ Some given → (scatter_at b.item (body_walk ws) seen.names z).broken ≡ [] → Contains (without inside (body_uses ds)) k
           → HasType seen.names k
       by_layer (type.Array u some) h w d = by_body u some (body_step (map (gives lib) (firsts b.body)) (with_item seen b.item u)) refl h w d
-      by_layer z h w d = none_some h
+      by_layer z h w d = absurd (none-some _ h)
 
       by_type : (o : Option Ty) → in_body lib.structs seen.names b.over ≡ o → option_and_then (λ t. scatter_over b.item (body_step (map (gives lib) (firsts b.body))) seen (out-Ty t)) o ≡ Some given
           → (scatter_walk b.item (body_walk ws) seen.names o).broken ≡ [] → Contains (option_list (reference b.over)) k ⊎ Contains (without inside (body_uses ds)) k → HasType seen.names k
-      by_type None e h w d = none_some h
+      by_type None e h w d = absurd (none-some _ h)
       by_type (Some t) e h w (inl d) = key_typed lib.structs seen.names b.over k t (option_has (reference b.over) k d) e
       by_type (Some t) e h w (inr d) = by_layer (out-Ty t) h w d
   layer_used (layer.If b) seen given h w k c = by_type (in_body lib.structs seen.names b.cond) refl h (Contains-append_cases (option_list (reference b.cond)) (without inside (body_uses ds)) k c)
@@ -276,16 +271,16 @@ module _ (lib : Library) (processes : Targets) (declared : List (List ℕ)) wher
       outside n (inl t) = t
 
       by_body : (o : Option Seen) → body_step (map (gives lib) (firsts b.body)) seen ≡ o → option_and_then (λ s. Some (retyped optional s)) o ≡ Some given → Contains (without inside (body_uses ds)) k → HasType seen.names k
-      by_body None e h d = none_some h
+      by_body None e h d = absurd (none-some _ h)
       by_body (Some g) e h d = let r = without_has inside (body_uses ds) k d in outside r.1 (body_used b.body seen g e rest k r.0)
 
       by_bool : (t : Ty) (c : Bool) → cond c (option_and_then (λ s. Some (retyped optional s)) (body_step (map (gives lib) (firsts b.body)) seen)) None ≡ Some given → Contains (without inside (body_uses ds)) k → HasType seen.names k
       by_bool t true h d = by_body (body_step (map (gives lib) (firsts b.body)) seen) refl h d
-      by_bool t false h d = none_some h
+      by_bool t false h d = absurd (none-some _ h)
 
       by_type : (o : Option Ty) → in_body lib.structs seen.names b.cond ≡ o → option_and_then (if_over (body_step (map (gives lib) (firsts b.body))) seen) o ≡ Some given
           → Contains (option_list (reference b.cond)) k ⊎ Contains (without inside (body_uses ds)) k → HasType seen.names k
-      by_type None e h d = none_some h
+      by_type None e h d = absurd (none-some _ h)
       by_type (Some t) e h (inl d) = key_typed lib.structs seen.names b.cond k t (option_has (reference b.cond) k d) e
       by_type (Some t) e h (inr d) = by_bool t (is_bool t) h d
 

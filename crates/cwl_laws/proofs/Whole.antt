@@ -4,6 +4,7 @@ use Rattle.std.specs.List.{list_all}
 use Rattle.std.specs.Str.{bytes_eq}
 use Rattle.std.proofs.lemmas.Bool.{false≢true, and_parts, ltb-true}
 use Rattle.std.proofs.lemmas.Slice.Eq.{bytes_eq-Decides}
+use Rattle.std.proofs.lemmas.Option.{none-some, same_Some}
 use Rattle.wdl_base.specs.declared.name.Key.{Key}
 use Rattle.wdl_value.specs.declared.env.Bind.{Bind}
 use Rattle.wdl_value.specs.declared.value.Value.{Value}
@@ -25,7 +26,7 @@ use Rattle.wdl_names.proofs.FreshLemmas.{fresh-distinct}
 use Rattle.flow_soundness.proofs.FlowSound.{callees_sound, is_typed}
 use Rattle.flow_soundness.proofs.Sound.{sound}
 use Rattle.flow_soundness.specs.Readiness.{IsLibrary}
-use Rattle.flow_laws.proofs.Checked.{each_passes, kept as kept_by, outputs_differ}
+use Rattle.flow_laws.proofs.Checked.{kept as kept_by, outputs_differ}
 use Rattle.cwl_model.specs.Means.{Meaning, Named, named, value_at}
 use Rattle.cwl_model.proofs.Rounds.{first_is, first_or_later, later_is, none_is}
 use Rattle.cwl_image.specs.declared.broken.Broken.{Broken}
@@ -33,16 +34,11 @@ use Rattle.cwl_image.specs.Named.{flow_named, task_named}
 use Rattle.cwl_image.specs.Subset.{broken_in, is_empty}
 use Rattle.cwl_laws.specs.Premises.{AreGiven, AreMet, FlowsAgree, IsMet}
 use Rattle.cwl_laws.specs.Simulation.{IsMeant, Simulation, object_of}
-use Rattle.cwl_laws.proofs.Bodies.{key_same}
 use Rattle.cwl_laws.proofs.Calls.{left_absent}
 use Rattle.cwl_laws.proofs.Depths.{agrees_at}
 use Rattle.cwl_laws.proofs.Inputs.{name_apart}
-
-none_some : {A : Type 0} {x : A} {B : Type 0} → None ≡ Some x → B
-none_some h = cc
-
-some_same : {A : Type 0} {x y : A} → Some x ≡ Some y → x ≡ y
-some_same h = cc
+use Rattle.wdl_base.proofs.Options.{all_at}
+use Rattle.wdl_flow.proofs.MarkLemmas.{same_key-true as key_same}
 
 -- ---- the object of the inputs
 
@@ -87,14 +83,14 @@ bind_own structs (j ∷ is) i b d c h e =
 
 pub given_fits : (structs : Structs) (is : List TInput) (i : TInput) (given : List Bind) → are_distinct (input_names is) ≡ true → Contains is i → list_all (bind_fits structs is) given ≡ true → (x : Value)
     → lookup given (plain_key i.name) ≡ Some x → value_fits structs i.ty x ≡ true
-given_fits structs is i [] d c h x e = none_some e
+given_fits structs is i [] d c h x e = absurd (none-some _ e)
 given_fits structs is i (b ∷ bs) d c h x e =
     let p = and_parts (bind_fits structs is b) (list_all (bind_fits structs is) bs) h in
     by_test (same_key b.key (plain_key i.name)) refl e (λ q. bind_own structs is i b d c p.0 q) (λ q. given_fits structs is i bs d c p.1 x q)
   where
     by_test : (w : Bool) → same_key b.key (plain_key i.name) ≡ w → cond w (Some b.value) (lookup bs (plain_key i.name)) ≡ Some x → (b.key ≡ plain_key i.name → value_fits structs i.ty b.value ≡ true)
         → (lookup bs (plain_key i.name) ≡ Some x → value_fits structs i.ty x ≡ true) → value_fits structs i.ty x ≡ true
-    by_test true s q own rest = ap (value_fits structs i.ty) (sym (some_same q)) ∙ own (key_same b.key (plain_key i.name) s)
+    by_test true s q own rest = ap (value_fits structs i.ty) (sym (same_Some _ _ q)) ∙ own (key_same b.key (plain_key i.name) s)
     by_test false s q own rest = rest q
 
 module _ (structs : Structs) (all : List TInput) (given : List Bind) (differ : are_distinct (input_names all) ≡ true) (fit : list_all (bind_fits structs all) given ≡ true) where
@@ -127,7 +123,7 @@ outputs_meant f (d ∷ ds) (n ∷ ns) h =
 
 -- ---- the whole
 
-nothing_broken : (bs : List Broken) → is_empty bs ≡ true → bs ≡ []
+pub nothing_broken : (bs : List Broken) → is_empty bs ≡ true → bs ≡ []
 nothing_broken [] h = refl
 nothing_broken (b ∷ bs) h = absurd (false≢true h)
 
@@ -150,7 +146,7 @@ simulates lib main f given site table checked subset named there fit small =
     let r : Run = record { library = lib; site = site; table = table } in
     let kept = kept_by lib (Some main) checked in
     let library : IsLibrary lib = record { tasks = kept.tasks; flows = kept.flows } in
-    let t = is_typed lib f (each_passes (flow_typed lib) lib.flows main f kept.flows there) in
+    let t = is_typed lib f (all_at (flow_typed lib) lib.flows main f kept.flows there) in
     let differ = sym (fresh-distinct (input_names f.inputs)) ∙ t.inputs_new in
     let a = and_parts (keys_distinct (keys given) && list_all (bind_fits lib.structs f.inputs) given) (list_all (is_given given) f.inputs) fit in
     let b = and_parts (keys_distinct (keys given)) (list_all (bind_fits lib.structs f.inputs) given) a.0 in

@@ -3,6 +3,7 @@ use Rattle.std.proofs.Common.{◌≡◌, ℕ, ◌⊎◌, inl, inr, Bool, true, f
 use Rattle.std.specs.Str.{bytes_eq}
 use Rattle.std.proofs.lemmas.Bool.{false≢true, and_parts, or_left, or_parts, or_right}
 use Rattle.std.proofs.lemmas.Slice.Eq.{bytes_eq-Decides}
+use Rattle.std.proofs.lemmas.Option.{none-some}
 use Rattle.wdl_base.specs.declared.fault.EvalCode.TheVariants.{TooLarge}
 use Rattle.wdl_base.specs.declared.name.Key.{Key}
 use Rattle.wdl_base.specs.declared.place.Segment.{Segment}
@@ -26,23 +27,17 @@ use Rattle.cwl_model.specs.declared.process.Link.TheVariants as link
 use Rattle.cwl_model.specs.Laws.{IsRunnable, is_of, owned, pass_means}
 use Rattle.cwl_model.specs.Means.{Ground, Meaning, Named, Running, all_taken, are_complete, are_within, flow_gives, flow_means, has_type, incomplete, input_links, is_complete, is_given, known_at_last, named, or_null, output_taken, outputs_taken, step_gives, step_means, value_at}
 use Rattle.cwl_model.specs.Rounds.{Linked, known_value, one_pass}
-use Rattle.cwl_model.proofs.Passes.{flows_in_one_pass}
+use Rattle.cwl_model.proofs.Passes.{flows_in_one_pass, no_owner}
 use Rattle.cwl_model.proofs.Rounds.{first_is, first_or_later, later_is, none_is, or_else}
 use Rattle.cwl_image.specs.Image.{Draft, Linkage, Scope, block_output, body_links, body_steps, cwl_in, flow_out, input_linkage, link_of, linkage_at, reference, type_of}
 use Rattle.cwl_laws.specs.Laws.{AllNew, BodyAgrees, Fit, FitsAt, Shows, all_running, has_key, job_of, jobs_of}
 use Rattle.cwl_laws.specs.Premises.{AreGiven, AreMet, AreOutputs, FlowsAgree, IsWorkflow, input_names_with}
 use Rattle.cwl_laws.specs.Tools.{input_value}
-use Rattle.cwl_laws.proofs.Blocks.{inputs_only, no_owner, steps_in_order}
+use Rattle.cwl_laws.proofs.Blocks.{inputs_only, steps_in_order}
 use Rattle.cwl_laws.proofs.Bodies.{bodies_agree, clean_together, lookup_append, turn_fit}
 use Rattle.cwl_laws.proofs.Conditions.{turn_own}
 use Rattle.cwl_laws.proofs.Objects.{IsSeen, is_seen, value_in}
 use Rattle.cwl_laws.proofs.Starts.{InputsAgree, all_meet, and_true, inputs_agree, start_fit, start_shows}
-
-none_some : {A : Type 0} {x : A} {B : Type 0} → None ≡ Some x → B
-none_some h = cc
-
-some_same : {A : Type 0} {x y : A} → Some x ≡ Some y → x ≡ y
-some_same h = cc
 
 -- ---- outputs
 
@@ -294,7 +289,7 @@ module _ (g : Ground) (structs : Structs) (object : List Named) (given : List Bi
     where
       by_test : (linkage_at ls key ≡ None → has_key (map (block_output (λ t. t)) ls) key ≡ false) → (b : Bool) → cond b (Some l) (linkage_at ls key) ≡ None
           → (b || has_key (map (block_output (λ t. t)) ls) key) ≡ false
-      by_test rest true e = none_some (sym e)
+      by_test rest true e = absurd (none-some _ (sym e))
       by_test rest false e = rest e
 
   no_body : (name : List ℕ) → lookup (env_of (in_turn fs One).names) (plain_key name) ≡ None

@@ -2,7 +2,24 @@
 
 ghost use Rattle.cwl_laws.specs.Laws.{BodiesAgree};
 ghost use Rattle.cwl_laws.specs.Simulation.{Simulation};
-ghost use Rattle.cwl_laws.specs.Parts.{CalleesAgree, ConditionsSimulate, FlowCallsKept, FlowCallsSimulate, IdsRead, InputsKept, ReferencesDiffer, ReferencesRead, ScattersSimulate, StatementsGive, TaskCallsKept, TaskCallsSimulate, TaskInputsKept, TasksAreTools, UsesAreSeen, WiresRefer};
+ghost use Rattle.cwl_laws.specs.Parts.{
+  CalleesAgree,
+  ConditionsSimulate,
+  FlowCallsKept,
+  FlowCallsSimulate,
+  IdsRead,
+  InputsKept,
+  ReferencesDiffer,
+  ReferencesRead,
+  ScattersSimulate,
+  StatementsGive,
+  TaskCallsKept,
+  TaskCallsSimulate,
+  TaskInputsKept,
+  TasksAreTools,
+  UsesAreSeen,
+  WiresRefer,
+};
 
 /// The CWL process of a checked form of the subset means what the flow of the form gives.
 ///

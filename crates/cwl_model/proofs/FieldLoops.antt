@@ -1,11 +1,11 @@
 -- Fields that are read and written piece by piece.
 use Rattle.std.proofs.Common.{◌≡◌, ◌≢◌, ℕ, suc, ◌<◌, Bool, true, false, not, ◌==◌, ◌&&◌, ◌||◌, List, [], ◌∷◌, ◌++◌, length, drop, get_or, append_assoc, append-nil, codes, Option, Some, None, Err, arith, refl, sym, ap, ◌∙◌}
-use Rattle.std.proofs.lemmas.Bool.{false≢true, true≢false, and_parts, and_from, or_parts, eqb-true, eq-eqb}
+use Rattle.std.proofs.lemmas.Bool.{false≢true, true≢false, and_parts, and_from, or_parts, eqb-true, eq-eqb, not-true, or_from}
 use Rattle.std.proofs.lemmas.Bool.Decides.{nat_tests}
 use Rattle.std.proofs.lemmas.List.{append_cancel_right, append_cancel_left, length-append}
 use Rattle.std.proofs.Math.Seq.{get_or-append_seam}
 use Rattle.std.specs.Option.{is_some}
-use Rattle.std.specs.Str.Pattern.{FindsTextPrefix, FindsTextSuffix, StripsPrefix, StripsSuffix}
+use Rattle.std.specs.Str.Pattern.{FindsTextSuffix, StripsSuffix}
 use Rattle.wdl_base.specs.Names.{is_name, is_word_from}
 use Rattle.wdl_base.specs.Plain.{has_nul}
 use Rattle.cwl_model.specs.declared.field.FieldFault.{FieldFault}
@@ -13,12 +13,9 @@ use Rattle.cwl_model.specs.declared.field.FieldFault.TheVariants.{NotPlain, NoMe
 use Rattle.cwl_model.specs.declared.tool.Piece.{Piece}
 use Rattle.cwl_model.specs.declared.tool.Piece.TheVariants as piece
 use Rattle.cwl_model.specs.Fields.{reference_body, piece_field, field_text, is_word_char, reference_at, begins_with, is_refused, opens, is_stray, is_plain_field, are_plain, is_piece, is_chars, are_pieces, holds_refused, chars_piece, NameReads, IsReference, ReferenceReads, PiecesRead}
-use Rattle.cwl_model.proofs.Fields.{negated, both_false, name_is_word, Begins, reference_is, reference_text, reference_joins}
+use Rattle.cwl_model.proofs.Fields.{name_is_word, Begins, reference_is, reference_text, reference_joins}
 
 -- ---- what std's search says
-
-pub prefix_is : (p s x : List ℕ) → StripsPrefix (FindsTextPrefix p) s x → s ≡ p ++ x
-prefix_is p s x h = h.1.1 ∙ ap (λ y. p ++ y) (sym h.2)
 
 pub suffix_is : (p s x : List ℕ) → StripsSuffix (FindsTextSuffix p) s x → s ≡ x ++ p
 suffix_is p s x h = h.1.1 ∙ ap (λ y. y ++ p) (sym h.2)
@@ -77,7 +74,7 @@ refused_plain [] h = refl
 refused_plain (c ∷ cs) h =
     let p = or_parts (is_refused c cs) (holds_refused cs) h in
     let q = or_parts (c == 0 || c == 92) (c == 36 && begins_with 123 cs) p.0 in
-    both_false (c == 0) (has_nul cs) (or_parts (c == 0) (c == 92) q.0).0 (refused_plain cs p.1)
+    or_from (c == 0) (has_nul cs) (or_parts (c == 0) (c == 92) q.0).0 (refused_plain cs p.1)
 
 -- what begins with a stray character, or has one later on, is no plain field
 pub later_stray : (a t : List ℕ) → is_plain_field t ≡ false → is_plain_field (a ++ t) ≡ false
@@ -152,11 +149,11 @@ first_same c [] [] s t h k e = refl
 first_same c [] (y ∷ b) s t h k e = absurd (differs y (and_parts (not (y == c)) (lacks c b) k).0 (sym (ap (λ l. get_or l 0 0) e)))
   where
     differs : (y : ℕ) → not (y == c) ≡ true → y ≡ c → ⊥
-    differs y n same = true≢false (sym (eq-eqb y c same) ∙ negated (y == c) n)
+    differs y n same = true≢false (sym (eq-eqb y c same) ∙ not-true (y == c) n)
 first_same c (x ∷ a) [] s t h k e = absurd (differs x (and_parts (not (x == c)) (lacks c a) h).0 (ap (λ l. get_or l 0 0) e))
   where
     differs : (y : ℕ) → not (y == c) ≡ true → y ≡ c → ⊥
-    differs y n same = true≢false (sym (eq-eqb y c same) ∙ negated (y == c) n)
+    differs y n same = true≢false (sym (eq-eqb y c same) ∙ not-true (y == c) n)
 first_same c (x ∷ a) (y ∷ b) s t h k e =
     let p = and_parts (not (x == c)) (lacks c a) h in
     let q = and_parts (not (y == c)) (lacks c b) k in

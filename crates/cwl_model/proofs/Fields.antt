@@ -1,52 +1,27 @@
 -- Fields and their pieces: exactly the plain fields have pieces, and text and pieces are each other's reverse.
-use Rattle.std.proofs.Common.{◌≡◌, ℕ, zero, suc, Bool, true, false, not, cond, ◌==◌, ◌&&◌, ◌||◌, List, [], ◌∷◌, ◌++◌, length, drop, append_assoc, codes, Option, Some, None, option_map, option_and_then, arith, refl, sym, ap, subst, ◌∙◌}
-use Rattle.std.proofs.lemmas.Bool.{false≢true, true≢false, and_parts, and_from, or_parts, eqb-true}
+use Rattle.std.proofs.Common.{◌≡◌, ℕ, zero, suc, Bool, true, false, not, cond, ◌==◌, ◌&&◌, ◌||◌, List, [], ◌∷◌, ◌++◌, length, drop, append_assoc, codes, Option, Some, None, option_map, arith, refl, sym, ap, subst, ◌∙◌}
+use Rattle.std.proofs.lemmas.Bool.{false≢true, true≢false, and_parts, and_from, or_parts, eqb-true, not-true, or_from}
 use Rattle.std.proofs.lemmas.Bool.Decides.{nat_tests}
 use Rattle.std.proofs.Math.Seq.{drop-append_seam}
 use Rattle.std.specs.Char.{is_ascii_alphabetic}
 use Rattle.std.specs.Option.{is_some}
+use Rattle.std.proofs.lemmas.Option.{same_Some}
 use Rattle.wdl_base.specs.Names.{is_name, is_word_from}
 use Rattle.cwl_model.specs.declared.tool.Piece.{Piece}
 use Rattle.cwl_model.specs.declared.tool.Piece.TheVariants as piece
 use Rattle.cwl_model.specs.Ids.{behind}
 use Rattle.cwl_model.specs.Fields.{FieldsAreRead, reference_body, piece_field, field_text, is_word_char, word_at, past_word, starts, closed_by, reference_of, reference_at, begins_with, is_refused, opens, is_stray, is_plain_field, are_plain, is_empty, is_piece, is_chars, begins_with_chars, are_pieces, piece_at, reference_length, with_char, with_front, pieces_past, pieces_in}
+use Rattle.wdl_base.proofs.Options.{map_parts, then_parts, chosen_parts, refused_parts}
 
 -- ---- Booleans and answers that came
-
-pub negated : (b : Bool) → not b ≡ true → b ≡ false
-negated true h = absurd (false≢true h)
-negated false h = refl
-
-pub both_false : (a b : Bool) → a ≡ false → b ≡ false → a || b ≡ false
-both_false true b h k = absurd (true≢false h)
-both_false false b h k = k
-
-pub mapped : {A B : Type 0} (f : A → B) (o : Option A) (b : B) → option_map f o ≡ Some b → (a : A) × (o ≡ Some a) × (f a ≡ b)
-mapped f None b h = cc
-mapped f (Some a) b h = (a, refl, cc)
-
-pub chained : {A B : Type 0} (f : A → Option B) (o : Option A) (b : B) → option_and_then f o ≡ Some b → (a : A) × (o ≡ Some a) × (f a ≡ Some b)
-chained f None b h = cc
-chained f (Some a) b h = (a, refl, h)
-
-pub chosen : {A : Type 0} (b : Bool) (o : Option A) (a : A) → cond b o None ≡ Some a → (b ≡ true) × (o ≡ Some a)
-chosen true o a h = (refl, h)
-chosen false o a h = cc
-
-pub refused : {A : Type 0} (b : Bool) (o : Option A) (a : A) → cond b None o ≡ Some a → (b ≡ false) × (o ≡ Some a)
-refused true o a h = cc
-refused false o a h = (refl, h)
-
-pub inside : {A : Type 0} (a b : A) → Some a ≡ Some b → a ≡ b
-inside a b h = cc
 
 -- ---- prefixes and words
 
 pub behind_is : (p s t : List ℕ) → behind p s ≡ Some t → s ≡ p ++ t
-behind_is [] s t h = inside s t h
+behind_is [] s t h = same_Some s t h
 behind_is (c ∷ p) [] t h = cc
 behind_is (c ∷ p) (d ∷ s) t h =
-    let k = chosen (c == d) (behind p s) t h in
+    let k = chosen_parts (c == d) (behind p s) t h in
     ap (λ x. x ∷ s) (sym (eqb-true c d k.0)) ∙ ap (λ x. c ∷ x) (behind_is p s t k.1)
 
 starts_is : (p s : List ℕ) → starts p s ≡ true → (t : List ℕ) × (s ≡ p ++ t)
@@ -100,7 +75,7 @@ closed_is : (name r : List ℕ) (p : Piece) (a b : Bool) → starts (codes ")") 
     → Begins (codes "(inputs." ++ (name ++ r)) p
 closed_is name r p true b e f n h =
     let t = starts_is (codes ")") r e in
-    let same : piece.Input name ≡ p = inside (piece.Input name) p h in
+    let same : piece.Input name ≡ p = same_Some (piece.Input name) p h in
     subst (Begins (codes "(inputs." ++ (name ++ r))) same (record {
       kind = refl;
       named = n;
@@ -109,7 +84,7 @@ closed_is name r p true b e f n h =
     })
 closed_is name r p false true e f n h =
     let t = starts_is (codes ".path)") r f in
-    let same : piece.InputPath name ≡ p = inside (piece.InputPath name) p h in
+    let same : piece.InputPath name ≡ p = same_Some (piece.InputPath name) p h in
     subst (Begins (codes "(inputs." ++ (name ++ r))) same (record {
       kind = refl;
       named = n;
@@ -120,10 +95,10 @@ closed_is name r p false false e f n h = cc
 
 pub reference_is : (s : List ℕ) (p : Piece) → reference_at s ≡ Some p → Begins s p
 reference_is s p h =
-    let k = chained (λ t. reference_of (word_at t) (past_word t)) (behind (codes "(inputs.") s) p h in
+    let k = then_parts (λ t. reference_of (word_at t) (past_word t)) (behind (codes "(inputs.") s) p h in
     let w = word_at k.0 in
     let r = past_word k.0 in
-    let c = chosen (is_name w) (closed_by w (starts (codes ")") r) (starts (codes ".path)") r)) p k.2 in
+    let c = chosen_parts (is_name w) (closed_by w (starts (codes ")") r) (starts (codes ".path)") r)) p k.2 in
     let is : s ≡ codes "(inputs." ++ (w ++ r) = behind_is (codes "(inputs.") s k.0 k.1 ∙ ap (λ x. codes "(inputs." ++ x) (word_and_past k.0) in
     subst (λ x. Begins x p) (sym is) (closed_is w r p (starts (codes ")") r) (starts (codes ".path)") r) refl refl c.0 c.1)
 
@@ -173,7 +148,7 @@ body_quiet (piece.Input name) k n = quiet_append name (codes ")") (words_quiet n
 body_quiet (piece.InputPath name) k n = quiet_append name (codes ".path)") (words_quiet name (name_is_word name n)) refl
 
 quiet_parts : (a b c : Bool) → not (a || b || c) ≡ true → (a ≡ false) × (b ≡ false) × (c ≡ false)
-quiet_parts a b c h = let p = or_parts (a || b) c (negated (a || b || c) h) in let q = or_parts a b p.0 in (q.0, q.1, p.1)
+quiet_parts a b c h = let p = or_parts (a || b) c (not-true (a || b || c) h) in let q = or_parts a b p.0 in (q.0, q.1, p.1)
 
 quiet_front : (c : ℕ) (cs : List ℕ) → is_quiet c ≡ true → is_stray c cs ≡ false
 quiet_front c cs h =
@@ -209,12 +184,12 @@ front_of c cs h =
 -- the reference at the front
 front_reference : (c : ℕ) (cs : List ℕ) (p : Piece) → piece_at c cs ≡ Some p → (c ≡ 36) × Begins cs p
 front_reference c cs p h =
-    let k = chosen (opens c cs) (reference_at cs) p h in
+    let k = chosen_parts (opens c cs) (reference_at cs) p h in
     (eqb-true c 36 (and_parts (c == 36) (begins_with 40 cs) k.0).0, reference_is cs p k.1)
 
 -- fewer characters begin no more
 refused_front : (c : ℕ) (s t : List ℕ) → is_refused c (s ++ t) ≡ false → is_refused c s ≡ false
-refused_front c [] t h = let p = or_parts (c == 0 || c == 92) (c == 36 && begins_with 123 t) h in both_false (c == 0 || c == 92) (c == 36 && false) p.0 (by_test (c == 36))
+refused_front c [] t h = let p = or_parts (c == 0 || c == 92) (c == 36 && begins_with 123 t) h in or_from (c == 0 || c == 92) (c == 36 && false) p.0 (by_test (c == 36))
   where
     by_test : (b : Bool) → b && false ≡ false
     by_test true = refl
@@ -279,12 +254,12 @@ front_read c cs (Some p) qs f h is =
     )
 
 read_past : (s : List ℕ) (n : ℕ) (ps : List Piece) → pieces_past s n ≡ Some ps → Read ps (drop n s)
-read_past [] zero ps h = subst (λ x. Read x []) (inside [] ps h) (refl, refl)
-read_past [] (suc n) ps h = subst (λ x. Read x []) (inside [] ps h) (refl, refl)
+read_past [] zero ps h = subst (λ x. Read x []) (same_Some [] ps h) (refl, refl)
+read_past [] (suc n) ps h = subst (λ x. Read x []) (same_Some [] ps h) (refl, refl)
 read_past (c ∷ cs) (suc n) ps h = read_past cs n ps h
 read_past (c ∷ cs) zero ps h =
-    let p = refused (is_stray c cs) (option_map (with_front c (piece_at c cs)) (pieces_past cs (reference_length (piece_at c cs)))) ps h in
-    let q = mapped (with_front c (piece_at c cs)) (pieces_past cs (reference_length (piece_at c cs))) ps p.1 in
+    let p = refused_parts (is_stray c cs) (option_map (with_front c (piece_at c cs)) (pieces_past cs (reference_length (piece_at c cs)))) ps h in
+    let q = map_parts (with_front c (piece_at c cs)) (pieces_past cs (reference_length (piece_at c cs))) ps p.1 in
     let r = read_past cs (reference_length (piece_at c cs)) q.0 q.1 in
     subst (λ x. Read x (c ∷ cs)) q.2 (front_read c cs (piece_at c cs) q.0 (front_of c cs p.0) r.0 r.1)
 
@@ -321,8 +296,8 @@ chars_found [] t ps h calm k = k
 chars_found (c ∷ s) t ps h calm k =
     let p = and_parts (not (is_refused c s) && not (opens c s)) (are_plain s) h in
     let q = and_parts (not (is_refused c s)) (not (opens c s)) p.0 in
-    let refused_same : is_refused c (s ++ t) ≡ false = ap (λ b. c == 0 || c == 92 || (c == 36 && b)) (begins_calm 123 s t calm.brace) ∙ negated (is_refused c s) q.0 in
-    let opens_same : opens c (s ++ t) ≡ false = ap (λ b. c == 36 && b) (begins_calm 40 s t calm.opening) ∙ negated (opens c s) q.1 in
+    let refused_same : is_refused c (s ++ t) ≡ false = ap (λ b. c == 0 || c == 92 || (c == 36 && b)) (begins_calm 123 s t calm.brace) ∙ not-true (is_refused c s) q.0 in
+    let opens_same : opens c (s ++ t) ≡ false = ap (λ b. c == 36 && b) (begins_calm 40 s t calm.opening) ∙ not-true (opens c s) q.1 in
     let stray : is_stray c (s ++ t) ≡ false = ap (λ b. b || (opens c (s ++ t) && not (is_some (reference_at (s ++ t))))) refused_same ∙ ap (λ b. b && not (is_some (reference_at (s ++ t)))) opens_same in
     let none : piece_at c (s ++ t) ≡ None = ap (λ b. cond b (reference_at (s ++ t)) None) opens_same in
     ap (λ b. cond b None (option_map (with_front c (piece_at c (s ++ t))) (pieces_past (s ++ t) (reference_length (piece_at c (s ++ t)))))) stray
@@ -351,7 +326,7 @@ pieces_found (piece.Chars [] ∷ ps) h = absurd (false≢true h)
 pieces_found (piece.Chars (c ∷ s) ∷ ps) h =
     let p = and_parts (are_plain (c ∷ s) && not (begins_with_chars ps)) (are_pieces ps) h in
     let q = and_parts (are_plain (c ∷ s)) (not (begins_with_chars ps)) p.0 in
-    let apart = negated (begins_with_chars ps) q.1 in
+    let apart = not-true (begins_with_chars ps) q.1 in
     chars_found (c ∷ s) (field_text ps) ps q.0 (calm_text ps apart) (pieces_found ps p.1) ∙ ap Some (joined_chars c s ps apart)
 pieces_found (piece.Input name ∷ ps) h =
     let p = and_parts (is_name name && true) (are_pieces ps) h in

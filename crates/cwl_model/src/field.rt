@@ -3,7 +3,10 @@
 ghost use Rattle.std.specs.Prelude.{◌≡◌, ◌++◌, ◌∷◌, codes, IfOk, OnOk, IsErrOf, true, false};
 ghost use Rattle.wdl_base.specs.Plain.{has_nul};
 ghost use Rattle.cwl_model.specs.Fields as spec;
-ghost use Rattle.cwl_model.specs.declared.field.FieldFault.TheVariants.{NotPlain, NoMemory as OutOfMemory};
+ghost use Rattle.cwl_model.specs.declared.field.FieldFault.TheVariants.{
+  NotPlain,
+  NoMemory as OutOfMemory,
+};
 
 use crate::tool::Piece;
 use sqlite_items::Items;
@@ -100,10 +103,10 @@ fn reference_of(alloc: Global, word: &str) -> Result<Piece, FieldFault>
     }
 }
 
-/// The pieces of a field: characters, with neighbours joined and none empty, and references (CWL v1.2
-/// CommandLineTool, "Parameter references"). The field is refused as `NotPlain` exactly where it holds NUL, a
-/// backslash, `${`, or a `$(` that begins neither `$(inputs.NAME)` nor `$(inputs.NAME.path)`, where NAME is an
-/// identifier of at most 128 bytes and no reserved word.
+/// The pieces of a field: characters, with neighbours joined and none empty, and references (CWL
+/// v1.2 CommandLineTool, "Parameter references"). The field is refused as `NotPlain` exactly where
+/// it holds NUL, a backslash, `${`, or a `$(` that begins neither `$(inputs.NAME)` nor
+/// `$(inputs.NAME.path)`, where NAME is an identifier of at most 128 bytes and no reserved word.
 pub fn pieces_of(alloc: Global, field: &str) -> Result<Items<Piece>, FieldFault>
     ensures value { spec.PiecesRead field.now result }
 {
@@ -142,7 +145,8 @@ fn push_piece(text: &mut Text, piece: &Piece) -> Result<(), NoMemory>
     }
 }
 
-/// The field that has these pieces: references are written `$(inputs.NAME)` and `$(inputs.NAME.path)`.
+/// The field that has these pieces: references are written `$(inputs.NAME)` and
+/// `$(inputs.NAME.path)`.
 pub fn field_of(alloc: Global, pieces: &[Piece]) -> Result<Text, NoMemory>
     ensures value { IfOk result (λ t. t ≡ spec.field_text pieces.now) }
 {

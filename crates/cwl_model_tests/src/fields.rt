@@ -4,8 +4,8 @@ use cwl_model::{FieldFault, Piece, field_of, pieces_of};
 use std::alloc::Global;
 use std::test::Fail;
 
-/// A field a line, and its pieces between semicolons: characters behind `c:`, inputs behind `i:` and paths of inputs
-/// behind `p:`. A field that is not plain has `!`.
+/// A field a line, and its pieces between semicolons: characters behind `c:`, inputs behind `i:`
+/// and paths of inputs behind `p:`. A field that is not plain has `!`.
 const FIELDS: &str = "\
 a $(inputs.x) b|c:a ;i:x;c: b
 $(date)|!

@@ -12,7 +12,7 @@ pub field_none : (structs : Structs) (t : Ty) → field_ty structs 0 t ≡ field
 unfolding field_ty
 field_none structs t = refl
 
-deeper : (structs : Structs) (n : ℕ) (t : Ty) → field_ty structs (suc n) t ≡ struct_field structs (field_ty structs n) t (out-Ty t)
+pub deeper : (structs : Structs) (n : ℕ) (t : Ty) → field_ty structs (suc n) t ≡ struct_field structs (field_ty structs n) t (out-Ty t)
 unfolding field_ty
 deeper structs n t = refl
 

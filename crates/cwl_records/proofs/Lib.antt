@@ -1,6 +1,5 @@
 pub mod FieldLaws
 pub mod FlowLists
-pub mod JsonViews
 pub mod LeafLists
 pub mod Outcomes
 pub mod WalkLaws

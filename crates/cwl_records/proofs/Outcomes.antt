@@ -1,5 +1,6 @@
 -- What the steps of lowering answer.
 use Rattle.std.proofs.Common.{◌≡◌, ℕ, Bool, true, false, cond, List, [], Option, Some, None, option_and_then, option_map, map, slice_get, refl, ap, sym, ◌∙◌}
+use Rattle.std.proofs.lemmas.Option.{same_Some}
 use Rattle.wdl_typed.specs.declared.checked.Checked.{Checked}
 use Rattle.wdl_typed.specs.declared.flow.FlowDef.{FlowDef}
 use Rattle.wdl_typed.specs.declared.task.TInput.{TInput}
@@ -20,9 +21,6 @@ use Rattle.leaf_image.specs.Records.{inputs_at, leaves_at}
 abbrev form : List FlowDef → List RecordLeaf → List TInput → Lowered
 form flows records source = record { flows = flows; records = records; source = source }
 
-same_some : {A : Type 0} (a b : A) → Some a ≡ Some b → a ≡ b
-same_some a b e = cc
-
 lacking : (o : Option (List (List Leaf))) (lib : Library) (main : ℕ) (marks : List Bool) (source : List TInput)
     → option_map (replacing_by lib main marks) o ≡ None → form lib.flows [] source ≡ lowered_by lib.flows main source (option_and_then (replaced_by lib main marks) o)
 lacking None lib main marks source e = refl
@@ -39,7 +37,7 @@ having : (o : Option (List (List Leaf))) (lib : Library) (main : ℕ) (marks : L
     → form (cond b flows lib.flows) (cond b records []) source ≡ lowered_by lib.flows main source (option_and_then (replaced_by lib main marks) o)
 having None lib main marks source flows records b e is = cc
 having (Some ls) lib main marks source flows records b e is =
-    let r = same_some (replacing_by lib main marks ls) (record { flows = flows; records = records }) e in
+    let r = same_Some (replacing_by lib main marks ls) (record { flows = flows; records = records }) e in
     let fs : expanded_where lib.flows ls lib.flows marks ls ≡ flows = ap (λ (x : Replacing). x.flows) r in
     let rs : map record_leaf (leaves_at (slice_get ls main)) ≡ records = ap (λ (x : Replacing). x.records) r in
     sym (ap (λ (x : List FlowDef). form (cond b x lib.flows) (cond b records []) source) fs)

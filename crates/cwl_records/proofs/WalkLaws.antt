@@ -1,6 +1,6 @@
 -- What statements give out and leave, one after another, and what blocks do.
-use Rattle.std.proofs.Common.{◌≡◌, ℕ, Bool, List, [], ◌∷◌, ◌++◌, Option, Some, None, option_and_then, map, take, length, refl, sym, ap, ◌∙◌, append_assoc, append-nil}
-use Rattle.std.proofs.Math.Seq.{take-append_seam}
+use Rattle.std.proofs.Common.{◌≡◌, ℕ, Bool, List, [], ◌∷◌, ◌++◌, Option, Some, None, option_and_then, map, refl, sym, ap, ◌∙◌, append_assoc, append-nil}
+use Rattle.std.proofs.lemmas.Option.{same_Some}
 use Rattle.wdl_value.specs.declared.ty.Ty.{Ty, Ty-F, out-Ty}
 use Rattle.wdl_value.specs.declared.ty.Ty.TheOpen as type
 use Rattle.wdl_typed.specs.declared.flow.FlowDef.{FlowDef}
@@ -18,6 +18,7 @@ use Rattle.cwl_subset.specs.Walks.{items_at, items_of}
 use Rattle.cwl_records.specs.declared.aliases.Walked.{Walked}
 use Rattle.cwl_records.specs.Aliases.{Scene, Step, Walk, scatter_at, scatter_over, scene_of, unaliased, walk, walk_body, walk_flow}
 use Rattle.cwl_records.specs.Scenes.{inside_by, joined, nothing, scatter_inside, scatter_left, scatter_of, scatter_walk, walked}
+use Rattle.wdl_base.proofs.Options.{some_none}
 
 abbrev left : List Bound → List Statement → Walked
 left given kept = record { given = given; kept = kept }
@@ -63,17 +64,7 @@ walk_goes scene s ss ds start before after swaps more end so all next whole spli
           ∙ stands.2,
     )
 
--- what a list began with
-pub start_kept : {A : Type 0} (start more all : List A) (count : ℕ) → all ≡ start ++ more → count ≡ length start → take count all ≡ start
-start_kept start more all count is n = ap (λ xs. take count xs) is ∙ ap (λ k. take k (start ++ more)) n ∙ take-append_seam start more
-
 -- ---- blocks
-
-not_some : {A : Type 0} (a : A) → Some a ≡ None → ⊥
-not_some a e = cc
-
-same_some : {A : Type 0} (a b : A) → Some a ≡ Some b → a ≡ b
-same_some a b e = cc
 
 none_over : (s : TScatter Walk) (names : List Bound) (swaps : List Swap) (o : Option Ty) → option_and_then (λ t. items_at (out-Ty t)) o ≡ None
     → scatter_over s names swaps o ≡ scatter_over s names swaps None
@@ -81,17 +72,17 @@ none_over s names swaps None e = refl
 none_over s names swaps (Some t) e = by_layer (out-Ty t) e
   where
     by_layer : (y : Ty-F Ty) → items_at y ≡ None → scatter_at s names swaps y ≡ scatter_over s names swaps None
-    by_layer (type.Array u some) h = absurd (not_some (u, some) h)
+    by_layer (type.Array u some) h = absurd (some_none (u, some) h)
     by_layer y h = refl
 
 some_over : (s : TScatter Walk) (names : List Bound) (swaps : List Swap) (o : Option Ty) (t : Ty) (some : Bool) → option_and_then (λ u. items_at (out-Ty u)) o ≡ Some (t, some)
     → scatter_over s names swaps o ≡ scatter_at s names swaps (type.Array t some)
-some_over s names swaps None t some e = absurd (not_some (t, some) (sym e))
+some_over s names swaps None t some e = absurd (some_none (t, some) (sym e))
 some_over s names swaps (Some v) t some e = by_layer (out-Ty v) e
   where
     by_layer : (y : Ty-F Ty) → items_at y ≡ Some (t, some) → scatter_at s names swaps y ≡ scatter_at s names swaps (type.Array t some)
-    by_layer (type.Array u also) h = ap (λ (p : Ty × Bool). scatter_at s names swaps (type.Array p.0 p.1)) (same_some (u, also) (t, some) h)
-    by_layer y h = absurd (not_some (t, some) (sym h))
+    by_layer (type.Array u also) h = ap (λ (p : Ty × Bool). scatter_at s names swaps (type.Array p.0 p.1)) (same_Some (u, also) (t, some) h)
+    by_layer y h = absurd (some_none (t, some) (sym h))
 
 pub scatter_is : (scene : Scene) (s : TScatter Statement) (names : List Bound) (swaps : List Swap)
     → scatter_left swaps s (scatter_inside scene s.body s.item s.over names swaps) ≡ walked (scatter_walk scene s names swaps)

@@ -1,6 +1,7 @@
 -- Each process with record inputs that JSON stands for is written as that JSON.
 use Rattle.std.proofs.Common.{◌≡◌, ℕ, Bool, true, false, cond, ◌&&◌, List, [], ◌∷◌, map, codes, Option, Some, None, option_and_then, refl, sym, ap, ◌∙◌, subst}
 use Rattle.std.proofs.lemmas.Bool.{false≢true, and_parts}
+use Rattle.std.proofs.lemmas.Option.{same_Some}
 use Rattle.serde_json.specs.Data.{Data, string, array, object, no_items, item, Members, no_members, member}
 use Rattle.cwl_model.specs.declared.process.CwlFlow.{CwlFlow}
 use Rattle.cwl_model.specs.declared.process.FlowOut.{FlowOut}
@@ -10,7 +11,7 @@ use Rattle.cwl_model.specs.declared.process.Process.TheVariants as process
 use Rattle.cwl_emit.specs.Reading.{cwl_of, flow_out_of, has_names, is_class, is_member, is_text, is_version, list_of, member_of, text_of, with3}
 use Rattle.cwl_emit.specs.Writing.{class_json, flow_out_json, list, process_json}
 use Rattle.cwl_emit.proofs.Flows.{class_is, flow_out_is, process_is}
-use Rattle.cwl_emit.proofs.Parts.{chained, chosen, inside, of_three, Is, MembersAre, no_item, item_is, array_is, no_member, member_is, object_is, names_ordered, text_is, word_is, list_is, shape_of, shape_is}
+use Rattle.cwl_emit.proofs.Parts.{of_three, Is, MembersAre, no_item, item_is, array_is, no_member, member_is, object_is, names_ordered, text_is, word_is, list_is, shape_of, shape_is}
 use Rattle.cwl_records.specs.declared.wide.RecordProcess.{RecordProcess}
 use Rattle.cwl_records.specs.declared.wide.WideIn.{WideIn}
 use Rattle.cwl_records.specs.declared.wide.WideWire.{WideWire}
@@ -19,6 +20,7 @@ use Rattle.cwl_records.specs.WideWriting.{body_id, flow_out_id, only, outer_json
 use Rattle.cwl_records.proofs.WideFields.{wide_in_is}
 use Rattle.cwl_records.proofs.WideOutputs.{ids_are, outer_are}
 use Rattle.cwl_records.proofs.WidePaths.{path_is}
+use Rattle.wdl_base.proofs.Options.{then_parts, chosen_parts}
 
 -- ---- wires
 
@@ -55,7 +57,7 @@ short_wire ms id source read names =
 
 long_wire : (ms : Members) (id source : List ℕ) (path : List (List ℕ)) → WireRead ms id source → longer ms ≡ Some path → Is (object ms) (wide_wire_json (wide_wire id source path))
 long_wire ms id source path read h =
-    let c = chosen (has_names long_names ms) (member_of (codes "valueFrom") path_of ms) path h in
+    let c = chosen_parts (has_names long_names ms) (member_of (codes "valueFrom") path_of ms) path h in
     let s = shape_of long_names ms c.0 in
     let is : ms ≡ member (codes "id") s.0 (member (codes "source") s.3.0 (member (codes "valueFrom") s.3.3.0 no_members)) = shape_is long_names ms s in
     let p = path_is s.3.3.0 path (sym (ap (member_of (codes "valueFrom") path_of) is) ∙ c.1) in
@@ -66,7 +68,7 @@ wire_by_path : (ms : Members) (id source : List ℕ) (path : List (List ℕ)) �
 wire_by_path ms id source path read h = by_names (has_names short_names ms) refl h
   where
     by_names : (b : Bool) → has_names short_names ms ≡ b → cond b (Some []) (longer ms) ≡ Some path → Is (object ms) (wide_wire_json (wide_wire id source path))
-    by_names true e k = subst (λ p. Is (object ms) (wide_wire_json (wide_wire id source p))) (inside [] path k) (short_wire ms id source read e)
+    by_names true e k = subst (λ p. Is (object ms) (wide_wire_json (wide_wire id source p))) (same_Some [] path k) (short_wire ms id source read e)
     by_names false e k = long_wire ms id source path read k
 
 wide_wire_is : (d : Data) (w : WideWire) → wide_wire_of d ≡ Some w → Is d (wide_wire_json w)
@@ -80,11 +82,11 @@ wide_wire_is d w h = cc
 
 flow_is : (y : Process-F Process) (f : CwlFlow Process) → flow_in y ≡ Some f → roll-Process y ≡ process.Flow f
 flow_is (layer.Tool t) f h = cc
-flow_is (layer.Flow g) f h = process.rolls-Flow g ∙ ap process.Flow (inside g f h)
+flow_is (layer.Flow g) f h = process.rolls-Flow g ∙ ap process.Flow (same_Some g f h)
 
 body_is : (d : Data) (f : CwlFlow Process) → body_of d ≡ Some f → Is d (process_json (process.Flow f) false)
 body_is d f h =
-    let p = chained (λ p. flow_in (out-Process p)) (cwl_of false d) f h in
+    let p = then_parts (λ p. flow_in (out-Process p)) (cwl_of false d) f h in
     subst (λ p. Is d (process_json p false)) (sym (roll-out-Process p.0) ∙ flow_is (out-Process p.0) f p.2) (process_is false d p.0 p.1)
 
 abbrev step_names : List (List ℕ)
@@ -98,19 +100,19 @@ reads_step ms = with3 body_step (member_of (codes "in") (list_of wide_wire_of) m
 
 body_step_members_are : (ms : Members) (s : BodyStep) → body_step_in ms ≡ Some s → Is (object ms) (written s)
 body_step_members_are ms s h =
-    let c = chosen (has_names step_names ms && is_member (codes "id") (is_text body_id) ms) (option_and_then if_ids (reads_step ms)) s h in
+    let c = chosen_parts (has_names step_names ms && is_member (codes "id") (is_text body_id) ms) (option_and_then if_ids (reads_step ms)) s h in
     let p = and_parts (has_names step_names ms) (is_member (codes "id") (is_text body_id) ms) c.0 in
     let a = shape_of step_names ms p.0 in
     let is : ms ≡ member (codes "id") a.0 (member (codes "in") a.3.0 (member (codes "out") a.3.3.0 (member (codes "run") a.3.3.3.0 no_members))) = shape_is step_names ms a in
     let own = word_is body_id a.0 (sym (ap (is_member (codes "id") (is_text body_id)) is) ∙ p.1) in
-    let q = chained if_ids (reads_step ms) s c.1 in
-    let t = chosen (are_ids q.0.outs q.0.body.outputs) (Some q.0) s q.2 in
+    let q = then_parts if_ids (reads_step ms) s c.1 in
+    let t = chosen_parts (are_ids q.0.outs q.0.body.outputs) (Some q.0) s q.2 in
     let r = of_three body_step (list_of wide_wire_of a.3.0) (list_of text_of a.3.3.0) (body_of a.3.3.3.0) q.0 (sym (ap reads_step is) ∙ q.1) in
     let made = r.rest.made in
     let ids : r.rest.x ≡ map flow_out_id r.rest.y.outputs = ids_are r.rest.x r.rest.y.outputs (ap (λ (x : BodyStep). are_ids x.outs x.body.outputs) made ∙ t.0) in
     let outs = subst (λ xs. Is a.3.3.0 (list string xs)) ids (list_is text_of string text_is a.3.3.0 r.rest.x r.rest.first) in
     subst (λ m. Is (object m) (written s)) (sym is)
-    (subst (λ (x : BodyStep). Is (object (member (codes "id") a.0 (member (codes "in") a.3.0 (member (codes "out") a.3.3.0 (member (codes "run") a.3.3.3.0 no_members))))) (written x)) (made ∙ inside q.0 s t.1)
+    (subst (λ (x : BodyStep). Is (object (member (codes "id") a.0 (member (codes "in") a.3.0 (member (codes "out") a.3.3.0 (member (codes "run") a.3.3.3.0 no_members))))) (written x)) (made ∙ same_Some q.0 s t.1)
     (object_is _ _
     (member_is (codes "id") a.0 (string body_id) _ _ own
     (member_is (codes "in") a.3.0 (list wide_wire_json r.x) _ _ (list_is wide_wire_of wide_wire_json wide_wire_is a.3.0 r.x r.first)
@@ -186,18 +188,18 @@ wide_members_are ms p h =
     let inputs = member_of (codes "inputs") (list_of wide_in_of) ms in
     let outputs = member_of (codes "outputs") (list_of flow_out_of) ms in
     let step = member_of (codes "steps") only_step ms in
-    let c = chosen (is_outer ms) (option_and_then (λ is. option_and_then (λ os. option_and_then (process_by is os) step) outputs) inputs) p h in
+    let c = chosen_parts (is_outer ms) (option_and_then (λ is. option_and_then (λ os. option_and_then (process_by is os) step) outputs) inputs) p h in
     let names = has_names outer_names ms in
     let version = is_version true ms in
     let class = is_member (codes "class") (is_text (codes "Workflow")) ms in
     let a = and_parts (names && version && class) (is_member (codes "requirements") are_requirements ms) c.0 in
     let b = and_parts (names && version) class a.0 in
     let k = and_parts names version b.0 in
-    let i = chained (λ is. option_and_then (λ os. option_and_then (process_by is os) step) outputs) inputs p c.1 in
-    let o = chained (λ os. option_and_then (process_by i.0 os) step) outputs p i.2 in
-    let s = chained (process_by i.0 o.0) step p o.2 in
-    let t = chosen (are_outer o.0 s.0.body.outputs) (Some (record { inputs = i.0; wires = s.0.wires; body = s.0.body })) p s.2 in
-    subst (λ (x : RecordProcess). Is (object ms) (wide_json x)) (inside (record { inputs = i.0; wires = s.0.wires; body = s.0.body }) p t.1)
+    let i = then_parts (λ is. option_and_then (λ os. option_and_then (process_by is os) step) outputs) inputs p c.1 in
+    let o = then_parts (λ os. option_and_then (process_by i.0 os) step) outputs p i.2 in
+    let s = then_parts (process_by i.0 o.0) step p o.2 in
+    let t = chosen_parts (are_outer o.0 s.0.body.outputs) (Some (record { inputs = i.0; wires = s.0.wires; body = s.0.body })) p s.2 in
+    subst (λ (x : RecordProcess). Is (object ms) (wide_json x)) (same_Some (record { inputs = i.0; wires = s.0.wires; body = s.0.body }) p t.1)
     (outer_members_are ms i.0 o.0 s.0
     (record { names = k.0; version = k.1; class = b.1; requirements = a.1; inputs_read = i.1; outputs_read = o.1; step_read = s.1 })
     (outer_are o.0 s.0.body.outputs t.0))

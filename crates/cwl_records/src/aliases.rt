@@ -1,4 +1,5 @@
-//! Declarations that only give another name to an input, an item, a member of one of these, or a file.
+//! Declarations that only give another name to an input, an item, a member of one of these, or a
+//! file.
 
 ghost use Rattle.std.specs.Prelude.{◌≡◌, ◌++◌, ◌∷◌, [], IfOk, OnOk};
 ghost use Rattle.std.specs.Option.{option_copied};
@@ -18,15 +19,16 @@ use wdl_swaps::{
 use wdl_typed::{Bound, Statement, TCall, TDecl, TExpr};
 use wdl_value::{Items, Key, Name, NoMemory, Ty};
 
-/// The library and the names that the workflow's body declares, with the names that are used outside the bodies that
-/// declare them.
+/// The library and the names that the workflow's body declares, with the names that are used
+/// outside the bodies that declare them.
 #[derive(Drop)]
 pub struct Stage<'a> {
     pub context: &'a Context<'a>,
     pub strays: &'a Words,
 }
 
-/// The names that statements give out, with their types, and what stands in the places of the statements.
+/// The names that statements give out, with their types, and what stands in the places of the
+/// statements.
 #[derive(Debug, Drop)]
 pub struct Walked {
     pub given: Items<Bound>,

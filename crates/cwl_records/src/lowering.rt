@@ -13,8 +13,8 @@ use wdl_typed::{Checked, CheckedParts, FlowDef, TInput};
 use wdl_value::{Items, NoMemory};
 use wdl_well_typed::well_typed;
 
-/// A checked form without aliases and struct inputs. `records` has the leaves of the struct inputs of main that were
-/// replaced, and `source` has main's inputs as they were.
+/// A checked form without aliases and struct inputs. `records` has the leaves of the struct inputs
+/// of main that were replaced, and `source` has main's inputs as they were.
 #[derive(Debug, Drop)]
 pub struct Lowered {
     pub checked: Checked,
@@ -113,7 +113,8 @@ fn flows_with_leaves(
     Ok(Some(Replacing { flows, records }))
 }
 
-/// The checked form with the leaves in the places of the struct inputs, where what is made is well typed.
+/// The checked form with the leaves in the places of the struct inputs, where what is made is well
+/// typed.
 #[tactic(auto, using(crate::proofs::Outcomes::none_replaced))]
 fn with_leaves(
     alloc: Global,

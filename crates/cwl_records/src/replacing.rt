@@ -70,7 +70,8 @@ fn push_if(
     }
 }
 
-/// The marked workflows with the leaves in the places of the struct inputs, and the others without bodies and outputs.
+/// The marked workflows with the leaves in the places of the struct inputs, and the others without
+/// bodies and outputs.
 pub fn expanded_where(
     alloc: Global,
     flows: &[FlowDef],

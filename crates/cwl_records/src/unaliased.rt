@@ -103,7 +103,8 @@ fn push_where<'a>(
     }
 }
 
-/// The workflows without their aliases, and those that have no mark without their bodies and outputs.
+/// The workflows without their aliases, and those that have no mark without their bodies and
+/// outputs.
 pub fn unaliased_where<'a>(
     alloc: Global,
     structs: &'a Indexed<'a, StructDef>,

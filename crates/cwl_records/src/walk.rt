@@ -65,7 +65,8 @@ fn not_scattered(alloc: Global, s: &TScatter<Statement>, swaps: &[Swap]) -> Resu
     Ok(Walked { given, kept })
 }
 
-/// What a scatter gives out and what stands in its place, given those of its body and whether the collection has `+`.
+/// What a scatter gives out and what stands in its place, given those of its body and whether the
+/// collection has `+`.
 fn scatter_left(
     alloc: Global,
     s: &TScatter<Statement>,
@@ -109,9 +110,10 @@ fn statement_walk<'a>(
     }
 }
 
-/// What the body of a scatter gives out and leaves, and whether the collection has `+`. The item is seen in the body alone.
+/// What the body of a scatter gives out and leaves, and whether the collection has `+`. The item is
+/// seen in the body alone.
 #[cycle(walk)]
-#[tactic(auto, using(crate::proofs::WalkLaws::start_kept))]
+#[tactic(auto, using(wdl_swaps::proofs::StrayBodies::path_kept))]
 fn scatter_inside<'a>(
     alloc: Global,
     body: &[Statement],
@@ -139,7 +141,7 @@ fn scatter_inside<'a>(
 
 /// What the body of a condition gives out and leaves.
 #[cycle(walk)]
-#[tactic(auto, using(crate::proofs::WalkLaws::start_kept))]
+#[tactic(auto, using(wdl_swaps::proofs::StrayBodies::path_kept))]
 fn if_inside<'a>(
     alloc: Global,
     body: &[Statement],
@@ -157,9 +159,10 @@ fn if_inside<'a>(
     Ok(inside)
 }
 
-/// The statements of a body without its aliases, whose values then stand in the places of their names.
+/// The statements of a body without its aliases, whose values then stand in the places of their
+/// names.
 #[cycle(walk)]
-#[tactic(auto, using(crate::proofs::WalkLaws::joined_nothing, crate::proofs::WalkLaws::start_kept))]
+#[tactic(auto, using(crate::proofs::WalkLaws::joined_nothing, wdl_swaps::proofs::StrayBodies::path_kept))]
 pub fn body_walk<'a>(
     alloc: Global,
     body: &[Statement],

@@ -8,7 +8,8 @@ pub struct RecordField<T> {
     pub ty: T,
 }
 
-/// The type of a field: one of this profile, or a record of fields (CWL v1.2 Workflow, "InputRecordSchema").
+/// The type of a field: one of this profile, or a record of fields (CWL v1.2 Workflow,
+/// "InputRecordSchema").
 #[derive(Debug, Drop)]
 pub enum FieldTy {
     One(CwlTy),
@@ -25,7 +26,8 @@ pub enum WideIn {
     },
 }
 
-/// An input of the body: the input of the record process from which it comes, and the fields that lead to it.
+/// An input of the body: the input of the record process from which it comes, and the fields that
+/// lead to it.
 #[derive(Debug, Drop)]
 pub struct WideWire {
     pub id: Text,
@@ -33,7 +35,8 @@ pub struct WideWire {
     pub path: Items<Name>,
 }
 
-/// A workflow of one step, its body, whose inputs may be records (CWL v1.2 Workflow, "InputRecordSchema").
+/// A workflow of one step, its body, whose inputs may be records (CWL v1.2 Workflow,
+/// "InputRecordSchema").
 #[derive(Debug, Drop)]
 pub struct RecordProcess {
     pub inputs: Items<WideIn>,

@@ -1,4 +1,5 @@
-//! The process with records round the process of a lowered form (CWL v1.2 Workflow, "InputRecordSchema").
+//! The process with records round the process of a lowered form (CWL v1.2 Workflow,
+//! "InputRecordSchema").
 
 ghost use Rattle.std.specs.Prelude.{◌≡◌, IfOk, map};
 ghost use Rattle.std.specs.Option.{option_copied};
@@ -145,9 +146,9 @@ fn wires_of(
     Ok(wires)
 }
 
-/// The process of a form with struct inputs, round the process of its lowered form (CWL v1.2 Workflow,
-/// "InputRecordSchema"): main's inputs as they were, a struct input as a record of its members; and each input of the
-/// body from the input or the member for which it stands.
+/// The process of a form with struct inputs, round the process of its lowered form (CWL v1.2
+/// Workflow, "InputRecordSchema"): main's inputs as they were, a struct input as a record of its
+/// members; and each input of the body from the input or the member for which it stands.
 ///
 /// # Errors
 ///

@@ -15,7 +15,7 @@ use std::alloc::Global;
 use wdl_base::{NoMemory, Text};
 use wdl_value::{Items, Name};
 
-#[tactic(auto, using(crate::proofs::JsonViews::object_view))]
+#[tactic(auto, using(json_values::proofs::JsonViews::object_view))]
 fn field_json(alloc: Global, name: &Name, ty: Json) -> Result<Json, NoMemory>
     ensures { IfOk result (λ j. view j ≡ spec.field_json (record { name = name.now; ty = view ty })) }
 {
@@ -25,7 +25,7 @@ fn field_json(alloc: Global, name: &Name, ty: Json) -> Result<Json, NoMemory>
     Ok(Json::Object(members))
 }
 
-#[tactic(auto, using(crate::proofs::JsonViews::object_view))]
+#[tactic(auto, using(json_values::proofs::JsonViews::object_view))]
 fn record_json(alloc: Global, fields: Json) -> Result<Json, NoMemory>
     ensures { IfOk result (λ j. view j ≡ spec.record_of (view fields)) }
 {
@@ -47,7 +47,7 @@ fn field_ty_json(alloc: Global, ty: &FieldTy) -> Result<Json, NoMemory>
 
 /// A record type with these fields.
 #[cycle(types)]
-#[tactic(auto, using(crate::proofs::JsonViews::array_view))]
+#[tactic(auto, using(json_values::proofs::JsonViews::array_view))]
 fn fields_json(alloc: Global, fields: &[RecordField<FieldTy>]) -> Result<Json, NoMemory>
     ensures { IfOk result (λ j. view j ≡ spec.fields_json fields.now) }
 {
@@ -60,7 +60,7 @@ fn fields_json(alloc: Global, fields: &[RecordField<FieldTy>]) -> Result<Json, N
 }
 
 /// An input that is a record.
-#[tactic(auto, using(crate::proofs::JsonViews::object_view))]
+#[tactic(auto, using(json_values::proofs::JsonViews::object_view))]
 fn record_input(alloc: Global, id: &Text, ty: Json) -> Result<Json, NoMemory>
     ensures { IfOk result (λ j. view j ≡ spec.record_input id.now (view ty)) }
 {
@@ -82,7 +82,7 @@ fn wide_in_json(alloc: Global, input: &WideIn) -> Result<Json, NoMemory>
     }
 }
 
-#[tactic(auto, using(crate::proofs::JsonViews::array_view))]
+#[tactic(auto, using(json_values::proofs::JsonViews::array_view))]
 fn inputs_json(alloc: Global, inputs: &[WideIn]) -> Result<Json, NoMemory>
     ensures { IfOk result (λ j. view j ≡ emit.list spec.wide_in_json inputs.now) }
 {
@@ -130,7 +130,7 @@ fn put_path(alloc: Global, members: &mut Map<String, Json>, path: &[Name]) -> Re
     put_word(alloc, members, "valueFrom", text.as_str())
 }
 
-#[tactic(auto, using(crate::proofs::JsonViews::object_view))]
+#[tactic(auto, using(json_values::proofs::JsonViews::object_view))]
 fn wire_json(alloc: Global, wire: &WideWire) -> Result<Json, NoMemory>
     ensures { IfOk result (λ j. view j ≡ spec.wide_wire_json wire.now) }
 {
@@ -141,7 +141,7 @@ fn wire_json(alloc: Global, wire: &WideWire) -> Result<Json, NoMemory>
     Ok(Json::Object(members))
 }
 
-#[tactic(auto, using(crate::proofs::JsonViews::array_view))]
+#[tactic(auto, using(json_values::proofs::JsonViews::array_view))]
 fn wires_json(alloc: Global, wires: &[WideWire]) -> Result<Json, NoMemory>
     ensures { IfOk result (λ j. view j ≡ emit.list spec.wide_wire_json wires.now) }
 {
@@ -188,7 +188,7 @@ fn ids_of(alloc: Global, outputs: &[FlowOut]) -> Result<Items<Text>, NoMemory>
 }
 
 /// The step of the body, given what is written for the body.
-#[tactic(auto, using(crate::proofs::JsonViews::object_view))]
+#[tactic(auto, using(json_values::proofs::JsonViews::object_view))]
 fn step_json(
     alloc: Global,
     wires: &[WideWire],
@@ -208,7 +208,7 @@ fn step_json(
     Ok(Json::Object(members))
 }
 
-#[tactic(auto, using(crate::proofs::JsonViews::array_view))]
+#[tactic(auto, using(json_values::proofs::JsonViews::array_view))]
 fn requirements_json(alloc: Global) -> Result<Json, NoMemory>
     ensures { IfOk result (λ j. view j ≡ spec.outer_requirements) }
 {
@@ -218,7 +218,7 @@ fn requirements_json(alloc: Global) -> Result<Json, NoMemory>
     Ok(Json::Array(items))
 }
 
-#[tactic(auto, using(crate::proofs::JsonViews::array_view))]
+#[tactic(auto, using(json_values::proofs::JsonViews::array_view))]
 fn only(alloc: Global, step: Json) -> Result<Json, NoMemory>
     ensures { IfOk result (λ j. view j ≡ spec.only (view step)) }
 {
@@ -228,7 +228,7 @@ fn only(alloc: Global, step: Json) -> Result<Json, NoMemory>
 }
 
 /// The outer workflow, given what is written for its inputs, the outputs of its body, and its step.
-#[tactic(auto, using(crate::proofs::JsonViews::object_view))]
+#[tactic(auto, using(json_values::proofs::JsonViews::object_view))]
 fn outer_json(
     alloc: Global,
     inputs: Json,
@@ -261,8 +261,8 @@ fn wide_json(alloc: Global, process: &RecordProcess) -> Result<Json, NoMemory>
     outer_json(alloc, inputs, outputs, step)
 }
 
-/// The text of the JSON value that is written for the process, members in byte order and without blanks. It stands for
-/// the process, where some value does.
+/// The text of the JSON value that is written for the process, members in byte order and without
+/// blanks. It stands for the process, where some value does.
 ///
 /// # Errors
 ///

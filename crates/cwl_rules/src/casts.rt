@@ -29,8 +29,8 @@ fn cast_widens(
     Ok(some_widens(&found, t))
 }
 
-/// Whether each cast in the expression is one of the subset, by the type of what it casts. `placeholder` says whether the
-/// expression stands in a placeholder.
+/// Whether each cast in the expression is one of the subset, by the type of what it casts.
+/// `placeholder` says whether the expression stands in a placeholder.
 #[tactic(auto, using(crate::proofs::CastsOut::casts_steps))]
 #[cycle(casts)]
 fn casts_widen(

@@ -41,8 +41,8 @@ fn has_dark(parts: &[TPart<TExpr>]) -> bool
     false
 }
 
-/// Whether the last of the characters is `$`, where there is no backslash among them and no `(` or `{` directly behind a
-/// `$`. `dollar` says whether the character before them is `$`.
+/// Whether the last of the characters is `$`, where there is no backslash among them and no `(` or
+/// `{` directly behind a `$`. `dollar` says whether the character before them is `$`.
 fn after_text(bytes: &[u8], dollar: bool) -> Option<bool>
     ensures { (rest : List (Option ℕ)) → spec.goes_on dollar (spec.chars bytes.now ++ rest) ≡ spec.resumed result rest }
 {

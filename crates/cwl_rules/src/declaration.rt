@@ -17,7 +17,8 @@ use wdl_names::{Indexed, Names};
 use wdl_typed::{TDecl, TExpr, TInput};
 use wdl_value::{NoMemory, StructDef, Ty};
 
-/// Where a declaration stands: a private one of a task, an output of a task or of a workflow, or one in a body.
+/// Where a declaration stands: a private one of a task, an output of a task or of a workflow, or
+/// one in a body.
 #[derive(Clone, Copy, Debug, PartialEq, Eq)]
 pub enum Role {
     Private,

@@ -37,8 +37,8 @@ fn is_taken(name: &str) -> bool
     name == "cwl.output.json" || name == "_stdout" || name == "_stderr"
 }
 
-/// Whether the text may name an output file: letters, digits, `.`, `_` and `-`, with a letter or a digit among them, and
-/// none of the three names that the job's directory has for other things.
+/// Whether the text may name an output file: letters, digits, `.`, `_` and `-`, with a letter or a
+/// digit among them, and none of the three names that the job's directory has for other things.
 fn is_file_name(name: &str) -> bool
     ensures { result ≡ spec.is_file_name name.now }
 {

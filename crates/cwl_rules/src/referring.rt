@@ -30,7 +30,8 @@ pub fn is_call_output(e: &TExpr) -> bool
     }
 }
 
-/// Whether the expression is an input, a scatter item or `call.output`, casts aside: no name that the body declares.
+/// Whether the expression is an input, a scatter item or `call.output`, casts aside: no name that
+/// the body declares.
 pub fn is_source(e: &TExpr, declared: &Words) -> bool
     ensures { result ≡ spec.is_source declared.now (image.reference e.now) }
 {

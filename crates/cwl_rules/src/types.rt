@@ -43,8 +43,8 @@ pub fn is_scalar(t: &Ty) -> bool
     matches!(t, Ty::Bool | Ty::Int | Ty::Str | Ty::File)
 }
 
-/// Whether a cast from the first type to the second makes T to `T?` and `Array[T]+` to `Array[T]` alone, also inside
-/// arrays and optionals. It takes no memory.
+/// Whether a cast from the first type to the second makes T to `T?` and `Array[T]+` to `Array[T]`
+/// alone, also inside arrays and optionals. It takes no memory.
 #[tactic(auto, using(crate::proofs::WidensOut::widens_steps))]
 pub fn widens(t: &Ty, u: &Ty) -> bool
     ensures { result ≡ spec.widens t.now u.now }

@@ -2,6 +2,7 @@
 use Rattle.std.proofs.Common.{◌≡◌, ℕ, ◌<◌, ◌&&◌, Bool, true, false, nat_lt, cond, IsSome, List, [], ◌∷◌, ◌++◌, Option, Some, None, ap, sym, ◌∙◌, subst, refl, arith}
 use Rattle.std.proofs.lemmas.Bool.{eq-eqb, ltb-false, ltb-true, ne_eqb}
 use Rattle.std.specs.List.{Any}
+use Rattle.std.proofs.lemmas.Option.{same_Some}
 use Rattle.wdl_base.specs.declared.span.Span.{Span}
 use Rattle.cwl_image.specs.declared.broken.Broken.{Broken}
 use Rattle.cwl_image.specs.Subset.{broken_in, is_empty, places_of}
@@ -11,6 +12,7 @@ use Rattle.cwl_image.specs.Kept.{is_kept}
 use Rattle.cwl_image.specs.Named.{names_are_names}
 use Rattle.cwl_subset.specs.declared.subset.SubsetFault.TheVariants.{NotInSubset}
 use Rattle.cwl_subset.specs.Refusals.{IsLowest, Refuses, lowest_in}
+use Rattle.wdl_base.proofs.Options.{some_none}
 
 abbrev chosen : Bool → Span → List Span → List Span
 chosen t s rest = cond t (s ∷ []) [] ++ rest
@@ -26,12 +28,6 @@ at_other n x bs below =
 -- the first of the broken rules, and the lowest of the others
 Leads : Broken → List Broken → Option Broken → Type 0
 Leads x bs o = (b : Broken) → lower (Some x) o ≡ Some b → IsLowest b (x ∷ bs)
-
-same_some : {A : Type 0} (a b : A) → Some a ≡ Some b → a ≡ b
-same_some a b e = cc
-
-not_some : {A : Type 0} (a : A) → Some a ≡ None → ⊥
-not_some a e = cc
 
 first_lowest : (x : Broken) (bs : List Broken) → ((n : ℕ) → n < x.rule → places_of n bs ≡ []) → IsLowest x (x ∷ bs)
 first_lowest x bs rest = (
@@ -51,30 +47,30 @@ none_broken [] e = refl
 none_broken (x ∷ bs) e = absurd (some_lower (lowest bs) e)
   where
     tested : (c : Broken) (t : Bool) → cond t (Some c) (Some x) ≡ None → ⊥
-    tested c true h = not_some c h
-    tested c false h = not_some x h
+    tested c true h = some_none c h
+    tested c false h = some_none x h
 
     some_lower : (o : Option Broken) → lower (Some x) o ≡ None → ⊥
-    some_lower None h = not_some x h
+    some_lower None h = some_none x h
     some_lower (Some c) h = tested c (nat_lt c.rule x.rule) h
 
 no_places : (n : ℕ) (bs : List Broken) → bs ≡ [] → places_of n bs ≡ []
 no_places n bs e = ap (places_of n) e
 
 pub some_broken : (bs : List Broken) (b : Broken) → lowest bs ≡ Some b → IsLowest b bs
-some_broken [] b e = absurd (not_some b (sym e))
+some_broken [] b e = absurd (some_none b (sym e))
 some_broken (x ∷ bs) b e = by_rest (lowest bs) refl (some_broken bs) e
   where
     by_test : (c : Broken) (t : Bool) → nat_lt c.rule x.rule ≡ t → IsLowest c bs → cond t (Some c) (Some x) ≡ Some b → IsLowest b (x ∷ bs)
-    by_test c true is l h = subst (λ z. IsLowest z (x ∷ bs)) (same_some c b h) (later_lowest x c bs (ltb-true c.rule x.rule is) l)
+    by_test c true is l h = subst (λ z. IsLowest z (x ∷ bs)) (same_Some c b h) (later_lowest x c bs (ltb-true c.rule x.rule is) l)
     by_test c false is l h =
         let above = ltb-false c.rule x.rule is in
-        subst (λ z. IsLowest z (x ∷ bs)) (same_some x b h)
+        subst (λ z. IsLowest z (x ∷ bs)) (same_Some x b h)
         (first_lowest x bs (λ n below. l.1 n (let k : n < c.rule = omega (above, below, arith) in k)))
 
     by_rest : (o : Option Broken) → lowest bs ≡ o → ((c : Broken) → lowest bs ≡ Some c → IsLowest c bs) → lower (Some x) o ≡ Some b → IsLowest b (x ∷ bs)
     by_rest None is ih h =
-        subst (λ z. IsLowest z (x ∷ bs)) (same_some x b h) (first_lowest x bs (λ n below. no_places n bs (none_broken bs is)))
+        subst (λ z. IsLowest z (x ∷ bs)) (same_Some x b h) (first_lowest x bs (λ n below. no_places n bs (none_broken bs is)))
     by_rest (Some c) is ih h = by_test c (nat_lt c.rule x.rule) refl (ih c is) h
 
 -- ---- checked forms

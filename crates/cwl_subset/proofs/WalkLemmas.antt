@@ -1,6 +1,7 @@
 -- What statements give out and break, one after another, and what blocks do.
 use Rattle.std.proofs.Common.{◌≡◌, ℕ, Bool, List, [], ◌∷◌, ◌++◌, Option, Some, None, option_and_then, take, length, sym, ap, ◌∙◌, append_assoc, append-nil}
 use Rattle.std.proofs.Math.Seq.{take-append_seam}
+use Rattle.std.proofs.lemmas.Option.{same_Some}
 use Rattle.wdl_base.specs.declared.span.Span.{Span}
 use Rattle.wdl_value.specs.declared.ty.Ty.{Ty, Ty-F, out-Ty}
 use Rattle.wdl_value.specs.declared.ty.Ty.TheOpen as type
@@ -15,6 +16,7 @@ use Rattle.cwl_subset.specs.declared.walk.Walked.{Walked as Kept}
 use Rattle.cwl_rules.specs.Lowest.{lower, lowest}
 use Rattle.cwl_subset.specs.Walks.{conditional, if_walk, items_at, items_of, joined, none, scatter_walk, scattered, summed}
 use Rattle.cwl_rules.proofs.LowestLemmas.{lower_assoc, lower_none, lowest_append}
+use Rattle.wdl_base.proofs.Options.{some_none}
 
 abbrev kept : List Bound → Option Broken → Kept
 kept given broken = record { given = given; broken = broken }
@@ -59,31 +61,25 @@ names_kept start given names count is n =
 after_head : (head : List Broken) (w : Walked) → summed (after_block head w) ≡ kept w.given (lower (lowest head) (lowest w.broken))
 after_head head w = ap (kept w.given) (lowest_append head w.broken)
 
-not_some : {A : Type 0} (a : A) → Some a ≡ None → ⊥
-not_some a e = cc
-
-same_some : {A : Type 0} (a b : A) → Some a ≡ Some b → a ≡ b
-same_some a b e = cc
-
 scatter_head : (head : List Broken) (item : List ℕ) (body : Walk) (names : List Bound) (o : Option Ty) → option_and_then (λ t. items_at (out-Ty t)) o ≡ None
     → summed (after_block head (scatter_over item body names o)) ≡ kept [] (lowest head)
 scatter_head head item body names None e = after_head head nothing ∙ ap (kept []) (lower_none (lowest head))
 scatter_head head item body names (Some t) e = by_layer (out-Ty t) e
   where
     by_layer : (y : Ty-F Ty) → items_at y ≡ None → summed (after_block head (scatter_at item body names y)) ≡ kept [] (lowest head)
-    by_layer (type.Array u some) h = absurd (not_some (u, some) h)
+    by_layer (type.Array u some) h = absurd (some_none (u, some) h)
     by_layer y h = after_head head nothing ∙ ap (kept []) (lower_none (lowest head))
 
 scatter_inside : (head : List Broken) (item : List ℕ) (body : Walk) (names : List Bound) (o : Option Ty) (t : Ty) (some : Bool) → option_and_then (λ u. items_at (out-Ty u)) o ≡ Some (t, some)
     → summed (after_block head (scatter_over item body names o)) ≡ scattered (lowest head) (summed (body (names ++ bound item t ∷ []))) some
-scatter_inside head item body names None t some e = absurd (not_some (t, some) (sym e))
+scatter_inside head item body names None t some e = absurd (some_none (t, some) (sym e))
 scatter_inside head item body names (Some v) t some e = by_layer (out-Ty v) e
   where
     by_layer : (y : Ty-F Ty) → items_at y ≡ Some (t, some) → summed (after_block head (scatter_at item body names y)) ≡ scattered (lowest head) (summed (body (names ++ bound item t ∷ []))) some
     by_layer (type.Array u also) h =
         after_head head (scatter_at item body names (type.Array u also))
-        ∙ ap (λ (p : Ty × Bool). scattered (lowest head) (summed (body (names ++ bound item p.0 ∷ []))) p.1) (same_some (u, also) (t, some) h)
-    by_layer y h = absurd (not_some (t, some) (sym h))
+        ∙ ap (λ (p : Ty × Bool). scattered (lowest head) (summed (body (names ++ bound item p.0 ∷ []))) p.1) (same_Some (u, also) (t, some) h)
+    by_layer y h = absurd (some_none (t, some) (sym h))
 
 pub scatter_none : (lib : Library) (declared : List (List ℕ)) (body : List Statement) (item : List ℕ) (over : TExpr) (span : Span) (names : List Bound) → items_of lib.structs names over ≡ None
     → summed (scatter_walk lib declared body item over span names) ≡ kept [] (lowest (block_broken lib.structs declared names over span))

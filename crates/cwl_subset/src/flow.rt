@@ -50,7 +50,8 @@ pub fn declared_by(alloc: Global, body: &[Statement]) -> Result<Words, NoMemory>
     Ok(words)
 }
 
-/// The lowest rule that the outputs of a workflow break, which see these names, what the body gives out, and each other.
+/// The lowest rule that the outputs of a workflow break, which see these names, what the body gives
+/// out, and each other.
 fn outputs_broken(
     alloc: Global,
     outputs: &[TDecl],

@@ -20,7 +20,8 @@ use wdl_value::{NoMemory, Span};
 /// Why a checked form is not in the subset.
 #[derive(Clone, Copy, Debug, PartialEq, Eq, Error)]
 pub enum SubsetFault {
-    /// The lowest of the rules 601 to 613 that is broken in what the main workflow reaches, and a place where it is.
+    /// The lowest of the rules 601 to 613 that is broken in what the main workflow reaches, and a
+    /// place where it is.
     #[error("rule {rule} of the CWL subset is broken")]
     NotInSubset { rule: u16, span: Span },
     #[error("out of memory")]
@@ -35,8 +36,8 @@ impl From<NoMemory> for SubsetFault {
     }
 }
 
-/// A checked form whose main workflow breaks no rule of the subset and reaches nothing that does (CWL v1.2 has a process
-/// for it). It keeps too that each of its names is one.
+/// A checked form whose main workflow breaks no rule of the subset and reaches nothing that does
+/// (CWL v1.2 has a process for it). It keeps too that each of its names is one.
 #[derive(Debug, Drop)]
 pub struct Subset {
     pub checked: Checked,
@@ -69,7 +70,8 @@ fn lowest_in(alloc: Global, checked: &Checked) -> Result<Option<Broken>, NoMemor
     Ok(entry(table.as_slice(), main as usize))
 }
 
-/// The checked form as one of the subset. It is refused as `NotInSubset` exactly where a rule is broken.
+/// The checked form as one of the subset. It is refused as `NotInSubset` exactly where a rule is
+/// broken.
 #[tactic(auto, using(crate::proofs::RuleLemmas::form_is_kept, crate::proofs::RuleLemmas::form_is_refused))]
 pub fn in_subset(alloc: Global, checked: Checked) -> Result<Subset, SubsetFault>
     requires main { IsSome checked.main }

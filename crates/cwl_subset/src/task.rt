@@ -131,7 +131,8 @@ fn run_allowed(
     )
 }
 
-/// Whether the statuses of success are absent, any, 0, or a list of at most 256 numbers with 0 among them.
+/// Whether the statuses of success are absent, any, 0, or a list of at most 256 numbers with 0
+/// among them.
 fn are_codes(codes: &TCodes) -> bool
     ensures { result ≡ subset.are_codes codes.now }
 {

@@ -265,7 +265,8 @@ fn statement_walk(
     }
 }
 
-/// A scatter's item is seen in its body alone. Outside a name is an array, with `+` where the collection has it.
+/// A scatter's item is seen in its body alone. Outside a name is an array, with `+` where the
+/// collection has it.
 #[tactic(auto, using(crate::proofs::WalkLemmas::scatter_none, crate::proofs::WalkLemmas::scatter_some))]
 #[cycle(walk)]
 fn scatter_walk(

@@ -1,5 +1,5 @@
-//! The argument of a tool: the command, with references to inputs in place of its placeholders (CWL v1.2, "Parameter
-//! references").
+//! The argument of a tool: the command, with references to inputs in place of its placeholders (CWL
+//! v1.2, "Parameter references").
 
 ghost use Rattle.std.specs.Prelude.{◌≡◌, ◌++◌, List, [], IfOk, OnOk};
 ghost use Rattle.std.specs.Option.{option_copied};
@@ -45,7 +45,8 @@ fn close(chars: Text, pieces: &mut Items<Piece>) -> Result<(), NoMemory>
     Ok(())
 }
 
-/// Adds a part behind pieces and the characters at their end, and gives the characters that are then at the end.
+/// Adds a part behind pieces and the characters at their end, and gives the characters that are
+/// then at the end.
 fn add_part(
     alloc: Global,
     inputs: &[CwlIn],

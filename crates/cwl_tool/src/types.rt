@@ -5,7 +5,8 @@ use cwl_model::CwlTy;
 use std::alloc::Global;
 use wdl_value::{Boxed, NoMemory, Ty};
 
-/// The CWL type of a type: `long` for Int, an array with or without `+` for an array, a type or `null` for an optional one.
+/// The CWL type of a type: `long` for Int, an array with or without `+` for an array, a type or
+/// `null` for an optional one.
 pub fn cwl_type(alloc: Global, ty: &Ty) -> Result<CwlTy, NoMemory>
     ensures { IfOk result (λ t. t ≡ type_of ty.now) }
 {

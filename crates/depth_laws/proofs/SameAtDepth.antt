@@ -17,8 +17,9 @@ use Rattle.wdl_typed.specs.Kept.{flow_names, flow_typed, inputs_seen, is_checked
 use Rattle.wdl_typed.specs.Lists.{are_distinct}
 use Rattle.wdl_typed.specs.Requests.{Tried}
 use Rattle.flow_laws.specs.Laws.{run_with}
-use Rattle.flow_laws.proofs.Checked.{each_passes, kept}
+use Rattle.flow_laws.proofs.Checked.{kept}
 use Rattle.depth_laws.specs.Laws.{DepthsAgree, WholeIsDeepest}
+use Rattle.wdl_base.proofs.Options.{all_at}
 
 module _ (r : Run) where
   -- what a statement gives, where workflows that it calls are taken to a depth
@@ -128,7 +129,7 @@ body_kept lib f h =
     (and_parts names (body_nests lib.flows 24 f.body) b.0).1
 
 bodies_kept : (lib : Library) (main : Option ℕ) → is_checked lib main ≡ true → (k : ℕ) (f : FlowDef) → slice_get lib.flows k ≡ Some f → body_nests lib.flows 24 f.body ≡ true
-bodies_kept lib main h k f e = body_kept lib f (each_passes (flow_typed lib) lib.flows k f (kept lib main h).flows e)
+bodies_kept lib main h k f e = body_kept lib f (all_at (flow_typed lib) lib.flows k f (kept lib main h).flows e)
 
 pub depths_agree : DepthsAgree
 depths_agree lib main h site table zero n k given place a b = absurd (omega (arith, a))

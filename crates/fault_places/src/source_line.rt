@@ -73,7 +73,8 @@ struct Shown<'a> {
 }
 
 impl<'a> Shown<'a> {
-    /// What is shown of a line in these pieces. Where its span is cut, nothing behind that is shown.
+    /// What is shown of a line in these pieces. Where its span is cut, nothing behind that is
+    /// shown.
     fn new(before: &'a str, marked: &'a str, behind: &'a str) -> Shown<'a> {
         let (cut_before, before) = cut_front(before);
         let (marked, cut_marked) = cut_back(marked, MOST_SHOWN);

@@ -27,11 +27,11 @@ use Rattle.flow_laws.proofs.Under.{CallsStay, Gives, Under, ended_stays, giving_
 
 -- ---- what the items give
 
-gathered_keys : (fs : List Flowing) (ks : List Key) → keys_of (map (gathered_name fs) ks) ≡ ks
+pub gathered_keys : (fs : List Flowing) (ks : List Key) → keys_of (map (gathered_name fs) ks) ≡ ks
 gathered_keys fs [] = refl
 gathered_keys fs (k ∷ ks) = ap (λ z. k ∷ z) (gathered_keys fs ks)
 
-gathered_calls : (fs : List Flowing) (cs : List (List ℕ)) → calls_of (map (gathered_call fs) cs) ≡ cs
+pub gathered_calls : (fs : List Flowing) (cs : List (List ℕ)) → calls_of (map (gathered_call fs) cs) ≡ cs
 gathered_calls fs [] = refl
 gathered_calls fs (c ∷ cs) = ap (λ z. c ∷ z) (gathered_calls fs cs)
 

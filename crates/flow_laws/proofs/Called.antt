@@ -71,7 +71,7 @@ module _ (lib : Library) (site : List ℕ) (n : Names) (place : List Segment) (c
 
 -- ---- calls of workflows
 
-flow_keys : (call : List ℕ) (names : List Known) (ds : List TDecl) → keys_of (map (output_of names call) ds) ≡ output_keys call ds
+pub flow_keys : (call : List ℕ) (names : List Known) (ds : List TDecl) → keys_of (map (output_of names call) ds) ≡ output_keys call ds
 flow_keys call names [] = refl
 flow_keys call names (d ∷ ds) = ap (λ (ks : List Key). record { first = call; second = Some d.name } ∷ ks) (flow_keys call names ds)
 

@@ -1,5 +1,5 @@
 -- What a checked form keeps, flow by flow.
-use Rattle.std.proofs.Common.{◌≡◌, ℕ, zero, suc, ◌^◌, Bool, true, false, not, ◌&&◌, List, [], ◌∷◌, ◌++◌, nat_lt, Option, Some, None, option_and_then, slice_get, sym, ap, ◌∙◌, refl}
+use Rattle.std.proofs.Common.{◌≡◌, ℕ, ◌^◌, true, false, not, ◌&&◌, List, [], ◌∷◌, ◌++◌, nat_lt, Option, Some, None, option_and_then, slice_get, sym, ap, ◌∙◌, refl}
 use Rattle.std.specs.List.{list_all}
 use Rattle.std.proofs.lemmas.Bool.{and_from, and_parts, not-true, not_from_false, or_from, or_parts}
 use Rattle.std.specs.Str.{bytes_eq}
@@ -13,13 +13,9 @@ use Rattle.wdl_typed.specs.Declarations.{decl_names, input_names, inputs_typed, 
 use Rattle.wdl_typed.specs.KnownTypes.{are_structs}
 use Rattle.wdl_typed.specs.Kept.{count, flow_names, flow_typed, inputs_seen, is_checked, main_is_there, outputs_typed}
 use Rattle.wdl_typed.specs.Lists.{are_distinct, has_name}
+use Rattle.wdl_base.proofs.Options.{all_at}
 
 -- ---- lists
-
-pub each_passes : {A : Type 0} (test : A → Bool) (xs : List A) (k : ℕ) (x : A) → list_all test xs ≡ true → slice_get xs k ≡ Some x → test x ≡ true
-each_passes test [] k x h e = cc
-each_passes test (y ∷ xs) zero x h e = let same : y ≡ x = cc in ap test (sym same) ∙ (and_parts (test y) (list_all test xs) h).0
-each_passes test (y ∷ xs) (suc k) x h e = each_passes test xs k x (and_parts (test y) (list_all test xs) h).1 e
 
 -- ---- names
 
@@ -70,7 +66,7 @@ flow_kept lib f h =
     record { distinct = e.0; items = e.1; numbered = d.1 }
 
 pub flow_at_kept : (lib : Library) → IsKept lib → (k : ℕ) (f : FlowDef) → slice_get lib.flows k ≡ Some f → IsFlow f
-flow_at_kept lib h k f e = flow_kept lib f (each_passes (flow_typed lib) lib.flows k f h.flows e)
+flow_at_kept lib h k f e = flow_kept lib f (all_at (flow_typed lib) lib.flows k f h.flows e)
 
 -- ---- the outputs of a target
 
@@ -97,7 +93,7 @@ outputs_differ lib h (target.Task k) s e = of_task (slice_get lib.tasks k) refl 
     of_task None g i = cc
     of_task (Some t) g i =
         let same : task_signature t ≡ s = cc in
-        ap (λ (x : Signature). are_distinct (decl_names x.outputs)) (sym same) ∙ task_outputs lib.structs t (each_passes (task_typed lib.structs) lib.tasks k t h.tasks g)
+        ap (λ (x : Signature). are_distinct (decl_names x.outputs)) (sym same) ∙ task_outputs lib.structs t (all_at (task_typed lib.structs) lib.tasks k t h.tasks g)
 outputs_differ lib h (target.Flow k) s e = of_flow (slice_get lib.flows k) refl e
   where
     of_flow : (o : Option FlowDef) → slice_get lib.flows k ≡ o → option_and_then (λ f. Some (flow_signature f)) o ≡ Some s → are_distinct (decl_names s.outputs) ≡ true

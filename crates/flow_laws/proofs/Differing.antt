@@ -27,7 +27,7 @@ pub record Differing (p hs : List Segment) (j : List Request) (w : List (List Se
 differing_none : (p hs : List Segment) → Differing p hs [] []
 differing_none p hs = record { places = λ x c. absurd (none_within x c); differ = refl }
 
-first_segment : (p : List Segment) (h g : Segment) (r s : List Segment) → p ++ h ∷ r ≡ p ++ g ∷ s → h ≡ g
+pub first_segment : (p : List Segment) (h g : Segment) (r s : List Segment) → p ++ h ∷ r ≡ p ++ g ∷ s → h ≡ g
 first_segment p h g r s e = let f : h ∷ r ≡ g ∷ s = append_cancel_left p (h ∷ r) (g ∷ s) e in cc
 
 differing_both : (p hs gs : List Segment) (j k : List Request) (w v : List (List Segment)) → Apart hs gs → Differing p hs j w → Differing p gs k v → Differing p (hs ++ gs) (j ++ k) (w ++ v)

@@ -43,7 +43,7 @@ abbrev Once : {A : Type 0} → List A → Type 0
 Once [] = Unit {0}
 Once (x ∷ xs) = (Contains xs x → ⊥) × Once xs
 
-split_at : {A : Type 0} (xs : List A) (x : A) → Contains xs x → (as_ : List A) × (bs : List A) × (xs ≡ as_ ++ x ∷ bs)
+pub split_at : {A : Type 0} (xs : List A) (x : A) → Contains xs x → (as_ : List A) × (bs : List A) × (xs ≡ as_ ++ x ∷ bs)
 split_at [] x c = absurd (none_within x c)
 split_at (y ∷ xs) x c = by_case (split_at xs x) (first_or_later y xs x c)
   where

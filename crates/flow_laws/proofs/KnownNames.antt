@@ -49,7 +49,7 @@ names_stay_both (k ∷ ks) (l ∷ ls) ms ns h j = (h.0, names_stay_both ks ls ms
 found_first : (k : Known) (x : Value) (ks : List Known) (key : Key) → k.value ≡ Some x → same_key k.key key ≡ true → lookup (bound_by k.key k.value ++ env_of ks) key ≡ Some x
 found_first k x ks key e h = subst (λ o. lookup (bound_by k.key o ++ env_of ks) key ≡ Some x) (sym e) (ap (λ b. cond b (Some x) (lookup (env_of ks) key)) h)
 
-passed_over : (k : Key) (o : Option Value) (ks : List Known) (key : Key) → same_key k key ≡ false → lookup (bound_by k o ++ env_of ks) key ≡ lookup (env_of ks) key
+pub passed_over : (k : Key) (o : Option Value) (ks : List Known) (key : Key) → same_key k key ≡ false → lookup (bound_by k o ++ env_of ks) key ≡ lookup (env_of ks) key
 passed_over k None ks key h = refl
 passed_over k (Some x) ks key h = ap (λ b. cond b (Some x) (lookup (env_of ks) key)) h
 

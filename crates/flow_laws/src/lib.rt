@@ -1,4 +1,5 @@
-//! Laws of flows (OpenWDL 1.1, "Workflow Definition"): what stays true as answers come, whatever their order.
+//! Laws of flows (OpenWDL 1.1, "Workflow Definition"): what stays true as answers come, whatever
+//! their order.
 #![tactic(auto)]
 
 mod laws;

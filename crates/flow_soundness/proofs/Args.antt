@@ -22,19 +22,17 @@ use Rattle.wdl_typed.specs.Flow.{Known, all_known, arg_bind, args_known, args_me
 use Rattle.wdl_typed.specs.Journal.{is_given}
 use Rattle.wdl_typed.specs.KnownTypes.{is_some}
 use Rattle.wdl_typed.specs.Lists.{has_name}
-use Rattle.wdl_typed.specs.Requests.{Tried, before, tried}
+use Rattle.wdl_typed.specs.Requests.{before, tried}
 use Rattle.wdl_typed.specs.Scope.{is_among, lookup, same_key, type_in}
 use Rattle.wdl_task.specs.Readiness.{are_given, is_for}
 use Rattle.flow_soundness.specs.Readiness.{Agrees, AreArgsReady, FitsSome}
-use Rattle.flow_soundness.proofs.Fitting.{decl_ready, is_type-some, value_fits}
+use Rattle.flow_soundness.proofs.Fitting.{decl_ready, value_fits}
 use Rattle.wdl_flow.proofs.MarkLemmas.{same_key-true}
 use Rattle.flow_soundness.proofs.NewNames.{among_type, keys_of}
+use Rattle.flow_soundness.proofs.Fitting.{is_type-some}
+use Rattle.wdl_task.proofs.TaskLaws.{tried_in as tried_ok}
 
 -- ---- outcomes
-
-pub tried_ok : {A B : Type 0} (o : Tried A) (f : A → Tried B) (b : B) → tried o f ≡ Ok b → (a : A) × (o ≡ Ok a) × (f a ≡ Ok b)
-tried_ok (Ok a) f b h = (a, refl, h)
-tried_ok (Err e) f b h = absurd (cc)
 
 named_ok : (name : List ℕ) (o : Outcome Value) (x : Value) → named_arg name o ≡ Ok x → o ≡ Ok x
 named_ok name (Ok y) x h = let same : y ≡ x = cc in ap (λ z. Ok z) same
@@ -59,7 +57,7 @@ met_parts env a as_ binds h =
 same_names : (a b : List ℕ) → bytes_eq a b ≡ true → bytes_eq b a ≡ true
 same_names a b h = (bytes_eq-Decides b a).1 (sym ((bytes_eq-Decides a b).0 h))
 
-differ : (a b : List ℕ) → bytes_eq a b ≡ false → bytes_eq b a ≡ false
+pub differ : (a b : List ℕ) → bytes_eq a b ≡ false → bytes_eq b a ≡ false
 differ a b h = by_test (bytes_eq b a) refl
   where
     by_test : (t : Bool) → bytes_eq b a ≡ t → bytes_eq b a ≡ false

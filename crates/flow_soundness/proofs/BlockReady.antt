@@ -26,9 +26,9 @@ use Rattle.wdl_names.specs.Fresh.{fresh}
 use Rattle.flow_soundness.specs.Readiness.{AreItemsReady, IsBodyReady, IsDeclReady, IsNew, IsStatementReady, are_among}
 use Rattle.flow_soundness.proofs.Fitting.{agrees_both, agrees_one, decl_ready, value_fits}
 use Rattle.flow_soundness.proofs.FlowSound.{not_true, one_apart}
-use Rattle.flow_soundness.proofs.GivenKeys.{some_inside}
 use Rattle.flow_soundness.proofs.Newness.{new_inside}
 use Rattle.flow_soundness.proofs.Ready.{statement_nested, statement_typed}
+use Rattle.wdl_base.proofs.Options.{then_parts}
 
 -- ---- what a block declares
 
@@ -48,7 +48,7 @@ block_new all taken seen st y e n =
       items_new = sym (ap (λ (d : Differing). d all) items) ∙ (and_parts (fold-Statement Differing items_step st all) true n.items_new).0;
     }
 
-none_new : (all taken : List (List ℕ)) (seen : Seen) (ss : List Statement) → IsNew all taken seen ss → IsNew all taken seen []
+pub none_new : (all taken : List (List ℕ)) (seen : Seen) (ss : List Statement) → IsNew all taken seen ss → IsNew all taken seen []
 none_new all taken seen ss n = record {
   seen_taken = n.seen_taken;
   taken_all = n.taken_all;
@@ -70,12 +70,12 @@ record ScatterTyped (lib : Library) (c : TScatter Statement) (seen : Seen) : Typ
 scatter_typed : (lib : Library) (levels : ℕ) (c : TScatter Statement) (s : Sight) (b : IsStatementReady lib levels (stmt.Scatter c) s) → ScatterTyped lib c b.seen
 scatter_typed lib levels c s b =
     let h = statement_typed lib levels (stmt.Scatter c) s b (layer.Scatter c) (stmt.outs-Scatter c) in
-    let p = some_inside (in_body lib.structs b.seen.names c.over) (λ t. scatter_over c.item (body_gives lib c.body) b.seen (out-Ty t)) h.0 h.1 in
+    let p = then_parts (λ t. scatter_over c.item (body_gives lib c.body) b.seen (out-Ty t)) (in_body lib.structs b.seen.names c.over) h.0 h.1 in
     by_type p.0 p.1 (out-Ty p.0) refl h.0 p.2
   where
     by_type : (t : Ty) → in_body lib.structs b.seen.names c.over ≡ Some t → (z : Ty-F Ty) → out-Ty t ≡ z → (g : Seen) → scatter_over c.item (body_gives lib c.body) b.seen z ≡ Some g → ScatterTyped lib c b.seen
     by_type t typed (type.Array u some) e g h =
-        let q = some_inside (body_gives lib c.body (with_item b.seen c.item u)) (λ i. Some (retyped (λ w. ty.Array w some) i)) g h in
+        let q = then_parts (λ i. Some (retyped (λ w. ty.Array w some) i)) (body_gives lib c.body (with_item b.seen c.item u)) g h in
         let array : t ≡ ty.Array u some = sym (roll-out-Ty t) ∙ ap roll-Ty e ∙ ty.rolls-Array u some in
         record { item = u; some = some; given = q.0; over = typed ∙ ap (λ z. Some z) array; body = q.1 }
     by_type t typed z e g h = absurd (cc)
@@ -132,13 +132,13 @@ record IfTyped (lib : Library) (c : TIf Statement) (seen : Seen) : Type 0 where
 if_typed : (lib : Library) (levels : ℕ) (c : TIf Statement) (s : Sight) (b : IsStatementReady lib levels (stmt.If c) s) → IfTyped lib c b.seen
 if_typed lib levels c s b =
     let h = statement_typed lib levels (stmt.If c) s b (layer.If c) (stmt.outs-If c) in
-    let p = some_inside (in_body lib.structs b.seen.names c.cond) (if_over (body_gives lib c.body) b.seen) h.0 h.1 in
+    let p = then_parts (if_over (body_gives lib c.body) b.seen) (in_body lib.structs b.seen.names c.cond) h.0 h.1 in
     by_test p.0 p.1 (is_bool p.0) h.0 p.2
   where
     by_test : (t : Ty) → in_body lib.structs b.seen.names c.cond ≡ Some t → (bool : Bool) → (g : Seen)
         → chosen_of bool (option_and_then (λ i. Some (retyped optional i)) (body_gives lib c.body b.seen)) None ≡ Some g → IfTyped lib c b.seen
     by_test t typed true g h =
-        let q = some_inside (body_gives lib c.body b.seen) (λ i. Some (retyped optional i)) g h in
+        let q = then_parts (λ i. Some (retyped optional i)) (body_gives lib c.body b.seen) g h in
         record { ty = t; given = q.0; cond = typed; body = q.1 }
     by_test t typed false g h = absurd (cc)
 

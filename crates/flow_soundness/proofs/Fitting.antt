@@ -3,7 +3,6 @@ use Rattle.std.proofs.Common.{◌≡◌, ℕ, Bool, true, false, cond, ◌||◌,
 use Rattle.std.specs.List.{list_all}
 use Rattle.std.proofs.lemmas.Bool.{false≢true, and_parts}
 use Rattle.wdl_base.specs.declared.name.Key.{Key}
-use Rattle.wdl_value.specs.declared.env.Bind.{Bind}
 use Rattle.wdl_value.specs.declared.ty.Ty.{Ty}
 use Rattle.wdl_value.specs.declared.value.Value.{Value}
 use Rattle.wdl_value.specs.Fits.{Structs, fits}
@@ -23,6 +22,7 @@ use Rattle.wdl_eval.specs.Ready.{FitsNames, IsGiven}
 use Rattle.wdl_eval.proofs.Sound.{values_are_sound}
 use Rattle.flow_soundness.specs.Readiness.{Agrees, FitsSome, IsDeclReady}
 use Rattle.wdl_flow.proofs.MarkLemmas.{same_key-true}
+use Rattle.wdl_task.proofs.Fit.{type_kept as type_front, value_kept as lookup_front, value_later as lookup_back, type_later as type_back}
 
 -- ---- lists of names
 
@@ -43,40 +43,6 @@ some_of None h = absurd (false≢true h)
 pub is_type-some : (o : Option Ty) (t : Ty) → is_type o t ≡ true → o ≡ Some t
 is_type-some (Some u) t h = ap (λ z. Some z) (same_type-true u t h)
 is_type-some None t h = absurd (false≢true h)
-
--- ---- looking up in longer lists
-
-pub lookup_front : (env more : List Bind) (key : Key) (x : Value) → lookup env key ≡ Some x → lookup (env ++ more) key ≡ Some x
-lookup_front [] more key x h = absurd (cc)
-lookup_front (b ∷ bs) more key x h = by_test (same_key b.key key) h (lookup_front bs more key x)
-  where
-    by_test : (s : Bool) → cond s (Some b.value) (lookup bs key) ≡ Some x → (lookup bs key ≡ Some x → lookup (bs ++ more) key ≡ Some x) → cond s (Some b.value) (lookup (bs ++ more) key) ≡ Some x
-    by_test true h rest = h
-    by_test false h rest = rest h
-
-pub lookup_back : (env more : List Bind) (key : Key) → lookup env key ≡ None → lookup (env ++ more) key ≡ lookup more key
-lookup_back [] more key h = refl
-lookup_back (b ∷ bs) more key h = by_test (same_key b.key key) h (lookup_back bs more key)
-  where
-    by_test : (s : Bool) → cond s (Some b.value) (lookup bs key) ≡ None → (lookup bs key ≡ None → lookup (bs ++ more) key ≡ lookup more key) → cond s (Some b.value) (lookup (bs ++ more) key) ≡ lookup more key
-    by_test true h rest = absurd (cc)
-    by_test false h rest = rest h
-
-pub type_front : (names more : List Bound) (key : Key) (t : Ty) → type_in names key ≡ Some t → type_in (names ++ more) key ≡ Some t
-type_front [] more key t h = absurd (cc)
-type_front (b ∷ bs) more key t h = by_test (same_key b.key key) h (type_front bs more key t)
-  where
-    by_test : (s : Bool) → cond s (Some b.ty) (type_in bs key) ≡ Some t → (type_in bs key ≡ Some t → type_in (bs ++ more) key ≡ Some t) → cond s (Some b.ty) (type_in (bs ++ more) key) ≡ Some t
-    by_test true h rest = h
-    by_test false h rest = rest h
-
-pub type_back : (names more : List Bound) (key : Key) → type_in names key ≡ None → type_in (names ++ more) key ≡ type_in more key
-type_back [] more key h = refl
-type_back (b ∷ bs) more key h = by_test (same_key b.key key) h (type_back bs more key)
-  where
-    by_test : (s : Bool) → cond s (Some b.ty) (type_in bs key) ≡ None → (type_in bs key ≡ None → type_in (bs ++ more) key ≡ type_in more key) → cond s (Some b.ty) (type_in (bs ++ more) key) ≡ type_in more key
-    by_test true h rest = absurd (cc)
-    by_test false h rest = rest h
 
 pub env_both : (ks ls : List Known) → env_of (ks ++ ls) ≡ env_of ks ++ env_of ls
 env_both [] ls = refl

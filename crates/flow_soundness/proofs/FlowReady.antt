@@ -24,9 +24,10 @@ use Rattle.wdl_value.specs.Limits.{is_within}
 use Rattle.wdl_names.specs.Fresh.{fresh}
 use Rattle.wdl_task.specs.Readiness.{are_given, is_for}
 use Rattle.flow_soundness.specs.Readiness.{Agrees, AreDeclsReady, AreInputsReady, IsBodyReady, IsDefaultReady, IsFlowReady}
-use Rattle.flow_soundness.proofs.Fitting.{agrees_both, decl_ready, declaration_agrees, is_type-some}
+use Rattle.flow_soundness.proofs.Fitting.{agrees_both, decl_ready, declaration_agrees}
 use Rattle.flow_soundness.proofs.FlowSound.{Taken, Typed, all_taken, body_is_new, callees_sound, inputs_sound, input_agrees, is_typed, not_true, one_apart, one_taken, seen_sound}
-use Rattle.flow_soundness.proofs.Sound.{one_of_all}
+use Rattle.wdl_base.proofs.Options.{all_at}
+use Rattle.flow_soundness.proofs.Fitting.{is_type-some}
 
 -- ---- inputs and outputs
 
@@ -71,7 +72,7 @@ module _ (structs : Structs) where
 
 module _ (r : Run) (levels depth k : ℕ) (f : FlowDef) (given : List Bind) (place : List Segment) (b : IsFlowReady r.library levels k given) (there : slice_get r.library.flows k ≡ Some f) where
   abbrev t : Typed r.library f
-  t = is_typed r.library f (one_of_all (flow_typed r.library) r.library.flows k f b.library.flows there)
+  t = is_typed r.library f (all_at (flow_typed r.library) r.library.flows k f b.library.flows there)
 
   abbrev start : Sight
   start = beginning place

@@ -35,11 +35,14 @@ use Rattle.wdl_names.proofs.FreshLemmas.{fresh-append, fresh-distinct}
 use Rattle.wdl_task.specs.Readiness.{are_given, is_for}
 use Rattle.flow_soundness.specs.Readiness.{Agrees, FitsSome, IsLibrary, IsNew}
 use Rattle.flow_soundness.proofs.Args.{OutputsFit}
-use Rattle.flow_soundness.proofs.Fitting.{agrees_both, agrees_one, declaration_agrees, is_type-some, type_back}
+use Rattle.flow_soundness.proofs.Fitting.{agrees_both, agrees_one, declaration_agrees}
 use Rattle.flow_soundness.proofs.GivenKeys.{all_gives_keys}
 use Rattle.wdl_flow.proofs.MarkLemmas.{same_key-true}
 use Rattle.flow_soundness.proofs.NewNames.{all_keys_declared, fresh_apart, name_left, name_one, name_right, same_key-refl, type_among}
-use Rattle.flow_soundness.proofs.Sound.{CalleesSound, body_sound, one_of_all}
+use Rattle.flow_soundness.proofs.Sound.{CalleesSound, body_sound}
+use Rattle.wdl_base.proofs.Options.{all_at}
+use Rattle.flow_soundness.proofs.Fitting.{is_type-some}
+use Rattle.wdl_task.proofs.Fit.{type_later as type_back}
 
 -- ---- keys of declared names
 
@@ -357,6 +360,6 @@ module _ (lib : Library) (f : FlowDef) (t : Typed lib f) where
 pub callees_sound : (r : Run) → IsLibrary r.library → (depth : ℕ) → CalleesSound r.library (flow.flow r depth)
 callees_sound r kept zero k f given place there fit = λ name u x h g. absurd (cc)
 callees_sound r kept (suc depth) k f given place there fit =
-    let t = is_typed r.library f (one_of_all (flow_typed r.library) r.library.flows k f kept.flows there) in
+    let t = is_typed r.library f (all_at (flow_typed r.library) r.library.flows k f kept.flows there) in
     subst (λ (o : Option FlowDef). OutputsFit r.library.structs f.outputs (flow.flow_at r (flow.flow r depth) o given place).names) (sym there)
     (outputs_fit r.library f t r refl (flow.flow r depth) kept (callees_sound r kept depth) given fit place)

@@ -20,10 +20,7 @@ use Rattle.wdl_typed.specs.Declarations.{in_body}
 use Rattle.wdl_typed.specs.Flow.{Names, output_keys}
 use Rattle.wdl_flow.specs.Given.{all_names, flow_outputs, names_in, names_step, outputs_of, task_outputs}
 use Rattle.flow_soundness.proofs.NewNames.{keys_of}
-
-pub some_inside : {A B : Type 0} (o : Option A) (f : A → Option B) (b : B) → option_and_then f o ≡ Some b → (a : A) × (o ≡ Some a) × (f a ≡ Some b)
-some_inside (Some a) f b h = (a, refl, h)
-some_inside None f b h = absurd (cc)
+use Rattle.wdl_base.proofs.Options.{then_parts}
 
 pub when_some : {A : Type 0} (t : Bool) (a w : A) → (let o : Option A = cond t (Some a) None in o ≡ Some w) → (t ≡ true) × (a ≡ w)
 when_some true a w h = (refl, cc)
@@ -72,8 +69,8 @@ module _ (lib : Library) where
   list_keys : (ks : List Kept) (seen given : Seen) → body_step (map (gives lib) (firsts ks)) seen ≡ Some given → keys_of given.names ≡ (all_names lib.tasks lib.flows (firsts ks)).keys
   list_keys [] seen given h = let same : (let e : Seen = record { names = []; calls = [] } in e) ≡ given = cc in ap (λ (s : Seen). keys_of s.names) (sym same)
   list_keys (k ∷ ks) seen given h =
-      let p = some_inside (gives lib k.0 seen) (λ first. option_and_then (λ rest. Some (joined first rest)) (body_step (map (gives lib) (firsts ks)) (joined seen first))) given h in
-      let q = some_inside (body_step (map (gives lib) (firsts ks)) (joined seen p.0)) (λ rest. Some (joined p.0 rest)) given p.2 in
+      let p = then_parts (λ first. option_and_then (λ rest. Some (joined first rest)) (body_step (map (gives lib) (firsts ks)) (joined seen first))) (gives lib k.0 seen) given h in
+      let q = then_parts (λ rest. Some (joined p.0 rest)) (body_step (map (gives lib) (firsts ks)) (joined seen p.0)) given p.2 in
       let same : joined p.0 q.0 ≡ given = cc in
       ap (λ (s : Seen). keys_of s.names) (sym same)
       ∙ joined_keys p.0 q.0 (given_names k.0).keys (all_names lib.tasks lib.flows (firsts ks)).keys (k.1 seen p.0 p.1) (list_keys ks (joined seen p.0) q.0 q.1)
@@ -85,7 +82,7 @@ module _ (lib : Library) where
   scatter_keys : (item : List ℕ) (ks : List Kept) (seen given : Seen) (t : Ty-F Ty) → scatter_over item (body_step (map (gives lib) (firsts ks))) seen t ≡ Some given
       → keys_of given.names ≡ (all_names lib.tasks lib.flows (firsts ks)).keys
   scatter_keys item ks seen given (type.Array t some) h =
-      let p = some_inside (body_step (map (gives lib) (firsts ks)) (with_item seen item t)) (λ s. Some (retyped (λ u. ty.Array u some) s)) given h in
+      let p = then_parts (λ s. Some (retyped (λ u. ty.Array u some) s)) (body_step (map (gives lib) (firsts ks)) (with_item seen item t)) given h in
       block_keys (λ u. ty.Array u some) ks (with_item seen item t) given p.0 p.1 cc
   scatter_keys item ks seen given t h = absurd (cc)
 
@@ -96,7 +93,7 @@ module _ (lib : Library) where
       by_test : (b : Bool) → cond b (option_and_then (λ s. Some (retyped optional s)) (body_step (map (gives lib) (firsts ks)) seen)) None ≡ Some given
           → keys_of given.names ≡ (all_names lib.tasks lib.flows (firsts ks)).keys
       by_test true h =
-          let p = some_inside (body_step (map (gives lib) (firsts ks)) seen) (λ s. Some (retyped optional s)) given h in
+          let p = then_parts (λ s. Some (retyped optional s)) (body_step (map (gives lib) (firsts ks)) seen) given h in
           block_keys optional ks seen given p.0 p.1 cc
       by_test false h = absurd (cc)
 
@@ -105,14 +102,14 @@ module _ (lib : Library) where
   layer_keys (layer.Decl d) seen given h =
       let p = when_some _ _ given h in ap (λ (s : Seen). keys_of s.names) (sym p.1)
   layer_keys (layer.Call c) seen given h =
-      let p = some_inside (signature lib c.target) (call_by lib.structs c seen) given h in
+      let p = then_parts (call_by lib.structs c seen) (signature lib c.target) given h in
       let q = when_some _ _ given p.2 in
       ap (λ (s : Seen). keys_of s.names) (sym q.1) ∙ bound_keys c.name p.0.outputs ∙ ap (output_keys c.name) (sym (signature_outputs lib c.target p.0 p.1))
   layer_keys (layer.Scatter s) seen given h =
-      let p = some_inside (in_body lib.structs seen.names s.over) (λ t. scatter_over s.item (body_step (map (gives lib) (firsts s.body))) seen (out-Ty t)) given h in
+      let p = then_parts (λ t. scatter_over s.item (body_step (map (gives lib) (firsts s.body))) seen (out-Ty t)) (in_body lib.structs seen.names s.over) given h in
       scatter_keys s.item s.body seen given (out-Ty p.0) p.2
   layer_keys (layer.If i) seen given h =
-      let p = some_inside (in_body lib.structs seen.names i.cond) (if_over (body_step (map (gives lib) (firsts i.body))) seen) given h in
+      let p = then_parts (if_over (body_step (map (gives lib) (firsts i.body))) seen) (in_body lib.structs seen.names i.cond) given h in
       if_keys i.body seen given p.0 p.2
 
   pub gives_keys : (st : Statement) → Keys st
@@ -123,8 +120,8 @@ module _ (lib : Library) where
   pub all_gives_keys : (ss : List Statement) (seen given : Seen) → body_gives lib ss seen ≡ Some given → keys_of given.names ≡ (all_names lib.tasks lib.flows ss).keys
   all_gives_keys [] seen given h = let same : (let e : Seen = record { names = []; calls = [] } in e) ≡ given = cc in ap (λ (s : Seen). keys_of s.names) (sym same)
   all_gives_keys (st ∷ ss) seen given h =
-      let p = some_inside (gives lib st seen) (λ first. option_and_then (λ rest. Some (joined first rest)) (body_gives lib ss (joined seen first))) given h in
-      let q = some_inside (body_gives lib ss (joined seen p.0)) (λ rest. Some (joined p.0 rest)) given p.2 in
+      let p = then_parts (λ first. option_and_then (λ rest. Some (joined first rest)) (body_gives lib ss (joined seen first))) (gives lib st seen) given h in
+      let q = then_parts (λ rest. Some (joined p.0 rest)) (body_gives lib ss (joined seen p.0)) given p.2 in
       let same : joined p.0 q.0 ≡ given = cc in
       ap (λ (s : Seen). keys_of s.names) (sym same)
       ∙ joined_keys p.0 q.0 (given_names st).keys (all_names lib.tasks lib.flows ss).keys (gives_keys st seen p.0 p.1) (all_gives_keys ss (joined seen p.0) q.0 q.1)

@@ -13,10 +13,10 @@ use Rattle.wdl_typed.specs.Scope.{is_among, same_key, type_in}
 use Rattle.wdl_names.specs.Fresh.{fresh}
 use Rattle.wdl_names.proofs.FreshLemmas.{fresh-append}
 use Rattle.flow_soundness.specs.Readiness.{IsNew, are_among}
-use Rattle.flow_soundness.proofs.Fitting.{type_back}
 use Rattle.flow_soundness.proofs.GivenKeys.{gives_keys}
 use Rattle.wdl_flow.proofs.MarkLemmas.{same_key-true}
 use Rattle.flow_soundness.proofs.NewNames.{fresh_apart, keys_declared, name_left, name_right, type_among}
+use Rattle.wdl_task.proofs.Fit.{type_later as type_back}
 
 -- ---- names in two lists
 

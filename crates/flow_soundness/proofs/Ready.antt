@@ -23,11 +23,13 @@ use Rattle.wdl_task.specs.Readiness.{are_given}
 use Rattle.flow_soundness.specs.Readiness.{Agrees, AreArgsReady, IsBodyReady, IsCalleeReady, IsDeclReady, IsLibrary, IsStatementReady}
 use Rattle.flow_soundness.specs.StatementFlow.{statement_flow}
 use Rattle.flow_soundness.proofs.Args.{args_are_given, args_ready}
-use Rattle.flow_soundness.proofs.Fitting.{agrees_both, decl_ready, is_type-some}
+use Rattle.flow_soundness.proofs.Fitting.{agrees_both, decl_ready}
 use Rattle.flow_soundness.proofs.FlowSound.{callees_sound}
-use Rattle.flow_soundness.proofs.GivenKeys.{some_inside, when_some}
+use Rattle.flow_soundness.proofs.GivenKeys.{when_some}
 use Rattle.flow_soundness.proofs.Newness.{given_apart, head_new, tail_new}
-use Rattle.flow_soundness.proofs.Sound.{one_of_all, sound}
+use Rattle.flow_soundness.proofs.Sound.{sound}
+use Rattle.wdl_base.proofs.Options.{then_parts, all_at}
+use Rattle.flow_soundness.proofs.Fitting.{is_type-some}
 
 -- ---- one statement after the other
 
@@ -41,8 +43,8 @@ module _ (lib : Library) (levels : ℕ) (st : Statement) (ss : List Statement) (
 
   split : Split
   split =
-      let p = some_inside (gives lib st b.seen) (λ first. option_and_then (λ rest. Some (joined first rest)) (body_gives lib ss (joined b.seen first))) b.given b.typed in
-      let q = some_inside (body_gives lib ss (joined b.seen p.0)) (λ rest. Some (joined p.0 rest)) b.given p.2 in
+      let p = then_parts (λ first. option_and_then (λ rest. Some (joined first rest)) (body_gives lib ss (joined b.seen first))) (gives lib st b.seen) b.given b.typed in
+      let q = then_parts (λ rest. Some (joined p.0 rest)) (body_gives lib ss (joined b.seen p.0)) b.given p.2 in
       record { first = p.0; rest = q.0; here = p.1; there = q.1 }
 
   alone : (first : Seen) → gives lib st b.seen ≡ Some first
@@ -91,7 +93,7 @@ module _ (lib : Library) (levels : ℕ) (st : Statement) (ss : List Statement) (
 pub statement_typed : (lib : Library) (levels : ℕ) (st : Statement) (s : Sight) (b : IsStatementReady lib levels st s) (y : Statement-F Statement) → out-Statement st ≡ y
     → (g : Seen) × (statement_step lib (map-Statement Statement Giving (gives lib) y) b.seen ≡ Some g)
 statement_typed lib levels st s b y e =
-    let p = some_inside (gives lib st b.seen) (λ first. option_and_then (λ rest. Some (joined first rest)) (body_gives lib [] (joined b.seen first))) b.given b.typed in (
+    let p = then_parts (λ first. option_and_then (λ rest. Some (joined first rest)) (body_gives lib [] (joined b.seen first))) (gives lib st b.seen) b.given b.typed in (
       p.0,
       sym (ap (λ (f : Giving). f b.seen) (fold_out-Statement Giving (statement_step lib) st)
           ∙ ap (λ (z : Statement-F Statement). statement_step lib (map-Statement Statement Giving (gives lib) z) b.seen) e) ∙ p.1,
@@ -114,7 +116,7 @@ record CallTyped (lib : Library) (c : TCall) (seen : Seen) : Type 0 where
 call_typed : (lib : Library) (levels : ℕ) (c : TCall) (s : Sight) (b : IsStatementReady lib levels (stmt.Call c) s) → CallTyped lib c b.seen
 call_typed lib levels c s b =
     let h = statement_typed lib levels (stmt.Call c) s b (layer.Call c) (stmt.outs-Call c) in
-    let p = some_inside (signature lib c.target) (call_by lib.structs c b.seen) h.0 h.1 in
+    let p = then_parts (call_by lib.structs c b.seen) (signature lib c.target) h.0 h.1 in
     let q = when_some _ _ h.0 p.2 in
     let d = and_parts (args_typed lib.structs b.seen.names p.0.inputs c.args && are_distinct (arg_names c.args) && all_given p.0.inputs (arg_names c.args)) (all_seen b.seen.calls c.after) q.0 in
     let e = and_parts (args_typed lib.structs b.seen.names p.0.inputs c.args && are_distinct (arg_names c.args)) (all_given p.0.inputs (arg_names c.args)) d.0 in
@@ -168,7 +170,7 @@ callee_is_ready lib levels c s args b known met =
     record {
       inside = n.within;
       tasks = λ k task e there. (
-        one_of_all (task_typed lib.structs) lib.tasks k task b.library.tasks there,
+        all_at (task_typed lib.structs) lib.tasks k task b.library.tasks there,
         ap (λ (z : Signature). are_given lib.structs z.inputs args) (task_of lib c.target k task t.target e there t.is) ∙ fit,
       );
       flows = λ k e. record {

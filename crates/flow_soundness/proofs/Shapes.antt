@@ -18,9 +18,9 @@ use Rattle.wdl_typed.specs.Flow.{Flowing, Known, all_values, bound_by, bound_out
 use Rattle.wdl_typed.specs.Scope.{is_among, lookup, same_key, type_in}
 use Rattle.wdl_task.specs.Soundness.{AreOutputs}
 use Rattle.flow_soundness.specs.Readiness.{Agrees, FitsSome}
-use Rattle.flow_soundness.proofs.GivenKeys.{some_inside}
 use Rattle.wdl_flow.proofs.MarkLemmas.{same_key-true}
 use Rattle.flow_soundness.proofs.NewNames.{among_type, keys_of}
+use Rattle.wdl_base.proofs.Options.{then_parts}
 
 -- ---- names with one value
 
@@ -33,7 +33,7 @@ each_lookup x (k ∷ ks) key y h = by_test (same_key k key) h (each_lookup x ks 
     by_test true h rest = (cc, refl)
     by_test false h rest = rest h
 
-none_lookup : (keys : List Key) (key : Key) → lookup (env_of (each_key None keys)) key ≡ None
+pub none_lookup : (keys : List Key) (key : Key) → lookup (env_of (each_key None keys)) key ≡ None
 none_lookup [] key = refl
 none_lookup (k ∷ ks) key = none_lookup ks key
 
@@ -124,8 +124,8 @@ module _ (structs : Structs) where
       → all_values (map (value_in key) fs) ≡ Some xs → all_fit structs xs t ≡ true
   values_fit bs [] key t xs a e h = let same : (let none : List Value = [] in none) ≡ xs = cc in ap (λ ys. all_fit structs ys t) (sym same)
   values_fit bs (f ∷ fs) key t xs a e h =
-      let p = some_inside (value_in key f) (λ x. option_and_then (λ ys. Some (x ∷ ys)) (all_values (map (value_in key) fs))) xs h in
-      let q = some_inside (all_values (map (value_in key) fs)) (λ ys. Some (p.0 ∷ ys)) xs p.2 in
+      let p = then_parts (λ x. option_and_then (λ ys. Some (x ∷ ys)) (all_values (map (value_in key) fs))) (value_in key f) xs h in
+      let q = then_parts (λ ys. Some (p.0 ∷ ys)) (all_values (map (value_in key) fs)) xs p.2 in
       let same : (p.0 ∷ q.0) ≡ xs = cc in
       let own : FitsSome structs (Some t) p.0 = subst (λ (o : Option Ty). FitsSome structs o p.0) e (a.0 key p.0 p.1) in
       ap (λ ys. all_fit structs ys t) (sym same) ∙ and_from (fits structs p.0 t) (all_fit structs q.0 t) own (values_fit bs fs key t q.0 a.1 e q.1)
@@ -136,8 +136,8 @@ module _ (structs : Structs) where
   list_fits_some some fs key t (x ∷ xs) none h fit = some_fit structs x xs t some fit
   list_fits_some some [] key t [] none h fit = subst (λ (b : Bool). fits structs (v.List []) (ty.Array t b) ≡ true) (sym (none refl)) (list_fits structs [] t refl)
   list_fits_some some (f ∷ fs) key t [] none h fit =
-      let p = some_inside (value_in key f) (λ x. option_and_then (λ ys. Some (x ∷ ys)) (all_values (map (value_in key) fs))) [] h in
-      let q = some_inside (all_values (map (value_in key) fs)) (λ ys. Some (p.0 ∷ ys)) [] p.2 in
+      let p = then_parts (λ x. option_and_then (λ ys. Some (x ∷ ys)) (all_values (map (value_in key) fs))) (value_in key f) [] h in
+      let q = then_parts (λ ys. Some (p.0 ∷ ys)) (all_values (map (value_in key) fs)) [] p.2 in
       absurd (cc)
 
   pub gathered_agrees : (some : Bool) (bs : List Bound) (keys : List Key) (fs : List Flowing) → keys_of bs ≡ keys → AllAgree bs fs → (fs ≡ [] → some ≡ false)

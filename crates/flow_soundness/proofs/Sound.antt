@@ -44,18 +44,15 @@ use Rattle.wdl_task.specs.Readiness.{are_given}
 use Rattle.wdl_task.proofs.TaskLaws.{told_fits}
 use Rattle.flow_soundness.specs.Readiness.{Agrees, IsLibrary, IsNew, are_among}
 use Rattle.flow_soundness.proofs.Args.{OutputsFit, args_are_given, outputs_agree}
-use Rattle.flow_soundness.proofs.Fitting.{agrees_both, agrees_one, declaration_agrees, is_type-some, value_fits}
-use Rattle.flow_soundness.proofs.GivenKeys.{all_gives_keys, some_inside, when_some}
+use Rattle.flow_soundness.proofs.Fitting.{agrees_both, agrees_one, declaration_agrees, value_fits}
+use Rattle.flow_soundness.proofs.GivenKeys.{all_gives_keys, when_some}
 use Rattle.wdl_flow.proofs.GivenNames.{bodies_same}
 use Rattle.wdl_flow.proofs.MarkLemmas.{same_key-true}
 use Rattle.flow_soundness.proofs.NewNames.{all_keys_declared, fresh_apart, keys_of, name_right, type_among}
 use Rattle.flow_soundness.proofs.Newness.{given_apart, given_declared, head_new, new_inside, tail_new}
 use Rattle.flow_soundness.proofs.Shapes.{AllAgree, absent_agrees, gathered_agrees, missing_agrees, optional_agrees, told_agrees}
-
-pub one_of_all : {A : Type 0} (p : A → Bool) (xs : List A) (k : ℕ) (x : A) → list_all p xs ≡ true → slice_get xs k ≡ Some x → p x ≡ true
-one_of_all p [] k x h g = absurd (cc)
-one_of_all p (y ∷ ys) zero x h g = let same : y ≡ x = cc in ap p (sym same) ∙ (and_parts (p y) (list_all p ys) h).0
-one_of_all p (y ∷ ys) (suc k) x h g = one_of_all p ys k x (and_parts (p y) (list_all p ys) h).1 g
+use Rattle.wdl_base.proofs.Options.{all_at, then_parts}
+use Rattle.flow_soundness.proofs.Fitting.{is_type-some}
 
 -- an array with `+` has an item
 not_empty : (structs : Structs) (x : Value) (t : Ty) → fits structs x (ty.Array t true) ≡ true → out-Value x ≡ value.List [] → ⊥
@@ -132,7 +129,7 @@ module _ (r : Run) (callee : Callee) (kept : IsLibrary r.library) (callees : Cal
       by_task (Some t) e h =
           let same : task_signature t ≡ s = cc in
           subst (λ (z : Signature). Agrees structs (map (output_bound c.name) z.outputs) (asked r n place t c.name (asks t args)).names) same
-          (asked_fine n place t c.name args (one_of_all (task_typed structs) r.library.tasks k t kept.tasks e) (ap (λ (z : Signature). are_given structs z.inputs args) same ∙ fit) (asks t args) refl)
+          (asked_fine n place t c.name args (all_at (task_typed structs) r.library.tasks k t kept.tasks e) (ap (λ (z : Signature). are_given structs z.inputs args) same ∙ fit) (asks t args) refl)
   called_fine n place c args (target.Flow k) s h fit = by_flow (slice_get r.library.flows k) refl h
     where
       by_flow : (o : Option FlowDef) → slice_get r.library.flows k ≡ o → option_and_then (λ f. Some (flow_signature f)) o ≡ Some s
@@ -146,7 +143,7 @@ module _ (r : Run) (callee : Callee) (kept : IsLibrary r.library) (callees : Cal
   call_fine : (n : Names) (c : TCall) (seen given : Seen) (s : Sight) → call_step r.library c seen ≡ Some given → Agrees structs seen.names s.names
       → Agrees structs given.names (call_of r callee n c s).names
   call_fine n c seen given s h agrees =
-      let p = some_inside (signature r.library c.target) (call_by structs c seen) given h in
+      let p = then_parts (call_by structs c seen) (signature r.library c.target) given h in
       let q = when_some _ _ given p.2 in
       let d = and_parts (args_typed structs seen.names p.0.inputs c.args && are_distinct (arg_names c.args) && all_given p.0.inputs (arg_names c.args)) (all_seen seen.calls c.after) q.0 in
       let e = and_parts (args_typed structs seen.names p.0.inputs c.args && are_distinct (arg_names c.args)) (all_given p.0.inputs (arg_names c.args)) d.0 in
@@ -192,8 +189,8 @@ module _ (r : Run) (callee : Callee) (kept : IsLibrary r.library) (callees : Cal
       → IsNew all taken seen (firsts ks) → Agrees structs given.names (in_turn (runs (firsts ks)) s).names
   body_fine [] seen given s all taken h agrees new = λ key x k. absurd (cc)
   body_fine (k ∷ ks) seen given s all taken h agrees new =
-      let p = some_inside (gives r.library k.0 seen) (λ first. option_and_then (λ rest. Some (joined first rest)) (body_gives r.library (firsts ks) (joined seen first))) given h in
-      let q = some_inside (body_gives r.library (firsts ks) (joined seen p.0)) (λ rest. Some (joined p.0 rest)) given p.2 in
+      let p = then_parts (λ first. option_and_then (λ rest. Some (joined first rest)) (body_gives r.library (firsts ks) (joined seen first))) (gives r.library k.0 seen) given h in
+      let q = then_parts (λ rest. Some (joined p.0 rest)) (body_gives r.library (firsts ks) (joined seen p.0)) given p.2 in
       let same : joined p.0 q.0 ≡ given = cc in
       let here = k.1 seen p.0 s all taken p.1 agrees (head_new r.library all taken seen k.0 (firsts ks) new) in
       let tail = tail_new r.library all taken seen k.0 (firsts ks) p.0 p.1 new in
@@ -365,13 +362,13 @@ module _ (r : Run) (callee : Callee) (kept : IsLibrary r.library) (callees : Cal
   layer_fine (layer.Call c) seen given s all taken h agrees new =
       call_fine (record { keys = flow.signature_keys c.name (signature r.library c.target); calls = c.name ∷ [] }) c seen given s h agrees
   layer_fine (layer.Scatter b) seen given s all taken h agrees new =
-      let p = some_inside (in_body structs seen.names b.over) (λ t. scatter_over b.item (body_step (map (gives r.library) (firsts b.body))) seen (out-Ty t)) given h in
+      let p = then_parts (λ t. scatter_over b.item (body_step (map (gives r.library) (firsts b.body))) seen (out-Ty t)) (in_body structs seen.names b.over) given h in
       by_type p.0 p.1 (out-Ty p.0) refl p.2
     where
       by_type : (t : Ty) → in_body structs seen.names b.over ≡ Some t → (z : Ty-F Ty) → out-Ty t ≡ z → scatter_over b.item (body_step (map (gives r.library) (firsts b.body))) seen z ≡ Some given
           → Agrees structs given.names (scatter_run (body_names (map part (firsts b.body))) (body_run (map part (firsts b.body))) b.number b.item b.over s).names
       by_type t typed (type.Array u some) e h =
-          let q = some_inside (body_step (map (gives r.library) (firsts b.body)) (with_item seen b.item u)) (λ g. Some (retyped (λ w. ty.Array w some) g)) given h in
+          let q = then_parts (λ g. Some (retyped (λ w. ty.Array w some) g)) (body_step (map (gives r.library) (firsts b.body)) (with_item seen b.item u)) given h in
           let same : retyped (λ w. ty.Array w some) q.0 ≡ given = cc in
           let array : t ≡ ty.Array u some = sym (roll-out-Ty t) ∙ ap roll-Ty e ∙ ty.rolls-Array u some in
           let n = and_parts (not (has_name b.item all)) (items_differ (firsts b.body) (b.item ∷ all)) new.items_new in
@@ -380,13 +377,13 @@ module _ (r : Run) (callee : Callee) (kept : IsLibrary r.library) (callees : Cal
           (none_new all taken seen new.seen_taken new.taken_all) (not_true (has_name b.item all) n.0) n.1 new.declared_all new.declared_new)
       by_type t typed z e h = absurd (cc)
   layer_fine (layer.If b) seen given s all taken h agrees new =
-      let p = some_inside (in_body structs seen.names b.cond) (if_over (body_step (map (gives r.library) (firsts b.body))) seen) given h in
+      let p = then_parts (if_over (body_step (map (gives r.library) (firsts b.body))) seen) (in_body structs seen.names b.cond) given h in
       by_test (is_bool p.0) p.2
     where
       by_test : (t : Bool) → cond t (option_and_then (λ g. Some (retyped optional g)) (body_step (map (gives r.library) (firsts b.body)) seen)) None ≡ Some given
           → Agrees structs given.names (flow.if_run (body_names (map part (firsts b.body))) (body_run (map part (firsts b.body))) b.number b.cond s).names
       by_test true h =
-          let q = some_inside (body_step (map (gives r.library) (firsts b.body)) seen) (λ g. Some (retyped optional g)) given h in
+          let q = then_parts (λ g. Some (retyped optional g)) (body_step (map (gives r.library) (firsts b.body)) seen) given h in
           let same : retyped optional q.0 ≡ given = cc in
           subst (λ (z : Seen). Agrees structs z.names (flow.if_run (body_names (map part (firsts b.body))) (body_run (map part (firsts b.body))) b.number b.cond s).names) same
           (if_fine b.body seen q.0 s all taken b.number b.cond q.1 agrees (record {

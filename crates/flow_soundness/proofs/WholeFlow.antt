@@ -16,7 +16,7 @@ use Rattle.flow_soundness.specs.Readiness.{Agrees, IsFlowReady, IsLibrary}
 use Rattle.flow_soundness.specs.Soundness.{FlowsFit, flow_types}
 use Rattle.flow_soundness.proofs.FlowReady.{fit_are_given}
 use Rattle.flow_soundness.proofs.FlowSound.{callees_sound, flow_agrees, is_typed}
-use Rattle.flow_soundness.proofs.Sound.{one_of_all}
+use Rattle.wdl_base.proofs.Options.{all_at}
 
 -- a checked form is a library of well-typed tasks and workflows
 pub checked_library : (lib : Library) (main : Option ℕ) → is_checked lib main ≡ true → IsLibrary lib
@@ -30,7 +30,7 @@ checked_library lib main h =
 pub flows_fit : FlowsFit
 flows_fit lib k f s given site rows checked there typed fit =
     let kept = checked_library lib (Some k) checked in
-    let t = is_typed lib f (one_of_all (flow_typed lib) lib.flows k f kept.flows there) in
+    let t = is_typed lib f (all_at (flow_typed lib) lib.flows k f kept.flows there) in
     let r : Run = record { library = lib; site = site; table = rows } in
     let same : t.given ≡ s = some_same (sym t.typed ∙ typed) in
     let agrees = flow_agrees lib f t r refl (flow.flow r 24) kept (callees_sound r kept 24) given (fit_are_given lib.structs f.inputs given fit) [] in
@@ -47,6 +47,6 @@ main_ready lib k given checked fit =
     let kept = checked_library lib (Some k) checked in
     record {
       library = kept;
-      nested = λ f there. (is_typed lib f (one_of_all (flow_typed lib) lib.flows k f kept.flows there)).nested;
+      nested = λ f there. (is_typed lib f (all_at (flow_typed lib) lib.flows k f kept.flows there)).nested;
       fit = λ f there. fit_are_given lib.structs f.inputs given (fit f there);
     }

@@ -6,8 +6,8 @@ ghost use Rattle.help_text.specs.Help as spec;
 use crate::page::{BUNDLE, CHECK, CWL, HELP, INPUTS, LOAD, PROGRAM, RUN, VERSION};
 use wdl_words::Command;
 
-/// Returns the help of a command, or that of the whole program where none is named, with a newline at its end. It takes no
-/// memory.
+/// Returns the help of a command, or that of the whole program where none is named, with a newline
+/// at its end. It takes no memory.
 pub fn help_of(about: Option<Command>) -> &'static str
     ensures value { result.now ≡ spec.help_of about }
 {

@@ -45,12 +45,14 @@ fn object_of(alloc: Global, lines: &[Line]) -> Result<Text, NoMemory>
     Ok(text)
 }
 
-/// Returns the form of a workflow's inputs: a JSON object with a member `workflow.input` for each input, in the order of
-/// the document, each on a line of its own behind two blanks; `{}` where there is no input.
+/// Returns the form of a workflow's inputs: a JSON object with a member `workflow.input` for each
+/// input, in the order of the document, each on a line of its own behind two blanks; `{}` where
+/// there is no input.
 ///
-/// The value of a member is a text: the type of the input as a document writes it, and behind it ` (optional)` where the
-/// input is optional or has a default, or ` (optional, default JSON)` where its default is a literal, with that literal as
-/// JSON. An imported struct has the name that the checked form gives it. The form has no newline at its end.
+/// The value of a member is a text: the type of the input as a document writes it, and behind it
+/// ` (optional)` where the input is optional or has a default, or ` (optional, default JSON)` where
+/// its default is a literal, with that literal as JSON. An imported struct has the name that the
+/// checked form gives it. The form has no newline at its end.
 pub fn inputs_form(alloc: Global, flow: &FlowDef) -> Result<Text, NoMemory>
     ensures value { IfOk result (spec.IsForm flow.now) }
 {

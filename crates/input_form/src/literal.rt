@@ -9,8 +9,8 @@ use std::alloc::Global;
 use wdl_typed::{TExpr, TField, TPair};
 use wdl_value::{Boxed, Field, Items, MapRow, NoMemory, Value};
 
-/// Returns whether an expression is a literal, casts aside: a literal of a primitive type, one with `-` before it, or an
-/// array, a map, a pair or a struct of literals.
+/// Returns whether an expression is a literal, casts aside: a literal of a primitive type, one with
+/// `-` before it, or an array, a map, a pair or a struct of literals.
 #[cycle(is_literal)]
 pub fn is_literal(expr: &TExpr) -> bool
     ensures { result ≡ spec.is_literal expr.now }

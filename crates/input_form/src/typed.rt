@@ -44,8 +44,9 @@ fn optional_text(alloc: Global, inner: &Text) -> Result<Text, NoMemory>
     Ok(Text::from_string(format!(in alloc; "{inner}?")?))
 }
 
-/// Returns the type as a document writes it (OpenWDL 1.1, "Types"): `Array[Int]+`, `Map[String, File]`, `Sample?`. The
-/// types of `None` and of the items of `[]`, which no document writes, are `None` and `Any`.
+/// Returns the type as a document writes it (OpenWDL 1.1, "Types"): `Array[Int]+`,
+/// `Map[String, File]`, `Sample?`. The types of `None` and of the items of `[]`, which no document
+/// writes, are `None` and `Any`.
 pub fn type_text(alloc: Global, ty: &Ty) -> Result<Text, NoMemory>
     ensures value { IfOk result (λ t. t ≡ spec.type_text ty.now) }
 {

@@ -16,7 +16,8 @@ pub fn cut(alloc: Global, text: &str) -> Result<String, NoMemory> {
     Ok(format!(in alloc; "{shown}..")?)
 }
 
-/// The member of that name as JSON, or all of it where no name is asked for; none where there is no such member.
+/// The member of that name as JSON, or all of it where no name is asked for; none where there is no
+/// such member.
 fn shown(alloc: Global, json: &Json, name: Option<&str>) -> Result<Option<String>, NoMemory> {
     let given = match name {
         Some(name) => match json.get(name) {
@@ -28,7 +29,8 @@ fn shown(alloc: Global, json: &Json, name: Option<&str>) -> Result<Option<String
     Ok(Some(cut(alloc, given.as_str())?))
 }
 
-/// What a text gives under a name, or in all where no name is asked for, cut to 200 bytes; none where it gives nothing or is no JSON.
+/// What a text gives under a name, or in all where no name is asked for, cut to 200 bytes; none
+/// where it gives nothing or is no JSON.
 pub fn given(alloc: Global, text: &[u8], name: Option<&str>) -> Result<Option<String>, NoMemory> {
     match Json::from_slice(alloc, text) {
         Ok(json) => shown(alloc, &json, name),

@@ -99,8 +99,9 @@ fn sentence(
     }
 }
 
-/// The note of a fault of a code from 401 to 407 in a text of inputs for a workflow, for a person: the member, the type that its input
-/// is declared with, and what the text gives, cut to 200 bytes. It ends with a newline. Nothing is promised of what it says.
+/// The note of a fault of a code from 401 to 407 in a text of inputs for a workflow, for a person:
+/// the member, the type that its input is declared with, and what the text gives, cut to 200 bytes.
+/// It ends with a newline. Nothing is promised of what it says.
 pub fn inputs_note(
     alloc: Global,
     code: u16,

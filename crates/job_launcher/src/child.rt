@@ -2,8 +2,8 @@ use crate::trouble::Trouble;
 use std::alloc::{AllocError, Global};
 use std::process::{Command, Processes};
 
-/// Runs the program `$3` on the command `$2` in the directory `$1`. The command's standard streams are files of that
-/// directory, and its input is empty.
+/// Runs the program `$3` on the command `$2` in the directory `$1`. The command's standard streams
+/// are files of that directory, and its input is empty.
 const SCRIPT: &str = "cd \"$1\" && exec \"$3\" -c \"$2\" >_stdout 2>_stderr </dev/null";
 
 /// The status of a child that ended without one, as by a signal.

@@ -20,7 +20,8 @@ fn read_up_to<F: Read + Drop>(alloc: Global, file: F, limit: u64) -> Result<Body
     }
 }
 
-/// The bytes of the regular file at a path, or `Long` where it has more than the limit; `None` where there is no such file.
+/// The bytes of the regular file at a path, or `Long` where it has more than the limit; `None`
+/// where there is no such file.
 pub(crate) fn body_of<R: Files>(
     rt: &R,
     alloc: Global,
@@ -38,7 +39,8 @@ pub(crate) fn body_of<R: Files>(
     }
 }
 
-/// The file of this name, with its body where it is kept up to a limit; `None` where the file is gone.
+/// The file of this name, with its body where it is kept up to a limit; `None` where the file is
+/// gone.
 fn seen_of<R: Files>(
     rt: &R,
     alloc: Global,
@@ -78,7 +80,8 @@ fn read_all<R: Files>(
     Ok(files)
 }
 
-/// The regular files below a directory, in byte order of their names. A file whose body is not kept is not read.
+/// The regular files below a directory, in byte order of their names. A file whose body is not kept
+/// is not read.
 pub(crate) fn files_of<R: Files + AllocGlobal + Clone + Drop>(
     rt: &R,
     alloc: Global,

@@ -8,7 +8,8 @@ use std::fs;
 use std::fs::Files;
 use wdl_value::Laid;
 
-/// The file of a job's directory that takes its standard output. Each directory of a job has it from the first on.
+/// The file of a job's directory that takes its standard output. Each directory of a job has it
+/// from the first on.
 pub(crate) const OUT: &str = "_stdout";
 
 /// The file of a job's directory that takes its standard error.
@@ -33,8 +34,8 @@ enum Removal {
     Whole,
 }
 
-/// Returns how it is removed. Only a directory is, and with what it holds only one that a job left: such a one has the
-/// standard output of that job.
+/// Returns how it is removed. Only a directory is, and with what it holds only one that a job left:
+/// such a one has the standard output of that job.
 fn removal_of(is_directory: bool, has_output: bool) -> Removal
     ensures whole { result ≡ removal.Whole → (is_directory ≡ true) × (has_output ≡ true) }
     ensures other { is_directory ≡ false → result ≡ removal.Refused }
@@ -49,7 +50,8 @@ fn removal_of(is_directory: bool, has_output: bool) -> Removal
     }
 }
 
-/// Removes what stands in the place of a job's directory, or refuses. The path of the directory's standard output is `out`.
+/// Removes what stands in the place of a job's directory, or refuses. The path of the directory's
+/// standard output is `out`.
 fn clear<R: Files>(rt: &R, alloc: Global, dir: &str, out: &str) -> Result<(), Trouble> {
     let Some(old) = if_there(fs::symlink_metadata(rt, dir))? else {
         return Ok(());
@@ -62,8 +64,8 @@ fn clear<R: Files>(rt: &R, alloc: Global, dir: &str, out: &str) -> Result<(), Tr
     }
 }
 
-/// Makes the directory of a job anew, and those above it where they are missing. The job's place has `levels` parts, which
-/// are the last of the path.
+/// Makes the directory of a job anew, and those above it where they are missing. The job's place
+/// has `levels` parts, which are the last of the path.
 pub(crate) fn make<R: Files>(
     rt: &R,
     alloc: Global,

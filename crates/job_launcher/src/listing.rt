@@ -6,17 +6,19 @@ use std::fs;
 use std::fs::{DirEntry, Files};
 use wdl_value::{FILE_BYTES, FILE_COUNT, FILE_NAME_BYTES};
 
-/// The most levels of folders that are listed; the files of the job's directory itself are at the first.
+/// The most levels of folders that are listed; the files of the job's directory itself are at the
+/// first.
 const LEVELS: usize = 8;
 
-/// The regular files below the directory of a job: their names, relative to it, and the lengths that they had.
+/// The regular files below the directory of a job: their names, relative to it, and the lengths
+/// that they had.
 #[derive(Drop)]
 pub(crate) struct Listing {
     pub(crate) files: Vec<(String, u64)>,
     /// The bytes of the names.
     pub(crate) bytes: usize,
-    /// The folders that are still to be listed, as what stands before the names of their files: `d/e/`, and nothing for
-    /// the directory itself.
+    /// The folders that are still to be listed, as what stands before the names of their files:
+    /// `d/e/`, and nothing for the directory itself.
     folders: Vec<String>,
 }
 
@@ -110,7 +112,8 @@ impl Listing {
     }
 }
 
-/// Lists the regular files below a directory, to 8 levels, but for the two kept streams, in byte order of their names.
+/// Lists the regular files below a directory, to 8 levels, but for the two kept streams, in byte
+/// order of their names.
 pub(crate) fn list<R: Files + AllocGlobal + Clone + Drop>(
     rt: &R,
     alloc: Global,

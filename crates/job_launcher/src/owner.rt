@@ -31,8 +31,8 @@ fn made<R: Files>(rt: &R, path: &str) -> Result<Metadata, Trouble> {
     Ok(fs::symlink_metadata(rt, path)?)
 }
 
-/// Whether what stands at a path belongs to the user who runs the program. Where it is a symbolic link, what it leads to
-/// must be the user's own too.
+/// Whether what stands at a path belongs to the user who runs the program. Where it is a symbolic
+/// link, what it leads to must be the user's own too.
 fn is_own<R: Files>(rt: &R, path: &str, found: &Metadata) -> Result<bool, Trouble> {
     let user = libc::geteuid();
     if found.uid() != user {
@@ -44,8 +44,9 @@ fn is_own<R: Files>(rt: &R, path: &str, found: &Metadata) -> Result<bool, Troubl
     Ok(fs::metadata(rt, path)?.uid() == user)
 }
 
-/// Makes the folders that are to hold a directory, where they are missing. The lowest `levels` of them must belong to the
-/// user who runs the program: in another's folder, what is made could be replaced.
+/// Makes the folders that are to hold a directory, where they are missing. The lowest `levels` of
+/// them must belong to the user who runs the program: in another's folder, what is made could be
+/// replaced.
 pub(crate) fn hold<R: Files>(rt: &R, dir: &str, levels: usize) -> Result<(), Trouble> {
     if levels == 0 {
         return Ok(());

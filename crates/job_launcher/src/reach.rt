@@ -3,8 +3,9 @@ use crate::trouble::Trouble;
 use std::alloc::Global;
 use wdl_value::{BODY_LIMIT, FILE_BYTES};
 
-/// Which of the listed files are kept with their bodies: each that is shorter than `length`, and the first `count` of exactly
-/// this length, in byte order of their names. So the shortest files are kept first.
+/// Which of the listed files are kept with their bodies: each that is shorter than `length`, and
+/// the first `count` of exactly this length, in byte order of their names. So the shortest files
+/// are kept first.
 #[derive(Clone, Copy)]
 pub(crate) struct Reach {
     length: u64,

@@ -10,13 +10,15 @@ use std::process::Processes;
 use wdl_port::{LaunchFault, Launcher};
 use wdl_value::{Answer, Body, ERR_LIMIT, OUT_LIMIT, Request};
 
-/// Runs each command as `SHELL -c COMMAND`, as a child of its own in the request's directory, which is made anew and in
-/// which the request's files are laid down. The answer has the child's status, 255 where it ended without one, the two
-/// streams, and the other regular files that stand below the directory, to 8 levels.
+/// Runs each command as `SHELL -c COMMAND`, as a child of its own in the request's directory, which
+/// is made anew and in which the request's files are laid down. The answer has the child's status,
+/// 255 where it ended without one, the two streams, and the other regular files that stand below
+/// the directory, to 8 levels.
 ///
-/// It tells nothing: it may give every answer and refuse every request. It refuses where the directory cannot be made, is
-/// there and holds what no job left, or would stand in a folder of another user; where the child cannot be started; and
-/// where a file cannot be listed or read, a name is not text, or the limits of an answer on the names of files are passed.
+/// It tells nothing: it may give every answer and refuse every request. It refuses where the
+/// directory cannot be made, is there and holds what no job left, or would stand in a folder of
+/// another user; where the child cannot be started; and where a file cannot be listed or read, a
+/// name is not text, or the limits of an answer on the names of files are passed.
 #[derive(Drop)]
 pub struct ShellLauncher<R> {
     rt: R,
@@ -24,9 +26,9 @@ pub struct ShellLauncher<R> {
 }
 
 impl<R> ShellLauncher<R> {
-    /// A launcher that starts its children by this runtime, and runs each command by the program `shell`: a path where
-    /// it holds a `/`, and else a name that is looked for on the `PATH`. Without such a program it refuses every request.
-    /// It takes no memory.
+    /// A launcher that starts its children by this runtime, and runs each command by the program
+    /// `shell`: a path where it holds a `/`, and else a name that is looked for on the `PATH`.
+    /// Without such a program it refuses every request. It takes no memory.
     pub fn new(rt: R, shell: Option<String>) -> ShellLauncher<R> {
         ShellLauncher { rt, shell }
     }

@@ -42,7 +42,8 @@ fn launch<L: Launcher + Sync>(
     launcher.launch(alloc, &request)
 }
 
-// A body as it is, with `|` for each newline; `#` and its length where it has more than 100 bytes; `!` where it was too long.
+// A body as it is, with `|` for each newline; `#` and its length where it has more than 100 bytes;
+// `!` where it was too long.
 fn add_body(alloc: Global, all: &mut Vec<u8>, body: &Body) -> Result<(), LaunchFault> {
     match body {
         Body::Long => all.push(b'!')?,

@@ -6,7 +6,8 @@ use std::fs::Files;
 use std::test::Fail;
 use wdl_port::{LaunchFault, Launcher};
 
-// Each command with what it leaves. All are run one after another in one directory, which is made anew for each.
+// Each command with what it leaves. All are run one after another in one directory, which is made
+// anew for each.
 const COMMANDS: &str = "\
 $ cat .laid; echo oops >&2; exit 3
 3 <x|> <oops|> .laid=x|

@@ -1,5 +1,5 @@
 -- The members of a text that is read as JSON are in byte order.
-use Rattle.std.proofs.Common.{◌≡◌, ℕ, Bool, true, ◌&&◌, List, Option, Some, None, option_map, option_and_then, Ordering, Less, Equal, Greater, nat_cmp, refl, sym, ap, ◌∙◌}
+use Rattle.std.proofs.Common.{◌≡◌, ℕ, Bool, true, ◌&&◌, List, Some, option_map, option_and_then, Ordering, Less, Equal, Greater, nat_cmp, refl, sym, ap, ◌∙◌}
 use Rattle.std.proofs.lemmas.Bool.{false≢true, and_parts, and_from}
 use Rattle.std.proofs.lemmas.Cmp.{nat_list_cmp_total}
 use Rattle.std.specs.Cmp.Lexicographic.{slice_cmp}
@@ -9,6 +9,7 @@ use Rattle.json.specs.Lex.{tokens}
 use Rattle.serde_json.specs.Data.{Data, null, boolean, number, string, array, object, Items, no_items, item, Members, no_members, member, put}
 use Rattle.serde_json.specs.Read.{read, max_depth, of_json, of_items, of_members, number_of}
 use Rattle.json_values.specs.Ordered.{is_before, is_first, is_ordered, items_ordered, members_ordered}
+use Rattle.wdl_base.proofs.Options.{map_parts, then_parts}
 
 less : (o : Ordering) → is_lt o ≡ true → o ≡ Less
 less Less h = refl
@@ -60,37 +61,29 @@ put_ordered k d (member l e ms) h i =
 
 -- ---- what JSON is read as
 
-some_map : {A B : Type 0} (f : A → B) (o : Option A) (b : B) → option_map f o ≡ Some b → (a : A) × (o ≡ Some a) × (f a ≡ b)
-some_map f None b h = cc
-some_map f (Some a) b h = (a, refl, cc)
-
-some_then : {A B : Type 0} (f : A → Option B) (o : Option A) (b : B) → option_and_then f o ≡ Some b → (a : A) × (o ≡ Some a) × (f a ≡ Some b)
-some_then f None b h = cc
-some_then f (Some a) b h = (a, refl, h)
-
 mutual
   of_json_ordered : (j : json.Json) (d : Data) → of_json j ≡ Some d → is_ordered d ≡ true
   of_json_ordered json.null d h = let e : null ≡ d = cc in ap is_ordered (sym e)
   of_json_ordered (json.boolean b) d h = let e : boolean b ≡ d = cc in ap is_ordered (sym e)
-  of_json_ordered (json.number s) d h = let p = some_map number (number_of s) d h in ap is_ordered (sym p.2)
+  of_json_ordered (json.number s) d h = let p = map_parts number (number_of s) d h in ap is_ordered (sym p.2)
   of_json_ordered (json.string s) d h = let e : string s ≡ d = cc in ap is_ordered (sym e)
-  of_json_ordered (json.array js) d h = let p = some_map array (of_items js) d h in ap is_ordered (sym p.2) ∙ of_items_ordered js p.0 p.1
-  of_json_ordered (json.object ms) d h = let p = some_map object (of_members ms no_members) d h in ap is_ordered (sym p.2) ∙ of_members_ordered ms no_members p.0 refl p.1
+  of_json_ordered (json.array js) d h = let p = map_parts array (of_items js) d h in ap is_ordered (sym p.2) ∙ of_items_ordered js p.0 p.1
+  of_json_ordered (json.object ms) d h = let p = map_parts object (of_members ms no_members) d h in ap is_ordered (sym p.2) ∙ of_members_ordered ms no_members p.0 refl p.1
 
   of_items_ordered : (js : json.Items) (ds : Items) → of_items js ≡ Some ds → items_ordered ds ≡ true
   of_items_ordered json.no_items ds h = let e : no_items ≡ ds = cc in ap items_ordered (sym e)
   of_items_ordered (json.item j js) ds h =
-      let p = some_then (λ d. option_map (item d) (of_items js)) (of_json j) ds h in
-      let q = some_map (item p.0) (of_items js) ds p.2 in
+      let p = then_parts (λ d. option_map (item d) (of_items js)) (of_json j) ds h in
+      let q = map_parts (item p.0) (of_items js) ds p.2 in
       ap items_ordered (sym q.2) ∙ and_from (is_ordered p.0) (items_ordered q.0) (of_json_ordered j p.0 p.1) (of_items_ordered js q.0 q.1)
 
   of_members_ordered : (js : json.Members) (found ms : Members) → members_ordered found ≡ true → of_members js found ≡ Some ms → members_ordered ms ≡ true
   of_members_ordered json.no_members found ms own h = let e : found ≡ ms = cc in ap members_ordered (sym e) ∙ own
   of_members_ordered (json.member k j js) found ms own h =
-      let p = some_then (λ d. of_members js (put k d found)) (of_json j) ms h in
+      let p = then_parts (λ d. of_members js (put k d found)) (of_json j) ms h in
       of_members_ordered js (put k p.0 found) ms (put_ordered k p.0 found (of_json_ordered j p.0 p.1) own) p.2
 
 pub read_ordered : (text : List ℕ) (d : Data) → read text ≡ Some d → is_ordered d ≡ true
 read_ordered text d h =
-    let p = some_then of_json (option_and_then (λ q. json.if_last q.0 q.1) (json.value max_depth (tokens text))) d h in
+    let p = then_parts of_json (option_and_then (λ q. json.if_last q.0 q.1) (json.value max_depth (tokens text))) d h in
     of_json_ordered p.0 d p.2

@@ -1,12 +1,13 @@
 -- What JSON is read as at a type fits it.
 use Rattle.std.proofs.Common.{◌≡◌, ℕ, ℤ, Bool, true, false, not, cond, ◌&&◌, ◌||◌, ◌==◌, List, [], ◌∷◌, length, codes, Option, Some, None, option_map, option_and_then, bytes_eq, nat_cmp, Ordering, Less, Equal, Greater, refl, sym, ap, ◌∙◌, subst}
-use Rattle.std.proofs.lemmas.Bool.{false≢true, and_parts, and_from}
+use Rattle.std.proofs.lemmas.Bool.{false≢true, and_parts, and_from, or_right}
 use Rattle.std.proofs.lemmas.Slice.Eq.{bytes_eq-Decides}
 use Rattle.std.proofs.lemmas.Map.Text.{is_eq-slice_cmp}
 use Rattle.std.specs.Cmp.Lexicographic.{slice_cmp}
 use Rattle.std.specs.Fmt.{signed_decimal}
 use Rattle.std.specs.Ordering.{is_lt, is_eq}
 use Rattle.std.specs.Str.Parse.{signed_digits_value}
+use Rattle.std.proofs.lemmas.Option.{same_Some}
 use Rattle.serde_json.specs.Data.{Num, Data, null, boolean, number, string, array, object, Items, no_items, item, Members, no_members, member}
 use Rattle.serde_json.specs.Find.{as_i64}
 use Rattle.wdl_base.specs.Plain.{has_nul}
@@ -28,31 +29,9 @@ use Rattle.wdl_value.proofs.FitsLemmas.{tests, takes_out}
 use Rattle.wdl_value.proofs.SameValueLemmas.{same_value-true}
 use Rattle.json_values.specs.Ordered.{is_before, is_first, is_ordered, items_ordered, members_ordered}
 use Rattle.json_values.specs.Reading.{Reader, Named, reads, item_readers, member_readers, null_read, bool_read, number_read, int_of, string_read, str_of, file_of, key_read, key_at, bool_key, int_key, is_decimal, all_read, list_read, array_read, reader_of, part_read, pair_read, rows_read, map_read, all_declared, names_of, left_out, member_at, member_read, field_of, fields_read, struct_in, object_read}
+use Rattle.wdl_base.proofs.Options.{map_parts, then_parts, chosen_parts, refused_parts}
 
 -- ---- answers that came
-
-pub mapped : {A B : Type 0} (f : A → B) (o : Option A) (b : B) → option_map f o ≡ Some b → (a : A) × (o ≡ Some a) × (f a ≡ b)
-mapped f None b h = cc
-mapped f (Some a) b h = (a, refl, cc)
-
-pub chained : {A B : Type 0} (f : A → Option B) (o : Option A) (b : B) → option_and_then f o ≡ Some b → (a : A) × (o ≡ Some a) × (f a ≡ Some b)
-chained f None b h = cc
-chained f (Some a) b h = (a, refl, h)
-
-pub chosen : {A : Type 0} (b : Bool) (o : Option A) (a : A) → cond b o None ≡ Some a → (b ≡ true) × (o ≡ Some a)
-chosen true o a h = (refl, h)
-chosen false o a h = cc
-
-pub refused : {A : Type 0} (b : Bool) (o : Option A) (a : A) → cond b None o ≡ Some a → (b ≡ false) × (o ≡ Some a)
-refused true o a h = cc
-refused false o a h = (refl, h)
-
-pub inside : {A : Type 0} (a b : A) → Some a ≡ Some b → a ≡ b
-inside a b h = cc
-
-or_right : (a b : Bool) → b ≡ true → a || b ≡ true
-or_right true b h = refl
-or_right false b h = h
 
 module _ (structs : Structs) where
   -- a value of a type without question marks
@@ -106,35 +85,35 @@ module _ (structs : Structs) where
 
   null_fits : (t : Ty) (x : Value) → null_read t ≡ Some x → fits structs x t ≡ true
   null_fits t x h =
-      let p = chosen (is_optional (out-Ty t) || absent_at (out-Ty (bare t))) (Some v.Absent) x h in
-      subst (λ (y : Value). fits structs y t ≡ true) (inside v.Absent x p.1) (absent_fits t p.0)
+      let p = chosen_parts (is_optional (out-Ty t) || absent_at (out-Ty (bare t))) (Some v.Absent) x h in
+      subst (λ (y : Value). fits structs y t ≡ true) (same_Some v.Absent x p.1) (absent_fits t p.0)
 
   left_out_fits : (t : Ty) (x : Value) → left_out t ≡ Some x → fits structs x t ≡ true
   left_out_fits t x h =
-      let p = chosen (is_optional (out-Ty t)) (Some v.Absent) x h in
-      subst (λ (y : Value). fits structs y t ≡ true) (inside v.Absent x p.1) (absent_fits t (ap (λ b. b || absent_at (out-Ty (bare t))) p.0))
+      let p = chosen_parts (is_optional (out-Ty t)) (Some v.Absent) x h in
+      subst (λ (y : Value). fits structs y t ≡ true) (same_Some v.Absent x p.1) (absent_fits t (ap (λ b. b || absent_at (out-Ty (bare t))) p.0))
 
   -- ---- numbers and texts
 
   suits_of : (z : Ty-F Ty) (x y : Value) → Some y ≡ Some x → Suits z y → Suits z x
-  suits_of z x y e s = subst (Suits z) (inside y x e) s
+  suits_of z x y e s = subst (Suits z) (same_Some y x e) s
 
   bool_suits : (b : Bool) (z : Ty-F Ty) (x : Value) → bool_read b z ≡ Some x → Suits z x
   bool_suits b type.Bool x h = suits_of type.Bool x (v.Bool b) h (suits_bool b)
   bool_suits b z x h = cc
 
   int_suits : (n : ℤ) (x : Value) → int_of n ≡ Some x → Suits type.Int x
-  int_suits n x h = let p = chosen (is_int n) (Some (v.Int n)) x h in suits_of type.Int x (v.Int n) p.1 (suits_int n p.0)
+  int_suits n x h = let p = chosen_parts (is_int n) (Some (v.Int n)) x h in suits_of type.Int x (v.Int n) p.1 (suits_int n p.0)
 
   number_suits : (n : Num) (z : Ty-F Ty) (x : Value) → number_read n z ≡ Some x → Suits z x
-  number_suits n type.Int x h = let p = chained int_of (as_i64 n) x h in int_suits p.0 x p.2
+  number_suits n type.Int x h = let p = then_parts int_of (as_i64 n) x h in int_suits p.0 x p.2
   number_suits n z x h = cc
 
   str_suits : (s : List ℕ) (x : Value) → str_of s ≡ Some x → Suits type.Str x
-  str_suits s x h = let p = refused (has_nul s) (Some (v.Str s)) x h in suits_of type.Str x (v.Str s) p.1 (suits_str s)
+  str_suits s x h = let p = refused_parts (has_nul s) (Some (v.Str s)) x h in suits_of type.Str x (v.Str s) p.1 (suits_str s)
 
   file_suits : (s : List ℕ) (x : Value) → file_of s ≡ Some x → Suits type.File x
-  file_suits s x h = let p = refused (has_nul s) (Some (v.File s)) x h in suits_of type.File x (v.File s) p.1 (suits_file s)
+  file_suits s x h = let p = refused_parts (has_nul s) (Some (v.File s)) x h in suits_of type.File x (v.File s) p.1 (suits_file s)
 
   string_suits : (s : List ℕ) (z : Ty-F Ty) (x : Value) → string_read s z ≡ Some x → Suits z x
   string_suits s type.Str x h = str_suits s x h
@@ -151,7 +130,7 @@ module _ (structs : Structs) where
   Keys k z x = Suits z x × (text_of x ≡ k)
 
   keys_of : (k : List ℕ) (z : Ty-F Ty) (x y : Value) → Some y ≡ Some x → Keys k z y → Keys k z x
-  keys_of k z x y e s = subst (Keys k z) (inside y x e) s
+  keys_of k z x y e s = subst (Keys k z) (same_Some y x e) s
 
   bool_keys : (k : List ℕ) (x : Value) → bool_key k ≡ Some x → Keys k type.Bool x
   bool_keys k x h = by_tests (bytes_eq k (codes "true")) refl (bytes_eq k (codes "false")) refl h
@@ -167,15 +146,15 @@ module _ (structs : Structs) where
   int_keys : (k : List ℕ) (x : Value) → int_key k ≡ Some x → Keys k type.Int x
   int_keys k x h =
       let n = signed_digits_value 10 k in
-      let p = chosen (is_decimal n k) (Some (v.Int n)) x h in
+      let p = chosen_parts (is_decimal n k) (Some (v.Int n)) x h in
       let q = and_parts (is_int n) (bytes_eq (signed_decimal n) k) p.0 in
       keys_of k type.Int x (v.Int n) p.1 (suits_int n q.0, text_by (v.Int n) (layer.Int n) (v.outs-Int n) ∙ (bytes_eq-Decides (signed_decimal n) k).0 q.1)
 
   str_keys : (k : List ℕ) (x : Value) → str_of k ≡ Some x → Keys k type.Str x
-  str_keys k x h = let p = refused (has_nul k) (Some (v.Str k)) x h in keys_of k type.Str x (v.Str k) p.1 (suits_str k, text_by (v.Str k) (layer.Str k) (v.outs-Str k))
+  str_keys k x h = let p = refused_parts (has_nul k) (Some (v.Str k)) x h in keys_of k type.Str x (v.Str k) p.1 (suits_str k, text_by (v.Str k) (layer.Str k) (v.outs-Str k))
 
   file_keys : (k : List ℕ) (x : Value) → file_of k ≡ Some x → Keys k type.File x
-  file_keys k x h = let p = refused (has_nul k) (Some (v.File k)) x h in keys_of k type.File x (v.File k) p.1 (suits_file k, text_by (v.File k) (layer.File k) (v.outs-File k))
+  file_keys k x h = let p = refused_parts (has_nul k) (Some (v.File k)) x h in keys_of k type.File x (v.File k) p.1 (suits_file k, text_by (v.File k) (layer.File k) (v.outs-File k))
 
   key_keys : (k : List ℕ) (z : Ty-F Ty) (x : Value) → key_at k z ≡ Some x → Keys k z x
   key_keys k type.Bool x h = bool_keys k x h
@@ -200,10 +179,10 @@ module _ (structs : Structs) where
   AllFit xs t = (takes_all structs xs t ≡ true) × (keyed_all xs ≡ true)
 
   all_fit : (rs : List Reader) (t : Ty) (xs : List Value) → AllSound rs → all_read rs t ≡ Some xs → AllFit xs t
-  all_fit [] t xs s h = subst (λ (ys : List Value). AllFit ys t) (inside [] xs h) (refl, refl)
+  all_fit [] t xs s h = subst (λ (ys : List Value). AllFit ys t) (same_Some [] xs h) (refl, refl)
   all_fit (r ∷ rs) t xs s h =
-      let p = chained (λ x. option_map (λ xs. x ∷ xs) (all_read rs t)) (r t) xs h in
-      let q = mapped (λ ys. p.0 ∷ ys) (all_read rs t) xs p.2 in
+      let p = then_parts (λ x. option_map (λ xs. x ∷ xs) (all_read rs t)) (r t) xs h in
+      let q = map_parts (λ ys. p.0 ∷ ys) (all_read rs t) xs p.2 in
       let one = and_parts (takes structs p.0 t) (keyed p.0) (s.0 t p.0 p.1) in
       let more = all_fit rs t q.0 s.1 q.1 in
       subst (λ (ys : List Value). AllFit ys t) q.2 (and_from (takes structs p.0 t) (takes_all structs q.0 t) one.0 more.0, and_from (keyed p.0) (keyed_all q.0) one.1 more.1)
@@ -211,8 +190,8 @@ module _ (structs : Structs) where
   -- a list of as many items
   some_items : (r : Reader) (rs : List Reader) (t : Ty) (xs : List Value) → all_read (r ∷ rs) t ≡ Some xs → (y : Value) × (ys : List Value) × (xs ≡ y ∷ ys)
   some_items r rs t xs h =
-      let p = chained (λ x. option_map (λ xs. x ∷ xs) (all_read rs t)) (r t) xs h in
-      let q = mapped (λ ys. p.0 ∷ ys) (all_read rs t) xs p.2 in
+      let p = then_parts (λ x. option_map (λ xs. x ∷ xs) (all_read rs t)) (r t) xs h in
+      let q = map_parts (λ ys. p.0 ∷ ys) (all_read rs t) xs p.2 in
       (p.0, q.0, sym q.2)
 
   list_suits : (rs : List Reader) (t : Ty) (some : Bool) (x : Value) → AllSound rs → list_read rs t some ≡ Some x → Suits (type.Array t some) x
@@ -220,7 +199,7 @@ module _ (structs : Structs) where
   list_suits [] t false x s h =
       suits_of (type.Array t false) x (v.List []) h (record { layer = layer.List []; is = v.outs-List []; takes = refl; keyed = keyed_by (v.List []) (layer.List []) (v.outs-List []) refl })
   list_suits (r ∷ rs) t some x s h =
-      let p = mapped v.List (all_read (r ∷ rs) t) x h in
+      let p = map_parts v.List (all_read (r ∷ rs) t) x h in
       let q = some_items r rs t p.0 p.1 in
       let xs = q.0 ∷ q.1 in
       let f = all_fit (r ∷ rs) t xs s (p.1 ∙ ap Some q.2) in
@@ -242,17 +221,17 @@ module _ (structs : Structs) where
   reader_sound name (m ∷ ms) r s h = by_test (bytes_eq name m.name) h (reader_sound name ms r s.1)
     where
       by_test : (b : Bool) → cond b (Some m.reader) (reader_of name ms) ≡ Some r → (reader_of name ms ≡ Some r → Sound r) → Sound r
-      by_test true k more = subst Sound (inside m.reader r k) s.0
+      by_test true k more = subst Sound (same_Some m.reader r k) s.0
       by_test false k more = more k
 
   part_fits : (name : List ℕ) (ms : List Named) (t : Ty) (x : Value) → MembersSound ms → part_read name ms t ≡ Some x → fits structs x t ≡ true
-  part_fits name ms t x s h = let p = chained (λ (r : Reader). r t) (reader_of name ms) x h in reader_sound name ms p.0 s p.1 t x p.2
+  part_fits name ms t x s h = let p = then_parts (λ (r : Reader). r t) (reader_of name ms) x h in reader_sound name ms p.0 s p.1 t x p.2
 
   pair_suits : (ms : List Named) (t u : Ty) (x : Value) → MembersSound ms → pair_read ms t u ≡ Some x → Suits (type.Pair t u) x
   pair_suits ms t u x s h =
-      let p = chosen (length ms == 2) (option_and_then (λ x. option_map (λ y. v.Pair x y) (part_read (codes "right") ms u)) (part_read (codes "left") ms t)) x h in
-      let q = chained (λ x. option_map (λ y. v.Pair x y) (part_read (codes "right") ms u)) (part_read (codes "left") ms t) x p.1 in
-      let r = mapped (λ y. v.Pair q.0 y) (part_read (codes "right") ms u) x q.2 in
+      let p = chosen_parts (length ms == 2) (option_and_then (λ x. option_map (λ y. v.Pair x y) (part_read (codes "right") ms u)) (part_read (codes "left") ms t)) x h in
+      let q = then_parts (λ x. option_map (λ y. v.Pair x y) (part_read (codes "right") ms u)) (part_read (codes "left") ms t) x p.1 in
+      let r = map_parts (λ y. v.Pair q.0 y) (part_read (codes "right") ms u) x q.2 in
       let a = and_parts (takes structs q.0 t) (keyed q.0) (part_fits (codes "left") ms t q.0 s q.1) in
       let b = and_parts (takes structs r.0 u) (keyed r.0) (part_fits (codes "right") ms u r.0 s r.1) in
       suits_of (type.Pair t u) x (v.Pair q.0 r.0) (ap Some r.2)
@@ -288,14 +267,14 @@ module _ (structs : Structs) where
   row_parts : (m : Named) (ms : List Named) (t u : Ty) (rows : List (MapRow Value)) → rows_read (m ∷ ms) t u ≡ Some rows
       → (k : Value) × (x : Value) × (more : List (MapRow Value)) × (key_read m.name t ≡ Some k) × (m.reader u ≡ Some x) × (rows_read ms t u ≡ Some more) × (record { key = k; value = x } ∷ more ≡ rows)
   row_parts m ms t u rows h =
-      let p = chained (λ k. option_and_then (λ x. option_map (λ rows. record { key = k; value = x } ∷ rows) (rows_read ms t u)) (m.reader u)) (key_read m.name t) rows h in
-      let q = chained (λ x. option_map (λ rows. record { key = p.0; value = x } ∷ rows) (rows_read ms t u)) (m.reader u) rows p.2 in
-      let r = mapped (λ rows. record { key = p.0; value = q.0 } ∷ rows) (rows_read ms t u) rows q.2 in
+      let p = then_parts (λ k. option_and_then (λ x. option_map (λ rows. record { key = k; value = x } ∷ rows) (rows_read ms t u)) (m.reader u)) (key_read m.name t) rows h in
+      let q = then_parts (λ x. option_map (λ rows. record { key = p.0; value = x } ∷ rows) (rows_read ms t u)) (m.reader u) rows p.2 in
+      let r = map_parts (λ rows. record { key = p.0; value = q.0 } ∷ rows) (rows_read ms t u) rows q.2 in
       (p.0, q.0, r.0, p.1, q.1, r.1, r.2)
 
   -- a key whose text stands before the others' is none of them
   no_key : (k : List ℕ) (x : Value) (ms : List Named) (t u : Ty) (rows : List (MapRow Value)) → text_of x ≡ k → before_all k ms ≡ true → rows_read ms t u ≡ Some rows → has_key x rows ≡ false
-  no_key k x [] t u rows text first h = ap (has_key x) (sym (inside [] rows h))
+  no_key k x [] t u rows text first h = ap (has_key x) (sym (same_Some [] rows h))
   no_key k x (m ∷ ms) t u rows text first h =
       let p = row_parts m ms t u rows h in
       let q = and_parts (is_before k m.name) (before_all k ms) first in
@@ -307,7 +286,7 @@ module _ (structs : Structs) where
       by_test false e h = refl
 
   rows_fit : (ms : List Named) (t u : Ty) (rows : List (MapRow Value)) → MembersSound ms → in_order ms ≡ true → rows_read ms t u ≡ Some rows → RowsFit rows t u
-  rows_fit [] t u rows s o h = subst (λ (rs : List (MapRow Value)). RowsFit rs t u) (inside [] rows h) (refl, refl, refl)
+  rows_fit [] t u rows s o h = subst (λ (rs : List (MapRow Value)). RowsFit rs t u) (same_Some [] rows h) (refl, refl, refl)
   rows_fit (m ∷ ms) t u rows s o h =
       let p = row_parts m ms t u rows h in
       let q = and_parts (before_all m.name ms) (in_order ms) o in
@@ -323,7 +302,7 @@ module _ (structs : Structs) where
 
   map_suits : (ms : List Named) (t u : Ty) (x : Value) → MembersSound ms → in_order ms ≡ true → map_read ms t u ≡ Some x → Suits (type.Map t u) x
   map_suits ms t u x s o h =
-      let p = mapped v.Map (rows_read ms t u) x h in
+      let p = map_parts v.Map (rows_read ms t u) x h in
       let f = rows_fit ms t u p.0 s o p.1 in
       let is = v.outs-Map p.0 in
       suits_of (type.Map t u) x (v.Map p.0) (ap Some p.2)
@@ -347,10 +326,10 @@ module _ (structs : Structs) where
       by_reader (Some r) is k = reader_sound d.name ms r s is d.ty x k
 
   fields_fit : (ms : List Named) (ds : List Member) (fs : List (Field Value)) → MembersSound ms → fields_read ms ds ≡ Some fs → FieldsFit fs ds
-  fields_fit ms [] fs s h = subst (λ (gs : List (Field Value)). FieldsFit gs []) (inside [] fs h) (refl, refl)
+  fields_fit ms [] fs s h = subst (λ (gs : List (Field Value)). FieldsFit gs []) (same_Some [] fs h) (refl, refl)
   fields_fit ms (d ∷ ds) fs s h =
-      let p = chained (λ x. option_map (λ fs. field_of d.name x ∷ fs) (fields_read ms ds)) (member_read ms d) fs h in
-      let q = mapped (λ gs. field_of d.name p.0 ∷ gs) (fields_read ms ds) fs p.2 in
+      let p = then_parts (λ x. option_map (λ fs. field_of d.name x ∷ fs) (fields_read ms ds)) (member_read ms d) fs h in
+      let q = map_parts (λ gs. field_of d.name p.0 ∷ gs) (fields_read ms ds) fs p.2 in
       let one = and_parts (takes structs p.0 d.ty) (keyed p.0) (member_fits ms d p.0 s p.1) in
       let more = fields_fit ms ds q.0 s q.1 in
       subst (λ (gs : List (Field Value)). FieldsFit gs (d ∷ ds)) q.2 (
@@ -369,8 +348,8 @@ module _ (structs : Structs) where
       by_members : (o : Option (List Member)) → members_of structs name ≡ o → struct_in name ms o ≡ Some x → Suits (type.Struct name) x
       by_members None is k = cc
       by_members (Some ds) is k =
-          let p = chosen (all_declared (names_of ms) ds) (option_map (v.Struct name) (fields_read ms ds)) x k in
-          let q = mapped (v.Struct name) (fields_read ms ds) x p.1 in
+          let p = chosen_parts (all_declared (names_of ms) ds) (option_map (v.Struct name) (fields_read ms ds)) x k in
+          let q = map_parts (v.Struct name) (fields_read ms ds) x p.1 in
           let f = fields_fit ms ds q.0 s q.1 in
           let known : takes_at structs (tests structs (layer.Struct name q.0)) (type.Struct name) ≡ true =
           and_from (bytes_eq name name) (takes_some q.0 (members_of structs name)) ((bytes_eq-Decides name name).1 refl) (ap (takes_some q.0) is ∙ f.0) in

@@ -1,6 +1,6 @@
 -- What is written for a value is read back.
 use Rattle.std.proofs.Common.{◌≡◌, ℕ, ℤ, pos, negsuc, Bool, true, false, not, cond, ◌&&◌, ◌||◌, List, [], ◌∷◌, map, Option, Some, None, option_map, option_and_then, Result, Ok, Err, Ordering, Less, Equal, Greater, nat_cmp, is_eq, bytes_eq, refl, sym, ap, ◌∙◌, subst}
-use Rattle.std.proofs.lemmas.Bool.{false≢true, true≢false, and_parts, and_from}
+use Rattle.std.proofs.lemmas.Bool.{false≢true, true≢false, and_parts, and_from, not-true}
 use Rattle.std.proofs.lemmas.Bool.Decides.{Decides-int_eq}
 use Rattle.std.proofs.lemmas.Cmp.{nat_list_cmp_total}
 use Rattle.std.proofs.lemmas.Fmt.{parse-signed_decimal}
@@ -35,10 +35,6 @@ use Rattle.json_values.specs.Reading.{Reader, reads, item_readers, member_reader
 use Rattle.json_values.specs.Writing.{Written, written, written_step, data_at, json_of, all_items, rows_put, fields_put, pair_members}
 use Rattle.json_values.proofs.JsonViews.{written_text}
 use Rattle.json_values.proofs.Numerals.{fits_mag, fits_word}
-
-negated : (b : Bool) → not b ≡ true → b ≡ false
-negated true h = absurd (false≢true h)
-negated false h = refl
 
 -- ---- decimals
 
@@ -76,10 +72,10 @@ int_given (pos n) h = ap (λ b. option_and_then int_of (cond b (Some (pos n)) No
 int_given (negsuc n) h = ap (λ b. cond b (Some (v.Int (negsuc n))) None) h
 
 str_given : (s : List ℕ) → not (has_nul s) ≡ true → str_of s ≡ Some (v.Str s)
-str_given s h = ap (λ b. cond b None (Some (v.Str s))) (negated (has_nul s) h)
+str_given s h = ap (λ b. cond b None (Some (v.Str s))) (not-true (has_nul s) h)
 
 file_given : (s : List ℕ) → not (has_nul s) ≡ true → file_of s ≡ Some (v.File s)
-file_given s h = ap (λ b. cond b None (Some (v.File s))) (negated (has_nul s) h)
+file_given s h = ap (λ b. cond b None (Some (v.File s))) (not-true (has_nul s) h)
 
 module _ (structs : Structs) where
   -- ---- scalars, at a type without question marks
@@ -328,7 +324,7 @@ module _ (structs : Structs) where
   got_before name [] ms h = refl
   got_before name (f ∷ fs) ms h =
       let p = and_parts (not (bytes_eq name f.name)) (is_new name (map field_form (first_fields Back fs))) h in
-      let other : name ≡ f.name → ⊥ = λ same. true≢false (sym ((bytes_eq-Decides name f.name).1 same) ∙ negated (bytes_eq name f.name) p.0) in
+      let other : name ≡ f.name → ⊥ = λ same. true≢false (sym ((bytes_eq-Decides name f.name).1 same) ∙ not-true (bytes_eq name f.name) p.0) in
       got_before name fs (put f.name (json_of f.value.0) ms) p.1 ∙ get_member-put_other name f.name (json_of f.value.0) ms other
 
   abbrev AllGot : Members → List (Field Child) → Type 0

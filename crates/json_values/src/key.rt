@@ -9,7 +9,8 @@ use std::alloc::Global;
 use wdl_base::{NoMemory, Text, TextFault};
 use wdl_value::{Ty, Value, bare_type, text_of};
 
-/// The text of a key: of a Bool, an Int, a Str or a File. A value of another kind, which is no key, has no bytes.
+/// The text of a key: of a Bool, an Int, a Str or a File. A value of another kind, which is no key,
+/// has no bytes.
 pub fn key_text(alloc: Global, key: &Value) -> Result<Text, NoMemory>
     ensures value { IfOk result (λ t. t ≡ value_text key.now) }
 {
@@ -55,7 +56,8 @@ fn bool_key(key: &str) -> Option<Value>
     }
 }
 
-/// The value of the type whose text the key is, if there is one: the type is Boolean, Int, String or File.
+/// The value of the type whose text the key is, if there is one: the type is Boolean, Int, String
+/// or File.
 pub fn key_value(alloc: Global, key: &str, t: &Ty) -> Result<Option<Value>, NoMemory>
     ensures value { IfOk result (λ o. o ≡ spec.key_read key.now t.now) }
 {

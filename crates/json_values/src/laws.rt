@@ -12,8 +12,9 @@ pub fn reads_fit()
     ensures law { ReadsFit }
 {}
 
-/// What is written for a value is read back as it at each type that it fits, where its texts hold no NUL, the keys of each
-/// map ascend by the bytes of their texts, and the names of a struct's members differ.
+/// What is written for a value is read back as it at each type that it fits, where its texts hold
+/// no NUL, the keys of each map ascend by the bytes of their texts, and the names of a struct's
+/// members differ.
 pub fn writings_are_read()
     ensures law { WritingsAreRead }
 {}

@@ -1,5 +1,5 @@
-//! Values of WDL as JSON: how they are written, and how JSON is read at a type (OpenWDL 1.1, "JSON Serialization of WDL
-//! Types").
+//! Values of WDL as JSON: how they are written, and how JSON is read at a type (OpenWDL 1.1, "JSON
+//! Serialization of WDL Types").
 #![tactic(auto)]
 
 mod declared;

@@ -15,8 +15,8 @@ use wdl_base::{Name, NoMemory};
 use wdl_names::Indexed;
 use wdl_value::{Field, MapRow, Member, StructDef, Ty, Value, bare_type};
 
-/// The value that JSON is at the type, where struct names are those of `structs`; none where it is no value of it. Its
-/// time is linear but for a logarithm.
+/// The value that JSON is at the type, where struct names are those of `structs`; none where it is
+/// no value of it. Its time is linear but for a logarithm.
 #[cycle(reading)]
 pub fn read_value(
     alloc: Global,

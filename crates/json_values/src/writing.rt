@@ -12,9 +12,10 @@ use std::alloc::Global;
 use wdl_base::NoMemory;
 use wdl_value::{Field, MapRow, Value};
 
-/// The value as JSON: a list is an array; a pair is an object with the members `left` and `right`; a map is an object
-/// with the texts of its keys; a struct is an object with its members; an undefined value is `null`. The members of an
-/// object are in byte order. Its time is linear but for a logarithm.
+/// The value as JSON: a list is an array; a pair is an object with the members `left` and `right`;
+/// a map is an object with the texts of its keys; a struct is an object with its members; an
+/// undefined value is `null`. The members of an object are in byte order. Its time is linear but
+/// for a logarithm.
 #[cycle(writing)]
 pub fn json_of(alloc: Global, value: &Value) -> Result<Json, NoMemory>
     ensures value { IfOk result (λ j. view j ≡ spec.json_of value.now) }

@@ -13,10 +13,11 @@ use wdl_value::Entry;
 /// The rows in the order of the bytes of the place and then of the attempt.
 const READ: &str = "SELECT place, attempt, body FROM entry ORDER BY place, attempt";
 
-/// A SQLite file and the log beside it, which no other process can open meanwhile. What a call changed is on the disk
-/// when the call returns, and stays there if the process is killed.
+/// A SQLite file and the log beside it, which no other process can open meanwhile. What a call
+/// changed is on the disk when the call returns, and stays there if the process is killed.
 ///
-/// No function outside this file holds a value of `sqlite`, so the drops of its types are proved once.
+/// No function outside this file holds a value of `sqlite`, so the drops of its types are proved
+/// once.
 pub struct Database {
     conn: Connection<FileStore<File>>,
 }

@@ -11,13 +11,14 @@ use std::rt::HostRuntime;
 use wdl_port::{KeepFault, Keeper};
 use wdl_value::{Entry, Text};
 
-/// A journal in a SQLite file, in the table `entry (place, attempt, body)`, whose bodies are the rows' texts. It does
-/// not tell its rows. A row that was put is on the disk, and no other process can open the file until the keeper is
-/// dropped.
+/// A journal in a SQLite file, in the table `entry (place, attempt, body)`, whose bodies are the
+/// rows' texts. It does not tell its rows. A row that was put is on the disk, and no other process
+/// can open the file until the keeper is dropped.
 ///
-/// It counts each refusal of the database for another cause than memory, and each row that is no row of a journal, is
-/// of another place or attempt than its body, or is out of order. A file that is no journal, or that another process
-/// has open, is such a fault; its tables are left as they are.
+/// It counts each refusal of the database for another cause than memory, and each row that is no
+/// row of a journal, is of another place or attempt than its body, or is out of order. A file that
+/// is no journal, or that another process has open, is such a fault; its tables are left as they
+/// are.
 pub struct SqlKeeper<'a> {
     rt: &'a HostRuntime,
     database: Option<Database>,

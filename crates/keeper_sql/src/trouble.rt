@@ -12,7 +12,8 @@ use wdl_value::NoMemory;
 /// Why a step of the keeper failed.
 #[derive(Clone, Copy, Debug, PartialEq, Eq)]
 pub enum Trouble {
-    /// What the keeper counts as a fault: the file cannot be opened, read or written, or is no journal.
+    /// What the keeper counts as a fault: the file cannot be opened, read or written, or is no
+    /// journal.
     Failed,
     NoMemory,
 }

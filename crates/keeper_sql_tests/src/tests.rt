@@ -1,5 +1,5 @@
-//! Journals in files: what is put is kept, old rows are rewritten, one keeper has a file alone, and a file that is no
-//! journal is left as it is.
+//! Journals in files: what is put is kept, old rows are rewritten, one keeper has a file alone, and
+//! a file that is no journal is left as it is.
 ghost use Rattle.std.specs.Prelude.{◌≡◌, None, false, OnOk, IsSome};
 ghost use Rattle.wdl_base.specs.Plain.{has_nul};
 
@@ -40,8 +40,8 @@ const ROW_AND_LATER: &str = "\
 /// Tables that are no journal's, one a line.
 const TABLES: &str = "CREATE TABLE note (id INTEGER)\nCREATE TABLE entry (id INTEGER)";
 
-/// Cases of rows that are no journal's, apart by semicolons: one with other members, the row in version 1 beside such a
-/// one, a row of another place, and a row of another attempt.
+/// Cases of rows that are no journal's, apart by semicolons: one with other members, the row in
+/// version 1 beside such a one, a row of another place, and a row of another attempt.
 const ROWS: &str = "\
 {\"v\":2};\
 {\"command\":\"echo hi\",\"dir\":\"/tmp/wdl-run/say\",\"err\":\"\",\"files\":[],\"out\":\"68690a\",\"place\":\"say\",\"status\":0,\"v\":1}\n\
@@ -92,8 +92,8 @@ impl From<std::io::Error> for Want {
 /// How many entries are put.
 const COUNT: u32 = 1_000;
 
-/// The row's text of the entry of that number in the order of a keeper: with four digits the order of numbers is that of
-/// texts.
+/// The row's text of the entry of that number in the order of a keeper: with four digits the order
+/// of numbers is that of texts.
 fn text(alloc: Global, item: u32, status: u8) -> Result<String, AllocError> {
     format!(in alloc;
         "{{\"attempt\":{},\"command\":\"\",\"dir\":\"/d\",\"err\":null,\"files\":[],\"laid\":[],\"out\":\"68690a\",\"place\":\"scatter-0/{}/say\",\"status\":{},\"v\":2}}",
@@ -181,7 +181,8 @@ fn a_thousand_entries_are_kept(rt: HostRuntime) -> Result<(), Fail> {
     Ok(fs::remove_dir_all(&rt, "kept")?)
 }
 
-/// Makes a database of a table, with a row of the place `say` for each of the bodies, one a line, from attempt 0 on.
+/// Makes a database of a table, with a row of the place `say` for each of the bodies, one a line,
+/// from attempt 0 on.
 fn make_database(rt: &HostRuntime, at: &str, table: &str, bodies: &str) -> Result<(), Want> {
     let mut database = Database::open(rt, at)?;
     database.execute(table, &[])?;

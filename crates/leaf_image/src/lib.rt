@@ -1,5 +1,5 @@
-//! Definitions: struct inputs of workflows, replaced by their leaves, the members that are no structs themselves; and the law
-//! that a body with leaves in their places gives what it gave.
+//! Definitions: struct inputs of workflows, replaced by their leaves, the members that are no
+//! structs themselves; and the law that a body with leaves in their places gives what it gave.
 #![tactic(auto)]
 
 mod laws;

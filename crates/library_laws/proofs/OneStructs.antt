@@ -19,7 +19,6 @@ use Rattle.wdl_imports.proofs.ReadLaws.{are_reached}
 use Rattle.wdl_links.specs.Circles.{AreReached}
 use Rattle.wdl_structs.specs.Faults.{IsSection}
 use Rattle.wdl_structs.proofs.IdentityLaws.{contained, is_first}
-use Rattle.wdl_structs.proofs.SeenLaws.{all_at}
 use Rattle.wdl_structs.proofs.StandLaws.{from_is}
 use Rattle.wdl_structs.proofs.StructLaws.{have_section}
 use Rattle.wdl_structs.proofs.UniqueLaws.{given_named}
@@ -27,6 +26,7 @@ use Rattle.library_laws.specs.Laws.{AreOne, OneStruct, SomeRelates, UnlikeAreApa
 use Rattle.library_laws.specs.Relations.{Agrees, AllRelated, MembersEqual, NamesRelated, Relation, knows_members, member_known, section_known, struct_names}
 use Rattle.library_laws.proofs.SeenSections.{is_seen, own_among, section_within, sees_same, sees_section}
 use Rattle.library_laws.proofs.TypesByNames.{same_written, written_same}
+use Rattle.wdl_base.proofs.Options.{all_at}
 
 -- ---- related sections have equal members
 

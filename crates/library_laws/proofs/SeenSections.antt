@@ -1,9 +1,10 @@
 -- The sections that a document sees under a name.
-use Rattle.std.proofs.Common.{◌≡◌, ℕ, zero, suc, ◌+◌, ◌<◌, ◌≤◌, true, ◌||◌, List, [], ◌∷◌, ◌++◌, map, length, slice_get, Option, Some, refl, sym, ap, ◌∙◌, subst, arith, inl, inr}
+use Rattle.std.proofs.Common.{◌≡◌, ℕ, zero, suc, ◌+◌, ◌<◌, ◌≤◌, true, ◌||◌, List, [], ◌∷◌, ◌++◌, length, Option, refl, sym, ap, ◌∙◌, subst, arith, inl, inr}
 use Rattle.std.specs.List.{list_all}
 use Rattle.std.specs.Str.{bytes_eq}
 use Rattle.std.proofs.lemmas.Bool.{false≢true, or_cases, or_left, or_right, cases_lt}
 use Rattle.std.proofs.lemmas.Slice.Eq.{bytes_eq-Decides}
+use Rattle.std.proofs.lemmas.Option.{none-some}
 use Rattle.wdl_base.specs.Names.{is_among}
 use Rattle.wdl_ast.specs.declared.document.Alias.{Alias}
 use Rattle.wdl_ast.specs.declared.document.StructSection.{StructSection}
@@ -19,19 +20,14 @@ use Rattle.wdl_structs.specs.Tables.{Names, imported_by, seen_by}
 use Rattle.wdl_structs.proofs.FinalLaws.{contains_at}
 use Rattle.wdl_structs.proofs.IdentityLaws.{agrees_at, along_at, contained, from_at, given_by}
 use Rattle.wdl_structs.proofs.NameLaws.{among_append, among_place}
-use Rattle.wdl_structs.proofs.NodeLaws.{none_some, some_same}
-use Rattle.wdl_structs.proofs.SeenLaws.{all_at, ends_at, get_some, get_within}
+use Rattle.wdl_structs.proofs.SeenLaws.{ends_at, get_within}
 use Rattle.wdl_structs.proofs.StandLaws.{from_is, seen_imported, seen_own}
 use Rattle.wdl_structs.proofs.StructLaws.{have_at, imported_name, once_among, own_section}
 use Rattle.wdl_structs.proofs.UniqueLaws.{past, seen_at}
 use Rattle.library_laws.specs.Relations.{Sees, SeesOver}
+use Rattle.wdl_base.proofs.Options.{map_there, item_there, all_at}
 
 -- ---- lists of names
-
-map_at : {A B : Type 0} (f : A → B) (xs : List A) (q : ℕ) (x : A) → slice_get xs q ≡ Some x → slice_get (map f xs) q ≡ Some (f x)
-map_at f [] q x h = absurd (none_some x h)
-map_at f (y ∷ ys) zero x h = ap (λ z. Some (f z)) (some_same y x h)
-map_at f (y ∷ ys) (suc q) x h = map_at f ys q x h
 
 all_have_it : (ns ms : Names) (n : List ℕ) → all_among ns ms ≡ true → is_among n ms ≡ true → is_among n ns ≡ true
 all_have_it ns ms n a h = let p = among_place n ms h in all_at (λ m. is_among m ns) ms p.0 n a p.1
@@ -46,7 +42,7 @@ given_has aliases (k ∷ ns) m n h g =
     ]
 
 pub section_within : (docs : List Doc) (k : ℕ) (s : StructSection) → IsSection docs k s → k < length docs
-section_within docs k s h = get_within docs k (λ e. none_some h.doc (sym e ∙ h.at))
+section_within docs k s h = get_within docs k (λ e. none-some h.doc (sym e ∙ h.at))
 
 pub sees_section : (docs : List Doc) (p : ℕ) (s : StructSection) (steps k : ℕ) (n : List ℕ) → SeesOver docs p s steps k n → IsSection docs p s
 sees_section docs p s zero k n h = h.2
@@ -60,7 +56,7 @@ module _ (docs : List Doc) (named : list_all (has_names docs) docs ≡ true) whe
       let q = contained (sections_of h.doc.document) s h.declared in
       ap (is_among s.name.name) (seen_at docs k h.doc named h.at)
       ∙ all_at (λ m. is_among m (seen_by (names_at docs) h.doc)) (own_names h.doc) q.0 s.name.name (seen_own (names_at docs) h.doc)
-      (map_at (λ (x : StructSection). x.name.name) (sections_of h.doc.document) q.0 s q.1)
+      (map_there (λ (x : StructSection). x.name.name) (sections_of h.doc.document) q.0 s q.1)
 
   sees_among : (p : ℕ) (s : StructSection) (steps k : ℕ) (n : List ℕ) → SeesOver docs p s steps k n → is_among n (names_at docs k) ≡ true
   sees_among p s zero k n h = ap (λ j. is_among n (names_at docs j)) h.0 ∙ ap (λ m. is_among m (names_at docs p)) (sym h.1) ∙ own_among p s h.2
@@ -97,7 +93,7 @@ module _ (docs : List Doc) (named : list_all (has_names docs) docs ≡ true) whe
   seen_within zero k n ends h = absurd (false≢true ends)
   seen_within (suc m) k n ends h = elim (cases_lt k (length docs)) as (λ c. SeesSome k n) [
     | inl w ↦
-        let d = get_some docs k w in
+        let d = item_there docs k w in
         let is = imports_of d.0.document in
         let ls = d.0.imports in
         let names = names_at docs in

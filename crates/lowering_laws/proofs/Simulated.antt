@@ -1,5 +1,6 @@
 -- What is written for a checked form means what the flow of the form gives.
 use Rattle.std.proofs.Common.{◌≡◌, ℕ, true, List, [], map, Option, Some, None, Contains, slice_get, arith, sym, ap, ◌∙◌, subst, refl}
+use Rattle.std.proofs.lemmas.Option.{same_Some}
 use Rattle.wdl_value.specs.declared.env.Bind.{Bind}
 use Rattle.wdl_value.specs.Tables.{Row}
 use Rattle.wdl_typed.specs.declared.flow.FlowDef.{FlowDef}
@@ -11,7 +12,7 @@ use Rattle.wdl_typed.specs.Journal.{inputs_fit}
 use Rattle.wdl_typed.specs.Kept.{flow_typed, is_checked}
 use Rattle.wdl_typed.specs.Scope.{lookup}
 use Rattle.flow_laws.specs.Laws.{run_with}
-use Rattle.flow_laws.proofs.Checked.{each_passes, kept}
+use Rattle.flow_laws.proofs.Checked.{kept}
 use Rattle.cwl_model.specs.Means.{Meaning}
 use Rattle.cwl_image.specs.Named.{names_are_names}
 use Rattle.cwl_image.specs.Subset.{in_subset}
@@ -27,7 +28,6 @@ use Rattle.record_laws.proofs.Marks.{main_marked, marked_reached}
 use Rattle.record_laws.proofs.Tables.{flow_at_mark, is_replaced}
 use Rattle.cwl_records.specs.Lowered.{Lowered, lowered_by, record_leaf, without_aliases}
 use Rattle.wide_formed.specs.Forms.{leaf_value, lowered_given, lowered_means, lowering}
-use Rattle.wide_formed.proofs.Elements.{some_same}
 use Rattle.wide_formed.proofs.Givens.{found}
 use Rattle.wide_formed.proofs.Mains.{inputs_differ, lowered_main, structs_kept}
 use Rattle.wide_formed.proofs.Meant.{lowered_simulates}
@@ -38,6 +38,7 @@ use Rattle.alias_laws.proofs.Whole.{aliases_lowered}
 use Rattle.lowering_laws.specs.Laws.{FormsSimulate}
 use Rattle.lowering_laws.proofs.Givens.{leaves_found}
 use Rattle.lowering_laws.proofs.Inputs.{flow_same}
+use Rattle.wdl_base.proofs.Options.{all_at}
 
 -- What means what the one flow gives means what the other one does.
 meant_twice : (f g : FlowDef) (a b : Flowing) (m : Meaning) → IsKept f g a b → IsMeant g b m → IsMeant f a m
@@ -68,8 +69,8 @@ module _ (lib : Library) (main : ℕ) (f : FlowDef) (given : List Bind) (site : 
       let again = still_checked lib main checked in
       let a = flow_at_mark plain_lib main r (is_replaced plain_lib main r e) main p at (marked_reached plain_flows main 0 main (omega arith) (main_marked plain_flows main p at)) in
       let own : leaves_at (slice_get r.leaves main) ≡ a.own = ap leaves_at a.there in
-      let typed = is_flow plain_lib p (each_passes (flow_typed plain_lib) plain_flows main p (kept plain_lib (Some main) again).flows at) in
-      let is_g : expanded_flow plain_flows r.leaves a.own p ≡ g = some_same (sym a.now_is ∙ there_g) in
+      let typed = is_flow plain_lib p (all_at (flow_typed plain_lib) plain_flows main p (kept plain_lib (Some main) again).flows at) in
+      let is_g : expanded_flow plain_flows r.leaves a.own p ≡ g = same_Some _ _ (sym a.now_is ∙ there_g) in
       let fit_p = ap (λ (is : List TInput). inputs_fit lib.structs is given) same ∙ fit in
       let l = leaves_found plain_lib p a.own (structs_kept lib (Some main) checked) typed a.are (inputs_differ plain_lib main p again at) given fit_p i (subst (λ (z : FlowDef). Contains z.inputs i) (sym is_g) c) in
       ap (λ (is : List TInput). lookup (given_leaves is (leaves_at (slice_get r.leaves main)) given) (plain_key i.name)) (sym same)
@@ -89,7 +90,7 @@ module _ (lib : Library) (main : ℕ) (f : FlowDef) (given : List Bind) (site : 
       let k = forms_lowered lib main f given site table checked there fit limits in
       let g : FlowDef = k.0 in
       let m = lowered_simulates lib main f given site table checked subset names there fit statuses in
-      let is_g : m.flow ≡ g = some_same (sym m.main_is ∙ k.1) in
+      let is_g : m.flow ≡ g = same_Some _ _ (sym m.main_is ∙ k.1) in
       let again : is_checked low (Some main) ≡ true = (lowered_main lib main f checked there).checked in
       let distinct = inputs_differ low main g again k.1 in
       let records = (lowering lib main).records in

@@ -2,8 +2,9 @@
 
 ghost use Rattle.lowering_laws.specs.Laws.{FormsSimulate};
 
-/// What is written for a checked form (CWL v1.2, Workflow) means what the flow of the form gives, as it was read: for inputs that fit, at
-/// any site, and for answers with statuses of processes whose files keep the limits of values, where the lowered form is in the subset.
+/// What is written for a checked form (CWL v1.2, Workflow) means what the flow of the form gives,
+/// as it was read: for inputs that fit, at any site, and for answers with statuses of processes
+/// whose files keep the limits of values, where the lowered form is in the subset.
 pub fn forms_simulated()
     ensures law { FormsSimulate }
 {}

@@ -1,4 +1,5 @@
-//! The law of simulation for checked forms with declarations that only give another name to a value, and with struct inputs.
+//! The law of simulation for checked forms with declarations that only give another name to a
+//! value, and with struct inputs.
 #![tactic(auto)]
 
 mod laws;

@@ -18,10 +18,11 @@ use Rattle.wdl_typed.specs.Bodies.{Library, body_gives, body_nests, flow_nests, 
 use Rattle.wdl_typed.specs.Declarations.{inputs_typed}
 use Rattle.wdl_typed.specs.Kept.{flow_names, flow_typed, inputs_seen, outputs_typed}
 use Rattle.wdl_typed.specs.Lists.{are_distinct}
-use Rattle.flow_laws.proofs.Checked.{each_passes, kept}
+use Rattle.flow_laws.proofs.Checked.{kept}
 use Rattle.net_laws.specs.Growing.{Form, Item, all, each, one, takes, tells, whole}
 use Rattle.net_laws.specs.Net.{Given, Scope}
 use Rattle.net_laws.specs.Roots.{IsCallable, IsRoot}
+use Rattle.wdl_base.proofs.Options.{all_at}
 
 module _ (lib : Library) where
   -- ---- one block or call less on each path within
@@ -120,5 +121,5 @@ module _ (lib : Library) where
       subst (IsCallable lib depth) (sym r.is) (record {
         most = 24;
         within = r.deep;
-        nests = body_kept r.flow (each_passes (flow_typed lib) lib.flows r.number r.flow (kept lib r.main r.checked).flows r.found);
+        nests = body_kept r.flow (all_at (flow_typed lib) lib.flows r.number r.flow (kept lib r.main r.checked).flows r.found);
       })

@@ -39,7 +39,7 @@ use Rattle.net_laws.proofs.Sets.{AllGiven, AllKnown, and_true, find_call_set, fi
 use Rattle.net_laws.proofs.Settles.{all_ended, all_valued, call_gives, call_settles, clean, declaration_settles, valued_is}
 use Rattle.net_laws.proofs.Shown.{shows_declaration, shows_next, shows_none}
 
-cons_parts : {A : Type 0} {x y : A} {xs ys : List A} → x ∷ xs ≡ y ∷ ys → (x ≡ y) × (xs ≡ ys)
+pub cons_parts : {A : Type 0} {x y : A} {xs ys : List A} → x ∷ xs ≡ y ∷ ys → (x ≡ y) × (xs ≡ ys)
 cons_parts e = ((cc), (cc))
 
 module _ (lib : Library) (site : List ℕ) (table : List Row) (desc : ℕ → Rule → Type 0) (st : State) where

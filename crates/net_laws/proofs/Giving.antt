@@ -1,5 +1,5 @@
 -- What statements give has their names, whatever they see.
-use Rattle.std.proofs.Common.{◌≡◌, ℕ, Bool, true, false, cond, List, [], ◌∷◌, ◌++◌, map, Some, Ok, Err, ap, refl, subst, sym, ◌∙◌}
+use Rattle.std.proofs.Common.{ℕ, Bool, true, false, cond, List, [], ◌∷◌, ◌++◌, map, Some, Ok, Err, ap, refl, subst, sym, ◌∙◌}
 use Rattle.wdl_base.specs.declared.name.Key.{Key}
 use Rattle.wdl_value.specs.declared.value.Value.{Value}
 use Rattle.wdl_value.specs.declared.value.Value.TheVariants as v
@@ -10,7 +10,7 @@ use Rattle.wdl_typed.specs.declared.flow.Statement.{Statement, Statement-F, fold
 use Rattle.wdl_typed.specs.declared.flow.Statement.TheOpen as layer
 use Rattle.wdl_typed.specs.Bodies.{Library}
 use Rattle.wdl_typed.specs.Evaluation.{value_of}
-use Rattle.wdl_typed.specs.Flow.{Callee, Flowing, Names, Part, Run, Runner, Sight, all_known, body_names, body_run, chosen, conditional, each_item, env_of, gathered_call, gathered_name, in_turn, missing, run_of_part, scattered, seeing, statement_step, together}
+use Rattle.wdl_typed.specs.Flow.{Callee, Flowing, Names, Part, Run, Runner, Sight, all_known, body_names, body_run, chosen, conditional, each_item, env_of, in_turn, missing, run_of_part, scattered, seeing, statement_step, together}
 use Rattle.wdl_typed.specs.Requests.{before}
 use Rattle.flow_laws.specs.Laws.{run_with}
 use Rattle.flow_laws.proofs.Called.{call_good}
@@ -19,16 +19,9 @@ use Rattle.flow_laws.proofs.KnownNames.{calls_of, keys_of}
 use Rattle.flow_laws.proofs.Longer.{below_itself}
 use Rattle.flow_laws.proofs.Under.{Gives, calls_append, giving_gives, keys_append, missing_gives}
 use Rattle.net_laws.specs.Planned.{part_of}
+use Rattle.flow_laws.proofs.Blocks.{gathered_keys, gathered_calls}
 
 -- ---- items
-
-gathered_keys : (fs : List Flowing) (ks : List Key) → keys_of (map (gathered_name fs) ks) ≡ ks
-gathered_keys fs [] = refl
-gathered_keys fs (k ∷ ks) = ap (λ (js : List Key). k ∷ js) (gathered_keys fs ks)
-
-gathered_calls : (fs : List Flowing) (cs : List (List ℕ)) → calls_of (map (gathered_call fs) cs) ≡ cs
-gathered_calls fs [] = refl
-gathered_calls fs (c ∷ cs) = ap (λ (ds : List (List ℕ)). c ∷ ds) (gathered_calls fs cs)
 
 scattered_gives : (n : Names) (body : Runner) (s : Sight) (k : ℕ) (item : List ℕ) (r : Outcome Value) → Gives n (scattered n body s k item r)
 scattered_gives n body s k item (Ok x) =

@@ -20,9 +20,7 @@ use Rattle.net_laws.specs.Net.{Mark, Slot, ended_in, find, find_call, known_in, 
 use Rattle.net_laws.specs.Growing.{AllEnding, AllGathered, Copied, Ending, Gathered, Item, MarksCopied, OutputsCopied, Rule, SlotsCopied, State, are_set, is_set}
 use Rattle.net_laws.proofs.Further.{keys_known}
 use Rattle.net_laws.proofs.Lookups.{ended_at, looked_up, value_at}
-
-cons_parts : {A : Type 0} {x y : A} {xs ys : List A} → x ∷ xs ≡ y ∷ ys → (x ≡ y) × (xs ≡ ys)
-cons_parts e = ((cc), (cc))
+use Rattle.net_laws.proofs.Finished.{cons_parts}
 
 unset_stays : (o p : Option Value) → o ≡ None → Stays o p
 unset_stays o p e x h = cc

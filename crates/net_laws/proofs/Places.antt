@@ -26,6 +26,7 @@ use Rattle.net_laws.specs.Askers.{Asker, askers}
 use Rattle.net_laws.specs.Growing.{Form, Growing, Rule, State, absent_input, all, default_input, each, each_scatter, failed_if, failed_scatter, false_if, flow_whole, given_input, item_next, left_call, left_decl, left_if, left_scatter, next, no_input, no_item, no_output, none_left, one, output_next, run_call, takes, tells, told_call, told_decl, true_if, whole}
 use Rattle.net_laws.specs.Net.{Scope}
 use Rattle.net_laws.specs.Roots.{IsRoot}
+use Rattle.flow_laws.proofs.Differing.{first_segment as first_same}
 
 -- ---- lists of calls
 
@@ -57,27 +58,27 @@ both_apart (q ∷ qs) rs a b cross = (
 
 -- ---- statements
 
-abbrev numbered : Statement → Numbered
+abbrev pub numbered : Statement → Numbered
 numbered = fold-Statement Numbered numbered_step
 
-abbrev scatters : List Numbered → List ℕ
+abbrev pub scatters : List Numbered → List ℕ
 scatters ns = append_numbers (map (λ (n : Numbered). n.scatter) ns)
 
-abbrev conditions : List Numbered → List ℕ
+abbrev pub conditions : List Numbered → List ℕ
 conditions ns = append_numbers (map (λ (n : Numbered). n.condition) ns)
 
 -- The names and numbers of the statements differ, and those of the bodies in them.
-record Differs (xs : List Statement) : Type 0 where
+pub record Differs (xs : List Statement) : Type 0 where
   pub names : are_distinct (all_declared xs) ≡ true
   pub scatters : numbers_differ (scatters (map numbered xs)) ≡ true
   pub conditions : numbers_differ (conditions (map numbered xs)) ≡ true
   pub inside : list_all (λ (n : Numbered). n.inside) (map numbered xs) ≡ true
 
-record OneDiffers (x : Statement) : Type 0 where
+pub record OneDiffers (x : Statement) : Type 0 where
   pub names : are_distinct (declared x) ≡ true
   pub inside : (numbered x).inside ≡ true
 
-abbrev Differ : Form → Type 0
+abbrev pub Differ : Form → Type 0
 Differ (one x s g d) = OneDiffers x
 Differ (all xs s g ds) = Differs xs
 Differ (each xs s k item i ys qs) = Differs xs
@@ -85,14 +86,14 @@ Differ (takes given is s g) = Unit {0}
 Differ (tells ds s g) = Unit {0}
 Differ (whole f given place g ds) = Differs f.body
 
-first_differs : (x : Statement) (xs : List Statement) → Differs (x ∷ xs) → OneDiffers x
+pub first_differs : (x : Statement) (xs : List Statement) → Differs (x ∷ xs) → OneDiffers x
 first_differs x xs h =
     record {
       names = names_left (declared x) (all_declared xs) h.names;
       inside = (and_parts (numbered x).inside (list_all (λ (n : Numbered). n.inside) (map numbered xs)) h.inside).0;
     }
 
-rest_differs : (x : Statement) (xs : List Statement) → Differs (x ∷ xs) → Differs xs
+pub rest_differs : (x : Statement) (xs : List Statement) → Differs (x ∷ xs) → Differs xs
 rest_differs x xs h =
     record {
       names = names_right (declared x) (all_declared xs) h.names;
@@ -119,20 +120,20 @@ names_of_layer x y e = fold_out-Statement (List (List ℕ)) names_step x ∙ ap 
 numbers_of_layer : (x : Statement) (y : Statement-F Statement) → out-Statement x ≡ y → numbered x ≡ numbered_step (map-Statement Statement Numbered numbered y)
 numbers_of_layer x y e = fold_out-Statement Numbered numbered_step x ∙ ap (λ (z : Statement-F Statement). numbered_step (map-Statement Statement Numbered numbered z)) e
 
-heads_of_layer : (x : Statement) (y : Statement-F Statement) → out-Statement x ≡ y → heads x ≡ heads_step (map-Statement Statement (List Segment) heads y)
+pub heads_of_layer : (x : Statement) (y : Statement-F Statement) → out-Statement x ≡ y → heads x ≡ heads_step (map-Statement Statement (List Segment) heads y)
 heads_of_layer x y e = fold_out-Statement (List Segment) heads_step x ∙ ap (λ (z : Statement-F Statement). heads_step (map-Statement Statement (List Segment) heads z)) e
 
-scatter_differs : (x : TScatter Statement) → OneDiffers (stmt.Scatter x) → Differs x.body
+pub scatter_differs : (x : TScatter Statement) → OneDiffers (stmt.Scatter x) → Differs x.body
 scatter_differs x h =
     body_differs x.body (ap are_distinct (sym (names_of_layer (stmt.Scatter x) (layer.Scatter x) (stmt.outs-Scatter x))) ∙ h.names)
     (ap (λ (n : Numbered). n.inside) (sym (numbers_of_layer (stmt.Scatter x) (layer.Scatter x) (stmt.outs-Scatter x))) ∙ h.inside)
 
-if_differs : (x : TIf Statement) → OneDiffers (stmt.If x) → Differs x.body
+pub if_differs : (x : TIf Statement) → OneDiffers (stmt.If x) → Differs x.body
 if_differs x h =
     body_differs x.body (ap are_distinct (sym (names_of_layer (stmt.If x) (layer.If x) (stmt.outs-If x))) ∙ h.names)
     (ap (λ (n : Numbered). n.inside) (sym (numbers_of_layer (stmt.If x) (layer.If x) (stmt.outs-If x))) ∙ h.inside)
 
-flow_differs : (f : FlowDef) → IsFlow f → Differs f.body
+pub flow_differs : (f : FlowDef) → IsFlow f → Differs f.body
 flow_differs f h =
     body_differs f.body (names_right (input_names f.inputs) (all_declared f.body) (names_left (input_names f.inputs ++ all_declared f.body) (decl_names f.outputs) h.distinct)) h.numbered
 
@@ -165,29 +166,29 @@ all_signs (x ∷ xs) h c = by_case (all_signs xs h) (Contains-append_cases (head
     by_case rest (inl d) = signed_left (declared x) (all_declared xs) (numbered x).scatter (scatters (map numbered xs)) (numbered x).condition (conditions (map numbered xs)) h (signs x h d)
     by_case rest (inr d) = signed_right (declared x) (all_declared xs) (numbered x).scatter (scatters (map numbered xs)) (numbered x).condition (conditions (map numbered xs)) h (rest d)
 
-heads_apart : (x : Statement) (xs : List Statement) → Differs (x ∷ xs) → Apart (heads x) (heads_all xs)
+pub heads_apart : (x : Statement) (xs : List Statement) → Differs (x ∷ xs) → Apart (heads x) (heads_all xs)
 heads_apart x xs d h i j =
     signed_apart (declared x) (all_declared xs) (numbered x).scatter (scatters (map numbered xs)) (numbered x).condition (conditions (map numbered xs)) d.names d.scatters d.conditions h (signs x h i) (all_signs xs h j)
 
 -- ---- places
 
 -- The place is this one and further segments, of which the first is one of these.
-abbrev Below : List Segment → List Segment → List Segment → Type 0
+abbrev pub Below : List Segment → List Segment → List Segment → Type 0
 Below place hs q = (h : Segment) × (rest : List Segment) × Contains hs h × (q ≡ place ++ h ∷ rest)
 
 -- the same of an item of a scatter from this one on
-abbrev BelowItem : List Segment → ℕ → ℕ → List Segment → Type 0
+abbrev pub BelowItem : List Segment → ℕ → ℕ → List Segment → Type 0
 BelowItem place k i q = (j : ℕ) × (i ≤ j) × (rest : List Segment) × (q ≡ place ++ segment.Scatter k ∷ segment.Index j ∷ rest)
 
-record Spread (place hs : List Segment) (qs : List Asker) : Type 0 where
+pub record Spread (place hs : List Segment) (qs : List Asker) : Type 0 where
   pub under : (q : Asker) → Contains qs q → Below place hs q.place
   pub apart : AllApart qs
 
-record SpreadItems (place : List Segment) (k i : ℕ) (qs : List Asker) : Type 0 where
+pub record SpreadItems (place : List Segment) (k i : ℕ) (qs : List Asker) : Type 0 where
   pub under : (q : Asker) → Contains qs q → BelowItem place k i q.place
   pub apart : AllApart qs
 
-abbrev Spreads : Form → List Asker → Type 0
+abbrev pub Spreads : Form → List Asker → Type 0
 Spreads (one x s g d) qs = Spread s.place (heads x) qs
 Spreads (all xs s g ds) qs = Spread s.place (heads_all xs) qs
 Spreads (each xs s k item i ys is) qs = SpreadItems s.place k i qs
@@ -195,11 +196,8 @@ Spreads (takes given is s g) qs = qs ≡ []
 Spreads (tells ds s g) qs = qs ≡ []
 Spreads (whole f given place g ds) qs = Spread place (heads_all f.body) qs
 
-nobody : (place hs : List Segment) → Spread place hs []
+pub nobody : (place hs : List Segment) → Spread place hs []
 nobody place hs = record { under = λ q c. absurd (none_within q c); apart = tt }
-
-first_same : (place : List Segment) (h g : Segment) (r s : List Segment) → place ++ h ∷ r ≡ place ++ g ∷ s → h ≡ g
-first_same place h g r s e = let f : h ∷ r ≡ g ∷ s = append_cancel_left place (h ∷ r) (g ∷ s) e in cc
 
 one_after : (place : List Segment) (h : Segment) (rest : List Segment) → (place ++ h ∷ []) ++ rest ≡ place ++ h ∷ rest
 one_after place h rest = append_assoc place (h ∷ []) rest
@@ -208,13 +206,13 @@ one_after place h rest = append_assoc place (h ∷ []) rest
 deeper : (place : List Segment) (g : Segment) (hs qs : List Segment) → Below (place ++ g ∷ []) hs qs → Below place (g ∷ []) qs
 deeper place g hs qs b = (g, b.0 ∷ b.1, (0, omega arith, refl), b.3 ∙ one_after place g (b.0 ∷ b.1))
 
-spread_deeper : (place : List Segment) (g : Segment) (hs : List Segment) (qs : List Asker) → Spread (place ++ g ∷ []) hs qs → Spread place (g ∷ []) qs
+pub spread_deeper : (place : List Segment) (g : Segment) (hs : List Segment) (qs : List Asker) → Spread (place ++ g ∷ []) hs qs → Spread place (g ∷ []) qs
 spread_deeper place g hs qs s = record { under = λ q c. deeper place g hs q.place (s.under q c); apart = s.apart }
 
-spread_same : (place hs gs : List Segment) (qs : List Asker) → hs ≡ gs → Spread place hs qs → Spread place gs qs
+pub spread_same : (place hs gs : List Segment) (qs : List Asker) → hs ≡ gs → Spread place hs qs → Spread place gs qs
 spread_same place hs gs qs e s = subst (λ (is : List Segment). Spread place is qs) e s
 
-spread_both : (place hs gs : List Segment) (qs rs : List Asker) → Apart hs gs → Spread place hs qs → Spread place gs rs → Spread place (hs ++ gs) (qs ++ rs)
+pub spread_both : (place hs gs : List Segment) (qs rs : List Asker) → Apart hs gs → Spread place hs qs → Spread place gs rs → Spread place (hs ++ gs) (qs ++ rs)
 spread_both place hs gs qs rs away a b =
     record {
       under = λ q c. by_case q (Contains-append_cases qs rs q c);
@@ -230,7 +228,7 @@ spread_both place hs gs qs rs away a b =
 
 -- ---- items
 
-items_below : (place : List Segment) (k i : ℕ) (qs : List Asker) → SpreadItems place k i qs → Spread place (segment.Scatter k ∷ []) qs
+pub items_below : (place : List Segment) (k i : ℕ) (qs : List Asker) → SpreadItems place k i qs → Spread place (segment.Scatter k ∷ []) qs
 items_below place k i qs s =
     record { under = λ q c. (let b = s.under q c in (segment.Scatter k, segment.Index b.0 ∷ b.2, (0, omega arith, refl), b.3)); apart = s.apart }
 
@@ -244,7 +242,7 @@ at_item place k i hs q b = (
   b.3 ∙ one_after (place ++ segment.Scatter k ∷ []) (segment.Index i) (b.0 ∷ b.1) ∙ one_after place (segment.Scatter k) (segment.Index i ∷ b.0 ∷ b.1),
 )
 
-items_both : (place : List Segment) (k i : ℕ) (hs : List Segment) (qs rs : List Asker) → Spread ((place ++ segment.Scatter k ∷ []) ++ segment.Index i ∷ []) hs qs → SpreadItems place k (i + 1) rs → SpreadItems place k i (qs ++ rs)
+pub items_both : (place : List Segment) (k i : ℕ) (hs : List Segment) (qs rs : List Asker) → Spread ((place ++ segment.Scatter k ∷ []) ++ segment.Index i ∷ []) hs qs → SpreadItems place k (i + 1) rs → SpreadItems place k i (qs ++ rs)
 items_both place k i hs qs rs a b =
     record {
       under = λ q c. by_case q (Contains-append_cases qs rs q c);
@@ -262,7 +260,7 @@ items_both place k i hs qs rs a b =
 
 -- ---- what grows
 
-nil_right : (qs : List Asker) → qs ++ [] ≡ qs
+pub nil_right : (qs : List Asker) → qs ++ [] ≡ qs
 nil_right [] = refl
 nil_right (q ∷ qs) = ap (λ (rs : List Asker). q ∷ rs) (nil_right qs)
 
@@ -313,7 +311,7 @@ module _ (lib : Library) (kept_ : IsKept lib) (site : List ℕ) (table : List Ro
   spread (flow_whole depth f given place i b o ds p q r) e =
       subst (Spread place (heads_all f.body)) (sym (ap (λ (qs : List Asker). (qs ++ asking q) ++ asking r) (spread p tt) ∙ ap (λ (qs : List Asker). asking q ++ qs) (spread r tt) ∙ nil_right (asking q))) (spread q e)
 
-apart_of : (f : Form) (qs : List Asker) → Spreads f qs → AllApart qs
+pub apart_of : (f : Form) (qs : List Asker) → Spreads f qs → AllApart qs
 apart_of (one x s g d) qs h = h.apart
 apart_of (all xs s g ds) qs h = h.apart
 apart_of (each xs s k item i ys is) qs h = h.apart

@@ -2,9 +2,10 @@
 use Rattle.std.proofs.Common.{◌≡◌, ℕ, suc, Bool, true, false, cond, ◌&&◌, ◌||◌, ◌⊎◌, inl, inr, List, [], ◌∷◌, ◌++◌, All, map, Option, Some, None, arith, sym, ap, ◌∙◌, subst, refl}
 use Rattle.std.specs.List.{list_all}
 use Rattle.std.specs.Str.{bytes_eq}
-use Rattle.std.proofs.lemmas.Bool.{and_from, and_left, and_parts, and_right, cases_Bool, false≢true, or_cases, true≢false}
+use Rattle.std.proofs.lemmas.Bool.{and_from, and_left, and_parts, and_right, cases_Bool, false≢true, or_cases, true≢false, or_right}
 use Rattle.std.proofs.lemmas.List.Folds.{list_all-append}
 use Rattle.std.proofs.lemmas.Slice.Eq.{bytes_eq-Decides}
+use Rattle.std.proofs.lemmas.Option.{same_Some}
 use Rattle.wdl_base.specs.declared.name.Key.{Key}
 use Rattle.wdl_value.specs.declared.value.Value.{Value}
 use Rattle.wdl_typed.specs.declared.expr.TExpr.{TExpr}
@@ -26,13 +27,6 @@ none_of (Some x) h = absurd (true≢false h)
 pub and_true : (b : Bool) → b && true ≡ b
 and_true true = refl
 and_true false = refl
-
-pub or_right : (b c : Bool) → c ≡ true → b || c ≡ true
-or_right true c h = refl
-or_right false c h = h
-
-some_same : {A : Type 0} {a b : A} → Some a ≡ Some b → a ≡ b
-some_same h = cc
 
 picked : (x : Value) (o : Option Value) (b c : Bool) → b || c ≡ true → (c ≡ true → is_some o ≡ true) → is_some (cond b (Some x) o) ≡ true
 picked x o true c j rest = refl
@@ -73,7 +67,7 @@ module _ (cells : Cells) where
       go (same_key s.key key) e p.0 (find_set ss p.1 key c)
     where
       go : (b : Bool) → cond b (Some s.cell) (find ss key) ≡ Some c → is_set s.cell ≡ true → (find ss key ≡ Some c → is_set c ≡ true) → is_set c ≡ true
-      go true i q rest = subst (λ n. is_set n ≡ true) (some_same i) q
+      go true i q rest = subst (λ n. is_set n ≡ true) (same_Some _ _ i) q
       go false i q rest = rest i
 
   pub find_call_set : (ms : List Mark) → marks_set ms ≡ true → (call : List ℕ) (c : ℕ) → find_call ms call ≡ Some c → is_set c ≡ true
@@ -83,7 +77,7 @@ module _ (cells : Cells) where
       go (bytes_eq m.call call) e p.0 (find_call_set ms p.1 call c)
     where
       go : (b : Bool) → cond b (Some m.cell) (find_call ms call) ≡ Some c → is_set m.cell ≡ true → (find_call ms call ≡ Some c → is_set c ≡ true) → is_set c ≡ true
-      go true i q rest = subst (λ n. is_set n ≡ true) (some_same i) q
+      go true i q rest = subst (λ n. is_set n ≡ true) (same_Some _ _ i) q
       go false i q rest = rest i
 
   pub resolved_set : (all ns : List Slot) → slots_set all ≡ true → Resolved all ns → slots_set ns ≡ true

@@ -1,9 +1,9 @@
 -- A call that was asked is that of a statement of the plan.
 use Rattle.wdl_base.specs.declared.place.Segment.{Segment}
 use Rattle.wdl_base.specs.declared.place.Segment.TheVariants as segment
-use Rattle.std.proofs.Common.{◌≡◌, ◌<◌, ◌≤◌, ◌+◌, ℕ, zero, suc, Bool, true, false, List, [], ◌∷◌, ◌++◌, All, map, length, get_or, Option, Some, None, slice_get, arith, ap, refl, subst, sym, ◌∙◌}
+use Rattle.std.proofs.Common.{◌≡◌, ◌<◌, ◌+◌, ℕ, Bool, true, false, List, [], ◌∷◌, ◌++◌, All, map, length, get_or, Option, Some, None, slice_get, arith, ap, refl, subst, sym, ◌∙◌}
 use Rattle.std.proofs.lemmas.Bool.{true≢false}
-use Rattle.std.proofs.lemmas.Option.{slice_get_within}
+use Rattle.std.proofs.lemmas.Option.{slice_get_within, same_Some}
 use Rattle.wdl_value.specs.declared.env.Bind.{Bind}
 use Rattle.wdl_value.specs.Tables.{Row}
 use Rattle.wdl_typed.specs.declared.flow.Statement.{Statement, Statement-F, out-Statement}
@@ -47,23 +47,9 @@ use Rattle.plan_may.specs.May.{HasInputs, last_base}
 use Rattle.plan_may.proofs.Statements.{LineLaid, last_base_at, line_laid, runs_of, task_keys}
 use Rattle.plan_arrives.specs.Arrivals.{SetsCells}
 use Rattle.plan_arrives.specs.Concluding.{CallsConclude, Concludes}
+use Rattle.wdl_base.proofs.Options.{item_there}
 
 -- ---- what a rule is
-
-some_same : {A : Type 0} {x y : A} → Some x ≡ Some y → x ≡ y
-some_same e = cc
-
-element_at : {A : Type 0} (xs : List A) (i : ℕ) → i < length xs → (x : A) × (slice_get xs i ≡ Some x)
-element_at {A = A} xs i lt = by_element (slice_get xs i) refl (slice_get_none xs i)
-  where
-    slice_get_none : (ys : List A) (n : ℕ) → slice_get ys n ≡ None → length ys ≤ n
-    slice_get_none [] n h = omega arith
-    slice_get_none (y ∷ ys) zero h = absurd (let f : ⊥ = cc in f)
-    slice_get_none (y ∷ ys) (suc n) h = let le = slice_get_none ys n h in omega (arith, le)
-
-    by_element : (o : Option A) → slice_get xs i ≡ o → (slice_get xs i ≡ None → length xs ≤ i) → (x : A) × (slice_get xs i ≡ Some x)
-    by_element None e past = let le = past e in absurd (omega (arith, lt, le))
-    by_element (Some x) e past = (x, e)
 
 abbrev is_does : net.Rule → Bool
 is_does (does x s g d) = true
@@ -195,19 +181,19 @@ module _ (lib : Library) (layout : Layout) (site : List ℕ) (rows : List Row) (
     n = call_names lib x
 
     is_call : out-Statement means.statement ≡ layer.Call x
-    is_call = some_same (sym (ap rule_layer means.means) ∙ ap (λ (y : Statement-F Statement). Some y) (stmt.outs-Call x))
+    is_call = same_Some _ _ (sym (ap rule_layer means.means) ∙ ap (λ (y : Statement-F Statement). Some y) (stmt.outs-Call x))
 
     statement_is : means.statement ≡ stmt.Call x
-    statement_is = sym (some_same (ap rule_statement means.means))
+    statement_is = sym (same_Some _ _ (ap rule_statement means.means))
 
     place_is : c.place ≡ means.instance.place ++ segment.Call x.name ∷ []
-    place_is = q.place ∙ ap (λ (p : List Segment). p ++ segment.Call x.name ∷ []) (some_same (ap rule_place means.means))
+    place_is = q.place ∙ ap (λ (p : List Segment). p ++ segment.Call x.name ∷ []) (same_Some _ _ (ap rule_place means.means))
 
     given_is : q.given ≡ given_by bases a n
-    given_is = some_same (ap rule_given means.means) ∙ ap (λ (y : Statement-F Statement). given_by bases a (given_at lib y)) is_call
+    given_is = same_Some _ _ (ap rule_given means.means) ∙ ap (λ (y : Statement-F Statement). given_by bases a (given_at lib y)) is_call
 
     done_is : q.done ≡ base_at bases a + l.done
-    done_is = some_same (ap rule_done means.means)
+    done_is = same_Some _ _ (ap rule_done means.means)
 
     line_here : LineLaid lib a l (layer.Call x)
     line_here = subst (LineLaid lib a l) is_call (line_laid lib means.body.flow means.flow.body layout.bodies means.statement a l means.laid)
@@ -302,8 +288,8 @@ module _ (lib : Library) (layout : Layout) (site : List ℕ) (rows : List Row) (
       let lt = slice_get_within rules t m q.rule in
       let even = growing.even.rules_too in
       let codes = growing.even.codes in
-      let w = element_at v.steps t (omega (arith, lt, even)) in
-      let r = element_at v.rules t (omega (arith, lt, even, codes)) in
+      let w = item_there v.steps t (omega (arith, lt, even)) in
+      let r = item_there v.rules t (omega (arith, lt, even, codes)) in
       by_rule r.0 w.0.needs r.1 (growing.stands t r.0 w.0 m r.1 w.1 q.rule).means
 
 pub conclude : CallsConclude

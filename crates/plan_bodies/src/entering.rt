@@ -4,7 +4,12 @@ ghost use Rattle.std.specs.Prelude.{◌≡◌, ◌++◌, ◌∷◌, [], ◌+◌,
 ghost use Rattle.value_net.specs.Nets.{IsSound, view, with_step};
 ghost use Rattle.plan_growth.specs.Entering as entering;
 ghost use Rattle.plan_bodies.specs.Plots.{cell_count, plot};
-ghost use Rattle.plan_room.specs.Reached.{AreDonesNumbers, AreReached, AreStatementsReached, HasRoom};
+ghost use Rattle.plan_room.specs.Reached.{
+  AreDonesNumbers,
+  AreReached,
+  AreStatementsReached,
+  HasRoom,
+};
 
 use crate::address::cells_of;
 use crate::entered::{Entered, Net};

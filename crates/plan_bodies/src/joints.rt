@@ -1,11 +1,32 @@
 //! Cells that are made of others: gathered names, calls that ended at each item, and what is inside
 //! a block under its name outside.
 
-ghost use Rattle.std.specs.Prelude.{◌≡◌, ◌∷◌, [], ◌+◌, ◌<◌, ◌≤◌, ◌^◌, true, ℕ, Some, map, length, IfOk, OnOk};
+ghost use Rattle.std.specs.Prelude.{
+  ◌≡◌,
+  ◌∷◌,
+  [],
+  ◌+◌,
+  ◌<◌,
+  ◌≤◌,
+  ◌^◌,
+  true,
+  ℕ,
+  Some,
+  map,
+  length,
+  IfOk,
+  OnOk,
+};
 ghost use Rattle.wdl_value.specs.declared.value.Value.TheVariants as kind;
 ghost use Rattle.wdl_typed.specs.Flow.{all_values};
 ghost use Rattle.value_net.specs.Nets.{IsSound, are_set, is_set, value_at, view, with_value};
-ghost use Rattle.plan_growth.specs.Entering.{beyond_each, with_absent, with_copies, with_ends, with_gathers};
+ghost use Rattle.plan_growth.specs.Entering.{
+  beyond_each,
+  with_absent,
+  with_copies,
+  with_ends,
+  with_gathers,
+};
 ghost use Rattle.plan_bodies.specs.Joined.{AreFollowed, AreNumbers, IsCopied, IsGathered, needs_at};
 ghost use Rattle.plan_bodies.specs.Plots.{cell_count};
 

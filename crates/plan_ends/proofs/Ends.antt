@@ -1,5 +1,5 @@
 -- Where no step of a plan is ready, it ends as its flow from scratch.
-use Rattle.std.proofs.Common.{◌≡◌, ◌≤◌, ℕ, suc, ◌+◌, Bool, ◌&&◌, is_some, length, slice_get, None, [], ◌∷◌, ap, refl, List, Option, Some, arith, sym, subst, ◌∙◌}
+use Rattle.std.proofs.Common.{◌≡◌, ◌≤◌, ℕ, suc, ◌+◌, slice_get, List, Option, Some, arith, sym, subst, ◌∙◌}
 use Rattle.wdl_base.specs.declared.fault.Fault.{Fault}
 use Rattle.wdl_typed.specs.declared.flow.FlowDef.{FlowDef}
 use Rattle.wdl_typed.specs.Flow.{flow}
@@ -8,39 +8,17 @@ use Rattle.flow_laws.specs.Laws.{run_with}
 use Rattle.net_laws.specs.Cost.{TaskCost, flow_cost, flow_cost_at}
 use Rattle.net_laws.specs.Works.{evaluated}
 use Rattle.net_laws.proofs.Spent.{within as spent_within}
-use Rattle.wdl_value.specs.declared.value.Value.{Value}
 use Rattle.wdl_base.specs.declared.place.Segment.{Segment}
 use Rattle.wdl_value.specs.declared.env.Bind.{Bind}
 use Rattle.wdl_value.specs.Tables.{Row}
 use Rattle.wdl_typed.specs.Bodies.{Library}
-use Rattle.wdl_typed.specs.KnownTypes as known
-use Rattle.value_net.specs.Nets as net
-use Rattle.value_net.specs.Nets.{AllStuck, value_at}
 use Rattle.net_laws.specs.Growing as growing
-use Rattle.net_laws.specs.Growing.{are_set}
-use Rattle.plan_moves.specs.Sheets.{Sheet, needs_in, rules_of, state_of, taken_in}
-use Rattle.plan_moves.proofs.Kept.{there_too}
+use Rattle.plan_moves.specs.Sheets.{rules_of, state_of}
 use Rattle.plan_lists.specs.Lists.{JobTest, Listed, Same}
-use Rattle.plan_lists.proofs.Ends.{ends}
+use Rattle.plan_lists.proofs.Ends.{ends, stuck_too}
 use Rattle.plan_lists.proofs.Steps.{works}
 use Rattle.plan_growth.specs.Growth.{growth_work, sheet_of}
 use Rattle.plan_ends.specs.Ends.{GrowthsEnd}
-
--- ---- nothing is ready
-
-set_same : (o : Option Value) → known.is_some o ≡ is_some o
-set_same None = refl
-set_same (Some x) = refl
-
-cells_same : (b : Sheet) (owners : List ℕ) (cs : List ℕ) → are_set (state_of b owners) cs ≡ net.are_set b.values cs
-cells_same b owners [] = refl
-cells_same b owners (c ∷ cs) =
-    ap (λ (t : Bool). t && are_set (state_of b owners) cs) (set_same (value_at b.values c)) ∙ ap (λ (t : Bool). net.is_set b.values c && t) (cells_same b owners cs)
-
-stuck_too : (lib : Library) (site : List ℕ) (rows : List Row) (b : Sheet) (owners : List ℕ) → length b.rules ≡ length b.steps → AllStuck b → growing.AllStuck lib site rows (rules_of b) (state_of b owners)
-stuck_too lib site rows b owners pairs stuck t r left =
-    let w = there_too b.rules b.steps t r pairs left.rule in
-    ap (are_set (state_of b owners)) (ap needs_in w.1) ∙ cells_same b owners w.0.needs ∙ stuck t w.0 w.1 (sym (ap taken_in w.1) ∙ left.left)
 
 -- ---- the end
 

@@ -1,6 +1,6 @@
 -- Steps that are added behind the others.
 use Rattle.std.proofs.Common.{◌≡◌, ℕ, zero, suc, ◌+◌, ◌<◌, ◌≤◌, ◌⊎◌, inl, inr, Bool, cond, List, [], ◌∷◌, ◌++◌, map, append_assoc, length, Some, slice_get, arith, sym, ap, ◌∙◌, subst, refl}
-use Rattle.std.proofs.lemmas.Bool.{eq-eqb, ne_eqb}
+use Rattle.std.proofs.lemmas.Bool.{eq-eqb}
 use Rattle.std.proofs.lemmas.List.{length-append, map-append}
 use Rattle.wdl_typed.specs.Bodies.{Library}
 use Rattle.step_net.specs.Views.{Wants}
@@ -15,6 +15,7 @@ use Rattle.plan_growth.specs.Begun.{hits}
 use Rattle.plan_growth.specs.Entering.{Sown}
 use Rattle.plan_growth.specs.News.{AllStand, New, Stands, new_code, new_means, new_wants, with_news}
 use Rattle.plan_growth.proofs.Lists.{get_at, get_left, get_split}
+use Rattle.plan_moves.proofs.Kept.{hit_other as miss}
 
 -- ---- one list of steps behind another
 
@@ -132,9 +133,6 @@ hits_length v k t (x ∷ xs) (y ∷ ys) e = ap (λ (n : ℕ). hit v k t + n) (hi
 pub hits_both : {A : Type 0} (v k t u : ℕ) (xs ys : List A) → u ≡ t + length xs → hits v k t (xs ++ ys) ≡ hits v k t xs + hits v k u ys
 hits_both v k t u [] ys e = let same : t ≡ u = omega (arith, e) in ap (λ (n : ℕ). hits v k n ys) same ∙ omega arith
 hits_both v k t u (x ∷ xs) ys e = let rest = hits_both v k (t + 1) u xs ys (omega (arith, e)) in omega (arith, rest)
-
-miss : (v k t : ℕ) → (v ≡ t → ⊥) → hit v k t ≡ 0
-miss v k t n = ap (λ (b : Bool). cond b k 0) (ne_eqb t v (λ e. n (sym e)))
 
 -- Steps before these and behind them have none.
 pub hits_before : {A : Type 0} (v k t : ℕ) (xs : List A) → v < t → hits v k t xs ≡ 0

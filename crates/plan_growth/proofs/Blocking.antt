@@ -1,7 +1,7 @@
 -- Blocks: a plan goes on growing.
 use Rattle.std.proofs.Common.{◌≡◌, ℕ, zero, suc, ◌+◌, ◌*◌, ◌<◌, ◌≤◌, ◌⊎◌, inl, inr, suc-mul, zero-mul, true, false, List, [], ◌∷◌, ◌++◌, All, map, length, Option, Some, None, Ok, Err, codes, slice_get, slice_set, arith, sym, ap, ◌∙◌, subst, refl}
 use Rattle.std.proofs.lemmas.List.{length-set}
-use Rattle.std.proofs.lemmas.Option.{slice_get_within}
+use Rattle.std.proofs.lemmas.Option.{slice_get_within, same_Some}
 use Rattle.wdl_base.specs.declared.fault.EvalCode.{EvalCode}
 use Rattle.wdl_base.specs.declared.place.Segment.{Segment}
 use Rattle.wdl_base.specs.declared.place.Segment.TheVariants as segment
@@ -59,7 +59,7 @@ use Rattle.plan_growth.proofs.Outer.{all_left, all_right, calls_at, names_at}
 use Rattle.plan_growth.proofs.Runs.{marks_run, slots_run}
 use Rattle.plan_growth.proofs.Scatters as scatter
 use Rattle.plan_growth.proofs.Standing.{lines_length}
-use Rattle.plan_growth.proofs.Setting.{SetsOwn, StepAt, goes_moved, once_at, same_inside, sets_more, sets_moves, sets_none, step_at}
+use Rattle.plan_growth.proofs.Setting.{SetsOwn, StepAt, goes_moved, once_at, sets_more, sets_moves, sets_none, step_at}
 
 -- what the items of a scatter come to
 items_counted : (lib : Library) (layout : Layout) (number : ℕ) (bl : BodyLayout) (flow : FlowDef) (ss : List Statement) (outer path : List ℕ) (splace : List Segment) (k : ℕ) (item : List ℕ) (a : Stand) (m : ℕ) → length ss ≡ m
@@ -193,7 +193,7 @@ module _ (lib : Library) (layout : Layout) (site : List ℕ) (rows : List Row) (
         → (let p : Plot = with_scatter q.bases (q.place ++ segment.Scatter x.number ∷ []) inner l (last_base q.bases) (items_in y) (record { net = w; instances = is }) in
         IsGrowing lib layout site rows depth form p.net p.instances later asked later_paid)
     scatter_goes inner inner_there y is_ later lists later_paid pays =
-        let same_inner : lay.inner ≡ inner = same_inside (sym lay.there ∙ inner_there) in
+        let same_inner : lay.inner ≡ inner = same_Some _ _ (sym lay.there ∙ inner_there) in
         let same_base = base_same q.bases h.stand h.depth in
         let lines : length lay.inner.statements ≡ length x.body = lines_length lib 0 [] [] body.flow flow.body layout.bodies lay.body.statements in
         let work_is = items_counted lib layout l.inner lay.inner flow x.body q.bases (h.stand.path ++ h.stand.index ∷ []) q.place x.number x.item h.stand (length lay.inner.statements) (sym lines) (items_in y) in
@@ -459,7 +459,7 @@ module _ (lib : Library) (layout : Layout) (site : List ℕ) (rows : List Row) (
         → Lists later (counted (length inner.statements) no_work) → (later_paid : TaskCost → ℕ) → ((task : TaskCost) → later_paid task ≤ paid task + 1)
         → (let p : Plot = with_condition q.bases (q.place ++ segment.If x.number ∷ []) inner l (last_base q.bases) (record { net = w; instances = is }) in IsGrowing lib layout site rows depth form p.net p.instances later asked later_paid)
     if_on inner inner_there y is_ok on later lists later_paid pays =
-        let same_inner : ilay.inner ≡ inner = same_inside (sym ilay.there ∙ inner_there) in
+        let same_inner : ilay.inner ≡ inner = same_Some _ _ (sym ilay.there ∙ inner_there) in
         let lines : length ilay.inner.statements ≡ length x.body = lines_length lib 0 [] [] body.flow flow.body layout.bodies ilay.body.statements in
         subst (λ (z : BodyLayout). Lists later (counted (length z.statements) no_work)
         → (let p : Plot = with_condition q.bases (q.place ++ segment.If x.number ∷ []) z l (last_base q.bases) (record { net = w; instances = is }) in IsGrowing lib layout site rows depth form p.net p.instances later asked later_paid))

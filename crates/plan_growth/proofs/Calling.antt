@@ -3,7 +3,7 @@ use Rattle.std.proofs.lemmas.Bool.{and_parts}
 use Rattle.plan_growth.proofs.Seen.{named_by}
 use Rattle.std.proofs.Common.{◌≡◌, ℕ, zero, suc, ◌+◌, ◌<◌, ◌≤◌, ◌⊎◌, inl, inr, Bool, true, false, cond, ◌&&◌, List, [], ◌∷◌, ◌++◌, All, map, length, Option, Some, None, Ok, Err, slice_get, arith, sym, ap, ◌∙◌, subst, refl}
 use Rattle.std.specs.List.{list_all}
-use Rattle.std.proofs.lemmas.Option.{slice_get_within}
+use Rattle.std.proofs.lemmas.Option.{slice_get_within, same_Some}
 use Rattle.wdl_base.specs.declared.place.Segment.{Segment}
 use Rattle.wdl_base.specs.declared.place.Segment.TheVariants as segment
 use Rattle.wdl_base.specs.declared.answer.Answer.{Answer}
@@ -67,7 +67,7 @@ use Rattle.plan_growth.proofs.Alike.{calls_alike, names_alike}
 use Rattle.plan_growth.proofs.Goes.{goes_asked, goes_on}
 use Rattle.plan_growth.proofs.Outer.{all_left, all_right, calls_at, names_at}
 use Rattle.plan_growth.proofs.Runs.{marks_run, slots_run}
-use Rattle.plan_growth.proofs.Setting.{SetsOwn, StepAt, once_at, same_inside, sets_moves, sets_none, step_at}
+use Rattle.plan_growth.proofs.Setting.{SetsOwn, StepAt, once_at, sets_moves, sets_none, step_at}
 
 -- the first attempt of a call waits where no answer is there
 first_waits : (lib : Library) (site : List ℕ) (rows : List Row) (n : Names) (place : List Segment) (y : TaskDef) (call : List ℕ) (a : Asked) (retries : ℕ) → answer_at rows place 0 ≡ None
@@ -306,7 +306,7 @@ module _ (lib : Library) (layout : Layout) (site : List ℕ) (rows : List Row) (
   module _ (c : ℕ) (is_flow : x.target ≡ target.Flow c) (f : FlowDef) (flow_there : slice_get lib.flows c ≡ Some f) (fl : FlowLayout) (fl_there : slice_get layout.flows c ≡ Some fl) (own : BodyLayout)
       (own_there : slice_get layout.bodies fl.body ≡ Some own) (sees : FlowSees lib f) (args : List Bind) (met : args_met (own_binds v q.bases l.needs) x.args ≡ Ok args) where
     flow_is : IsLaidAs (Sees lib) lib layout.bodies c f fl
-    flow_is = let z = g.laid.flows c f flow_there in subst (λ (y : FlowLayout). IsLaidAs (Sees lib) lib layout.bodies c f y) (same_inside (sym z.there ∙ fl_there)) z.laid
+    flow_is = let z = g.laid.flows c f flow_there in subst (λ (y : FlowLayout). IsLaidAs (Sees lib) lib layout.bodies c f y) (same_Some _ _ (sym z.there ∙ fl_there)) z.laid
 
     entered : (later : Work) → Lists later (counted (length f.body) no_work) → (later_paid : TaskCost → ℕ) → ((task : TaskCost) → later_paid task ≤ paid task + length x.args)
         → (let p : Plot = with_call f args place fl flow_is.body l base (record { net = w; instances = is }) in IsGrowing lib layout site rows depth form p.net p.instances later asked_steps later_paid)
@@ -338,6 +338,6 @@ module _ (lib : Library) (layout : Layout) (site : List ℕ) (rows : List Row) (
         → (let p : Plot = with_call f args place fl own l (last_base q.bases) (record { net = w; instances = is }) in IsGrowing lib layout site rows depth form p.net p.instances later asked_steps later_paid)
     flow_goes later lists later_paid pays =
         subst (λ (z : BodyLayout). let p : Plot = with_call f args place fl z l (last_base q.bases) (record { net = w; instances = is }) in IsGrowing lib layout site rows depth form p.net p.instances later asked_steps later_paid)
-        (same_inside (sym flow_is.there ∙ own_there))
+        (same_Some _ _ (sym flow_is.there ∙ own_there))
         (subst (λ (z : ℕ). let p : Plot = with_call f args place fl flow_is.body l z (record { net = w; instances = is }) in IsGrowing lib layout site rows depth form p.net p.instances later asked_steps later_paid)
         (base_same q.bases h.stand h.depth) (entered later lists later_paid pays))

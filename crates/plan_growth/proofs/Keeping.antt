@@ -3,7 +3,7 @@ use Rattle.std.proofs.Common.{◌≡◌, ℕ, ◌+◌, ◌-◌, ◌≤◌, true,
 use Rattle.std.specs.List.{list_all}
 use Rattle.std.proofs.lemmas.Bool.{and_from, and_parts}
 use Rattle.std.proofs.lemmas.List.Elements.{All-head}
-use Rattle.std.proofs.lemmas.Option.{slice_get_within}
+use Rattle.std.proofs.lemmas.Option.{slice_get_within, same_Some}
 use Rattle.wdl_base.specs.declared.place.Segment.{Segment}
 use Rattle.wdl_value.specs.declared.value.Value.{Value}
 use Rattle.wdl_value.specs.declared.value.Value.TheVariants as kind
@@ -58,7 +58,7 @@ use Rattle.plan_growth.proofs.Heads.{needs_are, needs_set, same_some, values_kep
 use Rattle.plan_growth.proofs.Inside.{decl_laid}
 use Rattle.plan_growth.proofs.Lists.{get_set}
 use Rattle.plan_growth.proofs.Moving.{Moves, is_move}
-use Rattle.plan_growth.proofs.Setting.{SetsOwn, StepAt, goes_moved, once_at, same_inside, sets_more, sets_moves, sets_none, step_at, tells_by, told_work}
+use Rattle.plan_growth.proofs.Setting.{SetsOwn, StepAt, goes_moved, once_at, sets_more, sets_moves, sets_none, step_at, tells_by, told_work}
 
 -- what the meaning of a step tells of these objects
 pub record MeansAt (lib : Library) (layout : Layout) (n : ℕ) (q : Instance) (body : BodyLayout) (flow : FlowDef) (l : StatementLayout) (x : Statement) (cells : List ℕ) (m : net.Rule) : Type 0 where
@@ -76,12 +76,12 @@ pub record MeansAt (lib : Library) (layout : Layout) (n : ℕ) (q : Instance) (b
 pub means_at : (lib : Library) (layout : Layout) (is : List Instance) (n i k : ℕ) (q : Instance) (body : BodyLayout) (flow : FlowDef) (l : StatementLayout) (x : Statement) (cells : List ℕ) (m : net.Rule)
     → IsAt lib layout is i k q body flow l x → MeansStatement lib layout is n i k cells m → MeansAt lib layout n q body flow l x cells m
 means_at lib layout is n i k q body flow l x cells m at h =
-    let a : h.instance ≡ q = same_inside (sym h.of_instance.there ∙ at.of_instance.there) in
-    let b : h.body ≡ body = same_inside (sym h.of_instance.body_there ∙ ap (λ (z : Instance). slice_get layout.bodies z.body) a ∙ at.of_instance.body_there) in
-    let c : h.flow ≡ flow = same_inside (sym h.of_instance.flow_there ∙ ap (λ (z : BodyLayout). slice_get lib.flows z.flow) b ∙ at.of_instance.flow_there) in
-    let d : h.line ≡ l = same_inside (sym h.line_there ∙ ap (λ (z : BodyLayout). slice_get z.statements k) b ∙ at.line) in
+    let a : h.instance ≡ q = same_Some _ _ (sym h.of_instance.there ∙ at.of_instance.there) in
+    let b : h.body ≡ body = same_Some _ _ (sym h.of_instance.body_there ∙ ap (λ (z : Instance). slice_get layout.bodies z.body) a ∙ at.of_instance.body_there) in
+    let c : h.flow ≡ flow = same_Some _ _ (sym h.of_instance.flow_there ∙ ap (λ (z : BodyLayout). slice_get lib.flows z.flow) b ∙ at.of_instance.flow_there) in
+    let d : h.line ≡ l = same_Some _ _ (sym h.line_there ∙ ap (λ (z : BodyLayout). slice_get z.statements k) b ∙ at.line) in
     let e : h.statement ≡ x =
-    same_inside (sym h.statement_there ∙ ap (λ (z : FlowDef). slice_get (body_at z.body h.body.path) k) c ∙ ap (λ (z : BodyLayout). slice_get (body_at flow.body z.path) k) b ∙ at.statement) in
+    same_Some _ _ (sym h.statement_there ∙ ap (λ (z : FlowDef). slice_get (body_at z.body h.body.path) k) c ∙ ap (λ (z : BodyLayout). slice_get (body_at flow.body z.path) k) b ∙ at.statement) in
     subst (λ (z : Instance). MeansAt lib layout n z body flow l x cells m) a
     (subst (λ (z : BodyLayout). MeansAt lib layout n h.instance z flow l x cells m) b
     (subst (λ (z : FlowDef). MeansAt lib layout n h.instance h.body z l x cells m) c
@@ -290,13 +290,13 @@ module _ (lib : Library) (layout : Layout) (site : List ℕ) (rows : List Row) (
       → IsGrowing lib layout site rows depth form (net_told w (last_base q.bases + k) o) is later asked later_paid
   input_goes i k same q body flow fl x e needs at o is_ later lists later_paid pays =
       let h = subst (λ (z : Rule). Means lib layout is (length v.values) z step.needs here.means) same here.stands.means in
-      let a : h.instance ≡ q = same_inside (sym h.of_instance.there ∙ at.of_instance.there) in
-      let b_ : h.body ≡ body = same_inside (sym h.of_instance.body_there ∙ ap (λ (z : Instance). slice_get layout.bodies z.body) a ∙ at.of_instance.body_there) in
-      let c : h.flow ≡ flow = same_inside (sym h.of_instance.flow_there ∙ ap (λ (z : BodyLayout). slice_get lib.flows z.flow) b_ ∙ at.of_instance.flow_there) in
-      let d : h.flow_layout ≡ fl = same_inside (sym h.layout_there ∙ ap (λ (z : BodyLayout). slice_get layout.flows z.flow) b_ ∙ at.layout_there) in
-      let f : h.input ≡ x = same_inside (sym h.input_there ∙ ap (λ (z : FlowDef). slice_get z.inputs k) c ∙ at.input) in
-      let j : h.value ≡ e = same_inside (sym h.default_is ∙ ap (λ (z : TInput). z.value) f ∙ at.default_is) in
-      let n : h.needs ≡ needs = same_inside (sym h.needs_there ∙ ap (λ (z : FlowLayout). slice_get z.inputs k) d ∙ at.needs_there) in
+      let a : h.instance ≡ q = same_Some _ _ (sym h.of_instance.there ∙ at.of_instance.there) in
+      let b_ : h.body ≡ body = same_Some _ _ (sym h.of_instance.body_there ∙ ap (λ (z : Instance). slice_get layout.bodies z.body) a ∙ at.of_instance.body_there) in
+      let c : h.flow ≡ flow = same_Some _ _ (sym h.of_instance.flow_there ∙ ap (λ (z : BodyLayout). slice_get lib.flows z.flow) b_ ∙ at.of_instance.flow_there) in
+      let d : h.flow_layout ≡ fl = same_Some _ _ (sym h.layout_there ∙ ap (λ (z : BodyLayout). slice_get layout.flows z.flow) b_ ∙ at.layout_there) in
+      let f : h.input ≡ x = same_Some _ _ (sym h.input_there ∙ ap (λ (z : FlowDef). slice_get z.inputs k) c ∙ at.input) in
+      let j : h.value ≡ e = same_Some _ _ (sym h.default_is ∙ ap (λ (z : TInput). z.value) f ∙ at.default_is) in
+      let n : h.needs ≡ needs = same_Some _ _ (sym h.needs_there ∙ ap (λ (z : FlowLayout). slice_get z.inputs k) d ∙ at.needs_there) in
       declared_goes q x.name e needs k
       (subst (λ (z : Instance). MeansDeclared z x.name e needs k (length v.values) step.needs here.means) a
       (subst (λ (z : TInput). MeansDeclared h.instance z.name e needs k (length v.values) step.needs here.means) f
@@ -309,12 +309,12 @@ module _ (lib : Library) (layout : Layout) (site : List ℕ) (rows : List Row) (
       → IsGrowing lib layout site rows depth form (net_told w (last_base q.bases + (fl.first_output + k)) o) is later asked later_paid
   output_goes i k same q body flow fl x needs at o is_ later lists later_paid pays =
       let h = subst (λ (z : Rule). Means lib layout is (length v.values) z step.needs here.means) same here.stands.means in
-      let a : h.instance ≡ q = same_inside (sym h.of_instance.there ∙ at.of_instance.there) in
-      let b_ : h.body ≡ body = same_inside (sym h.of_instance.body_there ∙ ap (λ (z : Instance). slice_get layout.bodies z.body) a ∙ at.of_instance.body_there) in
-      let c : h.flow ≡ flow = same_inside (sym h.of_instance.flow_there ∙ ap (λ (z : BodyLayout). slice_get lib.flows z.flow) b_ ∙ at.of_instance.flow_there) in
-      let d : h.flow_layout ≡ fl = same_inside (sym h.layout_there ∙ ap (λ (z : BodyLayout). slice_get layout.flows z.flow) b_ ∙ at.layout_there) in
-      let f : h.output ≡ x = same_inside (sym h.output_there ∙ ap (λ (z : FlowDef). slice_get z.outputs k) c ∙ at.output) in
-      let n : h.needs ≡ needs = same_inside (sym h.needs_there ∙ ap (λ (z : FlowLayout). slice_get z.outputs k) d ∙ at.needs_there) in
+      let a : h.instance ≡ q = same_Some _ _ (sym h.of_instance.there ∙ at.of_instance.there) in
+      let b_ : h.body ≡ body = same_Some _ _ (sym h.of_instance.body_there ∙ ap (λ (z : Instance). slice_get layout.bodies z.body) a ∙ at.of_instance.body_there) in
+      let c : h.flow ≡ flow = same_Some _ _ (sym h.of_instance.flow_there ∙ ap (λ (z : BodyLayout). slice_get lib.flows z.flow) b_ ∙ at.of_instance.flow_there) in
+      let d : h.flow_layout ≡ fl = same_Some _ _ (sym h.layout_there ∙ ap (λ (z : BodyLayout). slice_get layout.flows z.flow) b_ ∙ at.layout_there) in
+      let f : h.output ≡ x = same_Some _ _ (sym h.output_there ∙ ap (λ (z : FlowDef). slice_get z.outputs k) c ∙ at.output) in
+      let n : h.needs ≡ needs = same_Some _ _ (sym h.needs_there ∙ ap (λ (z : FlowLayout). slice_get z.outputs k) d ∙ at.needs_there) in
       declared_goes q x.name x.value needs (fl.first_output + k)
       (subst (λ (z : Instance). MeansDeclared z x.name x.value needs (fl.first_output + k) (length v.values) step.needs here.means) a
       (subst (λ (z : TDecl). MeansDeclared h.instance z.name z.value needs (fl.first_output + k) (length v.values) step.needs here.means) f

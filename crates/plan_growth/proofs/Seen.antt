@@ -22,18 +22,11 @@ use Rattle.plan_layout.specs.Cells.{cell_at, marks_at, slots_at}
 use Rattle.plan_layout.specs.Laid.{Stand, given_at}
 use Rattle.plan_layout.specs.Sees.{AllSeen, Sees, spot_keys}
 use Rattle.plan_layout.specs.Spots.{find_spot, needs_of, plain_keys, spots_from}
-use Rattle.plan_layout.proofs.Needed.{AreSeen, needs_all, needs_resolved, needs_used, picks_all, picks_seen}
+use Rattle.plan_layout.proofs.Needed.{AreSeen, needs_all, needs_resolved, needs_used, picks_all, picks_seen, slots_keys}
 use Rattle.plan_growth.specs.Begun.{given_by, scope_at}
+use Rattle.plan_layout.proofs.Typed.{spots_keys}
 
 -- ---- names by cells
-
-pub slots_keys : (bases : List ℕ) (ns : List Need) → slot_keys (slots_at bases ns) ≡ spot_keys ns
-slots_keys bases [] = refl
-slots_keys bases (n ∷ ns) = ap (λ (ks : List Key). n.key ∷ ks) (slots_keys bases ns)
-
-pub spots_keys : (level first : ℕ) (ks : List Key) → spot_keys (spots_from level first ks) ≡ ks
-spots_keys level first [] = refl
-spots_keys level first (k ∷ ks) = ap (λ (xs : List Key). k ∷ xs) (spots_keys level (first + 1) ks)
 
 marks_calls : (bases : List ℕ) (level first : ℕ) (cs : List (List ℕ)) → mark_calls (marks_at bases (spots_from level first (plain_keys cs))) ≡ cs
 marks_calls bases level first [] = refl

@@ -1,7 +1,7 @@
 -- Steps that add no other: they set cells of their own, or none.
 use Rattle.std.proofs.Common.{◌≡◌, ℕ, ◌+◌, ◌≤◌, Bool, true, false, cond, List, [], map, append-nil, length, get_or, Option, Some, None, Ok, Err, slice_get, slice_set, arith, sym, ap, ◌∙◌, refl}
 use Rattle.std.proofs.lemmas.List.{length-set}
-use Rattle.std.proofs.lemmas.Option.{slice_get-get_or, slice_get_within}
+use Rattle.std.proofs.lemmas.Option.{slice_get-get_or, slice_get_within, same_Some}
 use Rattle.wdl_base.specs.declared.place.Segment.{Segment}
 use Rattle.wdl_value.specs.declared.value.Value.{Value}
 use Rattle.wdl_value.specs.Outcome.{Outcome}
@@ -39,9 +39,6 @@ use Rattle.plan_growth.proofs.Moving.{Moves}
 
 -- ---- cells of the step alone
 
-pub same_inside : {A : Type 0} {x y : A} → Some x ≡ Some y → x ≡ y
-same_inside e = cc
-
 module _ (v : Sown) (rules : List net.Rule) (owners : List ℕ) (is : List Instance) (even : IsEven v rules owners) (t : ℕ) (step : Wants) (there : slice_get v.steps t ≡ Some step) (fresh : step.is_taken ≡ false)
     (ready : values.are_set v.values step.needs ≡ true) where
   -- The step sets cells of its own alone, to these values.
@@ -78,7 +75,7 @@ module _ (v : Sown) (rules : List net.Rule) (owners : List ℕ) (is : List Insta
   sets_more vs c x h free =
       record {
         size = length-set vs c (Some x) ∙ h.size;
-        others = λ d u e n. get_unset vs c d (Some x) (λ same. n (same_inside (sym e ∙ ap (slice_get owners) same ∙ free.0))) ∙ h.others d u e n;
+        others = λ d u e n. get_unset vs c d (Some x) (λ same. n (same_Some _ _ (sym e ∙ ap (slice_get owners) same ∙ free.0))) ∙ h.others d u e n;
         kept = λ d y e. get_unset vs c d (Some x) (λ same. not_set y (sym e ∙ ap (slice_get v.values) same ∙ free.1)) ∙ h.kept d y e;
       }
     where

@@ -1,7 +1,7 @@
 -- A plan begins: the main workflow is entered, and nothing was done.
 use Rattle.std.proofs.Common.{◌≡◌, ℕ, zero, suc, ◌+◌, ◌≤◌, true, List, [], ◌∷◌, length, Option, Some, slice_get, arith, sym, ap, ◌∙◌, subst, refl}
 use Rattle.std.proofs.lemmas.List.{length-map}
-use Rattle.std.proofs.lemmas.Option.{slice_get_within}
+use Rattle.std.proofs.lemmas.Option.{slice_get_within, same_Some}
 use Rattle.wdl_value.specs.declared.env.Bind.{Bind}
 use Rattle.wdl_value.specs.Tables.{Row}
 use Rattle.wdl_typed.specs.declared.flow.FlowDef.{FlowDef}
@@ -30,7 +30,6 @@ use Rattle.plan_growth.specs.News.{New, Stands, new_code, new_means, new_wants}
 use Rattle.plan_growth.proofs.Adding.{hits_behind, hits_one, stand_get}
 use Rattle.plan_growth.proofs.Instances.{Extends}
 use Rattle.plan_growth.proofs.Moving.{mapped_back}
-use Rattle.plan_growth.proofs.Setting.{same_inside}
 use Rattle.plan_growth.proofs.Told.{outputs_given}
 use Rattle.plan_growth.proofs.Wholes as flows
 
@@ -54,7 +53,7 @@ module _ (lib : Library) (layout : Layout) (site : List ℕ) (rows : List Row) (
   even = record { codes = refl; rules_too = refl; owners_too = refl }
 
   flow_laid : IsLaidAs (Sees lib) lib layout.bodies k f fl
-  flow_laid = let z = all_laid.flows k f flow_there in subst (λ (y : FlowLayout). IsLaidAs (Sees lib) lib layout.bodies k f y) (same_inside (sym z.there ∙ fl_there)) z.laid
+  flow_laid = let z = all_laid.flows k f flow_there in subst (λ (y : FlowLayout). IsLaidAs (Sees lib) lib layout.bodies k f y) (same_Some _ _ (sym z.there ∙ fl_there)) z.laid
 
   module _ (lay : IsLaidAs (Sees lib) lib layout.bodies k f fl) where
     abbrev plot : Plot
@@ -84,8 +83,8 @@ module _ (lib : Library) (layout : Layout) (site : List ℕ) (rows : List Row) (
         let c = mapped_back new_code news u r (ap (λ (rs : List Rule). slice_get rs u) (sym (flows.flow_codes lib layout site rows k f fl lay sees flow_there fl_there given [] bare [] [] even)) ∙ code) in
         let s = mapped_back new_wants news u w (ap (λ (ws : List Wants). slice_get ws u) (sym (flows.flow_steps lib layout site rows k f fl lay sees flow_there fl_there given [] bare [] [] even)) ∙ step) in
         let d = mapped_back new_means news u m (ap (λ (rs : List net.Rule). slice_get rs u) (sym (flows.flow_rules lib layout site rows k f fl lay sees flow_there fl_there given [] bare [] [] even)) ∙ rule_) in
-        let e : s.0 ≡ c.0 = same_inside (sym s.1 ∙ c.1) in
-        let g : d.0 ≡ c.0 = same_inside (sym d.1 ∙ c.1) in
+        let e : s.0 ≡ c.0 = same_Some _ _ (sym s.1 ∙ c.1) in
+        let g : d.0 ≡ c.0 = same_Some _ _ (sym d.1 ∙ c.1) in
         let self : 0 + u ≡ u = omega arith in
         let h =
         stand_get lib layout plot.instances (flows.b lib layout site rows k f fl lay sees flow_there fl_there given [] bare [] [] even) owners 0 news
@@ -160,4 +159,4 @@ module _ (lib : Library) (layout : Layout) (site : List ℕ) (rows : List Row) (
       subst (λ (z : BodyLayout). (g : Given) × IsGrowing lib layout site rows depth (whole f given [] g (flow_dones f fl z 0)) (with_flow f given [] fl z bare).net (with_flow f given [] fl z bare).instances (counted (length f.body) no_work) [] (λ task. 0)
       × (g.names ≡ slots_at (0 ∷ []) (with_outputs (body_seen lib f) f.outputs)) × (keys_distinct (slot_keys g.names) ≡ true)
       × ((j : ℕ) (d : TDecl) → slice_get f.outputs j ≡ Some d → find g.names (plain_key d.name) ≡ Some (fl.first_output + j)))
-      (same_inside (sym flow_laid.there ∙ there)) (names flow_laid, grows flow_laid depth deep, names_laid flow_laid, names_differ flow_laid, output_found flow_laid)
+      (same_Some _ _ (sym flow_laid.there ∙ there)) (names flow_laid, grows flow_laid depth deep, names_laid flow_laid, names_differ flow_laid, output_found flow_laid)

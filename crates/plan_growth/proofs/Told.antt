@@ -25,12 +25,12 @@ use Rattle.plan_layout.specs.Cells.{cell_at, slot_at, slots_at}
 use Rattle.plan_layout.specs.Laid.{with_plain}
 use Rattle.plan_layout.specs.Sees.{DefaultSees, ExprSees, InputsSee, OutputsSee}
 use Rattle.plan_layout.specs.Spots.{needs_of}
-use Rattle.plan_layout.proofs.Needed.{needs_all, needs_resolved, needs_used}
+use Rattle.plan_layout.proofs.Needed.{needs_all, needs_resolved, needs_used, slots_keys}
 use Rattle.plan_growth.specs.declared.rule.Rule.TheVariants as rule
 use Rattle.plan_growth.specs.Begun.{HasBegun, IsFree, hits}
 use Rattle.plan_growth.specs.Entering.{cells_of}
 use Rattle.plan_growth.specs.News.{New, left_wants}
-use Rattle.plan_growth.proofs.Seen.{slots_cells, slots_keys}
+use Rattle.plan_growth.proofs.Seen.{slots_cells}
 
 -- what is told over names of a workflow's own instance, from a base on
 module _ (base : ℕ) (place : List Segment) (calls : List Mark) where

@@ -47,12 +47,12 @@ use Rattle.plan_growth.proofs.Instances.{Extends, IsEntered, Kept, entered_later
 use Rattle.plan_growth.proofs.Lists.{get_copy, get_left, get_right, kept_length}
 use Rattle.plan_growth.proofs.Runs.{self_found}
 use Rattle.plan_growth.proofs.Scopes.{behind_count, behind_there, body_scope, inputs_cells, inputs_count, inputs_scope, outputs_cells, outputs_scope}
-use Rattle.plan_growth.proofs.Seen.{slots_keys}
 use Rattle.plan_growth.proofs.Sitting.{all_sit, call_owners, done_owners, name_owners, names_count}
 use Rattle.plan_growth.proofs.Standing.{lines_length, news_length, statements_stand}
 use Rattle.plan_growth.proofs.Tellers.{inputs_stand, inputs_there, outputs_stand}
 use Rattle.plan_growth.proofs.Telling.{InputsPut, input_hits, input_owners, input_owners_length, input_values, inputs_added, inputs_later, inputs_sit, output_news_length, outputs_added, outputs_later, outputs_sit, values_length, values_other}
 use Rattle.plan_growth.proofs.Told.{InputsSit, OutputsSit, input_news, inputs_begin, inputs_given, inputs_leaves, output_news, outputs_begin, outputs_given, told_scope}
+use Rattle.plan_layout.proofs.Needed.{slots_keys}
 
 -- the owners of outputs, from a step on
 abbrev pub output_owners : ℕ → List TDecl → List ℕ

@@ -2,8 +2,8 @@
 
 use wdl_value::{Items, Place};
 
-/// A body that is entered: its number in the layout, where its own cells and those of each body round it begin, its own last,
-/// and its place.
+/// A body that is entered: its number in the layout, where its own cells and those of each body
+/// round it begin, its own last, and its place.
 #[derive(Debug, Drop)]
 pub struct Instance {
     pub body: usize,

@@ -12,7 +12,8 @@ pub fn plans_begin()
     ensures { PlansBegin }
 {}
 
-/// Each kind of step keeps a plan growing: joints, declarations, defaults, outputs, blocks and calls.
+/// Each kind of step keeps a plan growing: joints, declarations, defaults, outputs, blocks and
+/// calls.
 pub fn plans_go_on()
     ensures { PlansGoOn }
 {}

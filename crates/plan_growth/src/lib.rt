@@ -1,4 +1,5 @@
-//! What the steps of a plan mean, what entering a body makes of it, and that each step keeps the plan in step with its flow.
+//! What the steps of a plan mean, what entering a body makes of it, and that each step keeps the
+//! plan in step with its flow.
 #![tactic(auto)]
 
 mod instance;

@@ -1,5 +1,5 @@
-/// What a step is to do, by numbers: an instance of a body, with the number of an input, a statement or an output; or the cell
-/// that the step sets of the cells that it needs.
+/// What a step is to do, by numbers: an instance of a body, with the number of an input, a
+/// statement or an output; or the cell that the step sets of the cells that it needs.
 #[derive(Clone, Copy, Debug)]
 pub enum Rule {
     /// Evaluates the default of an input that was left out.

@@ -19,7 +19,7 @@ use Rattle.wdl_typed.specs.KnownTypes.{is_written}
 use Rattle.wdl_typed.specs.Lists.{are_distinct}
 use Rattle.wdl_typed.specs.Scope.{names_of}
 use Rattle.wdl_typed.specs.Typing.{is_type}
-use Rattle.flow_laws.proofs.Checked.{IsKept, OutputsDiffer, each_passes, flow_kept, names_left, outputs_differ}
+use Rattle.flow_laws.proofs.Checked.{IsKept, OutputsDiffer, flow_kept, names_left, outputs_differ}
 use Rattle.flow_laws.proofs.Owned.{Owned, owned_both, owned_nothing, owned_one}
 use Rattle.net_laws.specs.Growing.{body_given}
 use Rattle.plan_layout.specs.declared.layout.Need.{Need}
@@ -28,6 +28,7 @@ use Rattle.plan_layout.specs.Sees.{DefaultSees, ExprSees, FlowSees, InputsSee, O
 use Rattle.plan_layout.proofs.Bound.{names_bound, some_typed}
 use Rattle.plan_layout.proofs.Given.{keys_of}
 use Rattle.plan_layout.proofs.Typed.{Right, all_found, flow_right, flow_seen, flow_taken, rest_names, rest_right, rest_taken}
+use Rattle.wdl_base.proofs.Options.{all_at}
 
 -- ---- one more name
 
@@ -123,4 +124,4 @@ module _ (lib : Library) where
 
 -- The inputs and outputs of a workflow of a checked form.
 pub around_sees : (lib : Library) → IsKept lib → (k : ℕ) (f : FlowDef) → slice_get lib.flows k ≡ Some f → FlowSees lib f
-around_sees lib h k f there = flow_sees lib (outputs_differ lib h) f (each_passes (flow_typed lib) lib.flows k f h.flows there)
+around_sees lib h k f there = flow_sees lib (outputs_differ lib h) f (all_at (flow_typed lib) lib.flows k f h.flows there)

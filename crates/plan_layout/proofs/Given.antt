@@ -18,7 +18,7 @@ use Rattle.flow_laws.specs.Laws.{run_with}
 use Rattle.net_laws.specs.Growing.{body_given}
 use Rattle.net_laws.specs.Planned.{part_of}
 use Rattle.plan_layout.specs.Laid.{given_at}
-use Rattle.plan_layout.proofs.Bound.{some_inside}
+use Rattle.wdl_base.proofs.Options.{then_parts}
 
 abbrev pub keys_of : List Bound → List Key
 keys_of = map (λ (b : Bound). b.key)
@@ -81,8 +81,8 @@ module _ (lib : Library) where
   list_named [] seen given h = let same : (let e : Seen = record { names = []; calls = [] } in e) ≡ given = cc in subst (λ (s : Seen). IsNamed s (body_given lib [])) same (record { keys = refl; calls = refl })
   list_named (k ∷ ks) seen given h =
       let rest = body_given lib (firsts ks) in
-      let p = some_inside (gives lib k.0 seen) (λ a. option_and_then (λ b. Some (joined a b)) (body_step (map (gives lib) (firsts ks)) (joined seen a))) given h in
-      let q = some_inside (body_step (map (gives lib) (firsts ks)) (joined seen p.0)) (λ b. Some (joined p.0 b)) given p.2 in
+      let p = then_parts (λ a. option_and_then (λ b. Some (joined a b)) (body_step (map (gives lib) (firsts ks)) (joined seen a))) (gives lib k.0 seen) given h in
+      let q = then_parts (λ b. Some (joined p.0 b)) (body_step (map (gives lib) (firsts ks)) (joined seen p.0)) given p.2 in
       let same : joined p.0 q.0 ≡ given = cc in
       let here = k.1 seen p.0 p.1 in
       let there = list_named ks (joined seen p.0) q.0 q.1 in
@@ -99,7 +99,7 @@ module _ (lib : Library) where
 
   scatter_named : (item : List ℕ) (ks : List Known) (seen given : Seen) (t : Ty-F Ty) → scatter_over item (body_step (map (gives lib) (firsts ks))) seen t ≡ Some given → IsNamed given (body_given lib (firsts ks))
   scatter_named item ks seen given (type.Array t some) h =
-      let p = some_inside (body_step (map (gives lib) (firsts ks)) (with_item seen item t)) (λ s. Some (retyped (λ u. ty.Array u some) s)) given h in
+      let p = then_parts (λ s. Some (retyped (λ u. ty.Array u some) s)) (body_step (map (gives lib) (firsts ks)) (with_item seen item t)) given h in
       block_named (λ u. ty.Array u some) ks (with_item seen item t) given p.0 p.1 cc
   scatter_named item ks seen given t h = absurd (cc)
 
@@ -108,21 +108,21 @@ module _ (lib : Library) where
     where
       by_test : (b : Bool) → cond b (option_and_then (λ s. Some (retyped optional s)) (body_step (map (gives lib) (firsts ks)) seen)) None ≡ Some given → IsNamed given (body_given lib (firsts ks))
       by_test true j =
-          let p = some_inside (body_step (map (gives lib) (firsts ks)) seen) (λ s. Some (retyped optional s)) given j in
+          let p = then_parts (λ s. Some (retyped optional s)) (body_step (map (gives lib) (firsts ks)) seen) given j in
           block_named optional ks seen given p.0 p.1 cc
       by_test false j = absurd (cc)
 
   layer_named : (y : Statement-F Known) (seen first : Seen) → statement_step lib (map-Statement Statement Giving (gives lib) (plain y)) seen ≡ Some first → IsNamed first (given_at lib (plain y))
   layer_named (layer.Decl d) seen first h = subst (λ (z : Seen). IsNamed z (given_at lib (layer.Decl d))) (when_same _ _ first h) (record { keys = refl; calls = refl })
   layer_named (layer.Call c) seen first h =
-      let p = some_inside (signature lib c.target) (call_by lib.structs c seen) first h in
+      let p = then_parts (call_by lib.structs c seen) (signature lib c.target) first h in
       subst (λ (z : Seen). IsNamed z (given_at lib (layer.Call c))) (when_same _ _ first p.2)
       (record { keys = outputs_keys c.name p.0.outputs ∙ sym (ap (signature_keys c.name) p.1); calls = refl })
   layer_named (layer.Scatter b) seen first h =
-      let p = some_inside (in_body lib.structs seen.names b.over) (λ t. scatter_over b.item (body_step (map (gives lib) (firsts b.body))) seen (out-Ty t)) first h in
+      let p = then_parts (λ t. scatter_over b.item (body_step (map (gives lib) (firsts b.body))) seen (out-Ty t)) (in_body lib.structs seen.names b.over) first h in
       scatter_named b.item b.body seen first (out-Ty p.0) p.2
   layer_named (layer.If b) seen first h =
-      let p = some_inside (in_body lib.structs seen.names b.cond) (if_over (body_step (map (gives lib) (firsts b.body))) seen) first h in
+      let p = then_parts (if_over (body_step (map (gives lib) (firsts b.body))) seen) (in_body lib.structs seen.names b.cond) first h in
       if_named b.body seen first p.0 p.2
 
   statement_named : (st : Statement) → Holds st

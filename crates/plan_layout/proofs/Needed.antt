@@ -124,7 +124,7 @@ module _ (seen : List Need) where
 
 -- ---- by cells
 
-slots_keys : (bases : List ℕ) (ns : List Need) → slot_keys (slots_at bases ns) ≡ spot_keys ns
+pub slots_keys : (bases : List ℕ) (ns : List Need) → slot_keys (slots_at bases ns) ≡ spot_keys ns
 slots_keys bases [] = refl
 slots_keys bases (n ∷ ns) = ap (λ ks. n.key ∷ ks) (slots_keys bases ns)
 

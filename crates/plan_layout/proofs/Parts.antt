@@ -24,7 +24,7 @@ use Rattle.plan_layout.specs.declared.layout.StatementLayout.{StatementLayout}
 use Rattle.plan_layout.specs.declared.scope.Next.{Next}
 use Rattle.plan_layout.specs.declared.scope.Origin.{Origin}
 use Rattle.plan_layout.specs.declared.scope.Runs.{Runs}
-use Rattle.plan_layout.specs.declared.scope.Scope.{Scope}
+use Rattle.plan_layout.specs.declared.scope.CellScope.{CellScope}
 use Rattle.plan_layout.specs.Laid.{HasNeeds, HasSlots, Laid, Stand, all, anything, beginning, behind_all, behind_names, behind_one, blocks_at, given_at, item_spot, laid_call, laid_decl, laid_if, laid_none, laid_scatter, laid_whole, one, one_name}
 use Rattle.plan_layout.specs.Paths.{block_body, body_at, inner_of}
 use Rattle.plan_layout.specs.Spots.{needs_of, plain_keys}
@@ -33,9 +33,9 @@ use Rattle.plan_layout.proofs.Laying.{behind_more, body_below, calls_kept, front
 
 -- ---- scopes
 
-pub scope_is : (s t : Scope) → s.names ≡ t.names → s.calls ≡ t.calls → s.path ≡ t.path → s ≡ t
+pub scope_is : (s t : CellScope) → s.names ≡ t.names → s.calls ≡ t.calls → s.path ≡ t.path → s ≡ t
 scope_is s t a b c =
-    let of : List Need → List Need → List ℕ → Scope = λ x y z. record { names = x; calls = y; path = z } in
+    let of : List Need → List Need → List ℕ → CellScope = λ x y z. record { names = x; calls = y; path = z } in
     ap (λ x. of x s.calls s.path) a ∙ ap (λ y. of t.names y s.path) b ∙ ap (λ z. of t.names t.calls z) c
 
 -- the body of a block stands below its statement
@@ -53,7 +53,7 @@ behind_is lib st y a e = ap (λ (z : Statement-F Statement). behind_names (given
 slots_as : (n m : Names) (a : Stand) (done : ℕ) (l : StatementLayout) → n ≡ m → HasSlots n a done l → HasSlots m a done l
 slots_as n m a done l e h = subst (λ (x : Names). HasSlots x a done l) e h
 
-module _ (o : Origin) (index : ℕ) (s t : Scope) (n m : Next) (l : StatementLayout) (needs after : List Need) (given : Names) where
+module _ (o : Origin) (index : ℕ) (s t : CellScope) (n m : Next) (l : StatementLayout) (needs after : List Need) (given : Names) where
   abbrev here : Stand
   here = stand_of s n index
 
@@ -79,7 +79,7 @@ module _ (o : Origin) (index : ℕ) (s t : Scope) (n m : Next) (l : StatementLay
         grows = grows_not bodies;
       }
 
-module _ (o : Origin) (index : ℕ) (s t : Scope) (n m : Next) (l : StatementLayout) (old new : List BodyLayout) (inner : ℕ) where
+module _ (o : Origin) (index : ℕ) (s t : CellScope) (n m : Next) (l : StatementLayout) (old new : List BodyLayout) (inner : ℕ) where
   abbrev Block : List Statement → TExpr → Type 0
   Block body head = Settles (needs_of s.names (names_of head)) [] inner n.done 1 (body_given (lib_of o) body) s n t m l
 
@@ -110,8 +110,8 @@ module _ (o : Origin) (index : ℕ) (s t : Scope) (n m : Next) (l : StatementLay
 abbrev first_of : Runs → Next
 first_of r = record { name = r.first_name; call = r.first_call; done = r.first_call + r.calls }
 
-module _ (o : Origin) (ss : List Statement) (s : Scope) (before after : ℕ) where
-  abbrev inside : Scope
+module _ (o : Origin) (ss : List Statement) (s : CellScope) (before after : ℕ) where
+  abbrev inside : CellScope
   inside = scope_behind o ss s before after
 
   abbrev start : Stand
@@ -135,7 +135,7 @@ module _ (o : Origin) (ss : List Statement) (s : Scope) (before after : ℕ) whe
   -- ---- statement by statement
 
   -- The statements below this number are laid out.
-  pub record Laying (old : List BodyLayout) (index : ℕ) (t : Scope) (n : Next) (bodies : List BodyLayout) (ls : List StatementLayout) : Type 0 where
+  pub record Laying (old : List BodyLayout) (index : ℕ) (t : CellScope) (n : Next) (bodies : List BodyLayout) (ls : List StatementLayout) : Type 0 where
     pub laid : body_at (root_of o) s.path ≡ ss → Laid anything (lib_of o) o.flow (root_of o) bodies (all (take index ss) start ls)
     pub stand : stand_of t n index ≡ behind_all (lib_of o) (take index ss) start
     pub grows : Grows old bodies
@@ -144,13 +144,13 @@ module _ (o : Origin) (ss : List Statement) (s : Scope) (before after : ℕ) whe
   lays_none old n e = record { laid = λ there. laid_none start; stand = e; grows = grows_not old }
 
   -- where a statement stands
-  stands_at : (old : List BodyLayout) (index : ℕ) (t : Scope) (n : Next) (bodies : List BodyLayout) (ls : List StatementLayout) (st : Statement) → Laying old index t n bodies ls → body_at (root_of o) s.path ≡ ss
+  stands_at : (old : List BodyLayout) (index : ℕ) (t : CellScope) (n : Next) (bodies : List BodyLayout) (ls : List StatementLayout) (st : Statement) → Laying old index t n bodies ls → body_at (root_of o) s.path ≡ ss
       → slice_get ss index ≡ Some st → slice_get (body_at (root_of o) t.path) index ≡ Some st
   stands_at old index t n bodies ls st p there at =
       let same : t.path ≡ s.path = ap (λ (a : Stand). a.path) p.stand ∙ path_kept (lib_of o) (take index ss) start in
       ap (λ (path : List ℕ). slice_get (body_at (root_of o) path) index) same ∙ ap (λ (xs : List Statement). slice_get xs index) there ∙ at
 
-  pub lays_next : (old : List BodyLayout) (index : ℕ) (t u : Scope) (n m : Next) (bodies new : List BodyLayout) (ls : List StatementLayout) (l : StatementLayout) (st : Statement) → index < length ss
+  pub lays_next : (old : List BodyLayout) (index : ℕ) (t u : CellScope) (n m : Next) (bodies new : List BodyLayout) (ls : List StatementLayout) (l : StatementLayout) (st : Statement) → index < length ss
       → st ≡ get_or ss index st → Laying old index t n bodies ls → LaysOne o st index t n bodies u m new l → Laying old (index + 1) u m new (ls ++ l ∷ [])
   lays_next old index t u n m bodies new ls l st lt is p q =
       let one_more : take (index + 1) ss ≡ take index ss ++ st ∷ [] = take_more ss index st lt ∙ ap (λ (x : Statement). take index ss ++ x ∷ []) (sym is) in
@@ -178,7 +178,7 @@ module _ (o : Origin) (ss : List Statement) (s : Scope) (before after : ℕ) whe
   pub begins : (r : Runs) (n : Next) → r ≡ own_runs → n ≡ first_of r → stand_of s n 0 ≡ start
   begins r n e f = ap (λ (m : Next). stand_of s m 0) (f ∙ ap first_of e)
 
-  abbrev pub added : Runs → Scope → Next → List StatementLayout → BodyLayout
+  abbrev pub added : Runs → CellScope → Next → List StatementLayout → BodyLayout
   added r t n ls =
       record {
         flow = o.flow;
@@ -192,7 +192,7 @@ module _ (o : Origin) (ss : List Statement) (s : Scope) (before after : ℕ) whe
         statements = ls;
       }
 
-  body_lays : (old : List BodyLayout) (index : ℕ) (t : Scope) (n : Next) (bodies new : List BodyLayout) (ls : List StatementLayout) → length ss ≤ index → Laying old index t n bodies ls
+  body_lays : (old : List BodyLayout) (index : ℕ) (t : CellScope) (n : Next) (bodies new : List BodyLayout) (ls : List StatementLayout) → length ss ≤ index → Laying old index t n bodies ls
       → new ≡ bodies ++ added own_runs t n ls ∷ [] → LaysBody o ss s.names s.calls s.path before after old new (length bodies)
   body_lays old index t n bodies new ls most p e =
       let whole_list : take index ss ≡ ss = take_all index ss most in
@@ -220,7 +220,7 @@ module _ (o : Origin) (ss : List Statement) (s : Scope) (before after : ℕ) whe
         grows = grows_on old bodies new p.grows g;
       }
 
-  pub lays_body : (old : List BodyLayout) (index : ℕ) (t : Scope) (n : Next) (bodies new : List BodyLayout) (ls : List StatementLayout) (r : Runs) (number : ℕ) → length ss ≤ index → Laying old index t n bodies ls
+  pub lays_body : (old : List BodyLayout) (index : ℕ) (t : CellScope) (n : Next) (bodies new : List BodyLayout) (ls : List StatementLayout) (r : Runs) (number : ℕ) → length ss ≤ index → Laying old index t n bodies ls
       → r ≡ own_runs → number ≡ length bodies → new ≡ bodies ++ added r t n ls ∷ [] → LaysBody o ss s.names s.calls s.path before after old new number
   lays_body old index t n bodies new ls r number most p e k is =
       subst (LaysBody o ss s.names s.calls s.path before after old new) (sym k)

@@ -30,7 +30,7 @@ use Rattle.wdl_typed.specs.KnownTypes.{is_some, is_written}
 use Rattle.wdl_typed.specs.Lists.{are_distinct, has_name}
 use Rattle.wdl_typed.specs.Scope.{names_of, same_key, type_in}
 use Rattle.wdl_typed.specs.Typing.{is_type}
-use Rattle.flow_laws.proofs.Checked.{IsKept, OutputsDiffer, each_passes, flow_kept, has_name_append, names_left, outputs_differ}
+use Rattle.flow_laws.proofs.Checked.{IsKept, OutputsDiffer, flow_kept, has_name_append, names_left, outputs_differ}
 use Rattle.flow_laws.proofs.Keys.{key_itself}
 use Rattle.flow_laws.proofs.Owned.{Owned, has_either, owned_both, owned_nothing, owned_one, statements_owned}
 use Rattle.net_laws.specs.Growing.{body_given}
@@ -42,13 +42,14 @@ use Rattle.plan_layout.specs.declared.layout.Need.{Need}
 use Rattle.plan_layout.specs.Laid.{Form, IsLaidAs, IsLayout, Laid, Stand, all, anything, behind_one, given_at, item_spot, laid_call, laid_decl, laid_if, laid_next, laid_none, laid_scatter, laid_whole, one, whole, with_inputs, with_plain}
 use Rattle.plan_layout.specs.Sees.{AllSeen, Sees, after_at, keys_at, spot_keys}
 use Rattle.plan_layout.specs.Spots.{find_spot, plain_keys, spots_from}
-use Rattle.plan_layout.proofs.Bound.{names_bound, some_inside, some_typed}
+use Rattle.plan_layout.proofs.Bound.{names_bound, some_typed}
 use Rattle.plan_layout.proofs.Called.{calls_owned, owned_more, owned_none}
 use Rattle.plan_layout.proofs.Given.{bare, gives_named, keys_of, name_is, none}
+use Rattle.wdl_base.proofs.Options.{all_at, then_parts}
 
 -- ---- names of scopes
 
-spots_keys : (level first : ℕ) (ks : List Key) → spot_keys (spots_from level first ks) ≡ ks
+pub spots_keys : (level first : ℕ) (ks : List Key) → spot_keys (spots_from level first ks) ≡ ks
 spots_keys level first [] = refl
 spots_keys level first (k ∷ ks) = ap (λ xs. k ∷ xs) (spots_keys level (first + 1) ks)
 
@@ -169,8 +170,8 @@ module _ (lib : Library) (outputs : OutputsDiffer lib) where
 
     split : Split
     split =
-        let p = some_inside (gives lib st r.seen) (λ first. option_and_then (λ rest. Some (joined first rest)) (body_gives lib ss (joined r.seen first))) r.given r.typed in
-        let q = some_inside (body_gives lib ss (joined r.seen p.0)) (λ rest. Some (joined p.0 rest)) r.given p.2 in
+        let p = then_parts (λ first. option_and_then (λ rest. Some (joined first rest)) (body_gives lib ss (joined r.seen first))) (gives lib st r.seen) r.given r.typed in
+        let q = then_parts (λ rest. Some (joined p.0 rest)) (body_gives lib ss (joined r.seen p.0)) r.given p.2 in
         record { first = p.0; rest = q.0; here = p.1; there = q.1; whole = same_Some _ _ q.2 }
 
     all_distinct : are_distinct ((r.taken ++ declared st) ++ all_declared ss) ≡ true
@@ -241,17 +242,17 @@ module _ (lib : Library) (outputs : OutputsDiffer lib) where
         let t = some_typed (in_body lib.structs r.seen.names d.value) d.ty p.1 in
         (body_names_seen d.value t.0 t.1, refl)
     layer_seen (layer.Call c) h =
-        let p = some_inside (signature lib c.target) (call_by lib.structs c r.seen) split.first h in
+        let p = then_parts (call_by lib.structs c r.seen) (signature lib c.target) split.first h in
         let q = seen_when _ _ split.first p.2 in
         let d = and_parts _ _ q in
         let e = and_parts _ _ d.0 in
         let f = and_parts _ _ e.0 in
         (args_seen p.0.inputs c.args f.0, calls_found a.calls r.seen.calls c.after r.calls_are d.1)
     layer_seen (layer.Scatter b) h =
-        let p = some_inside (in_body lib.structs r.seen.names b.over) (λ t. scatter_over b.item (body_gives lib b.body) r.seen (out-Ty t)) split.first h in
+        let p = then_parts (λ t. scatter_over b.item (body_gives lib b.body) r.seen (out-Ty t)) (in_body lib.structs r.seen.names b.over) split.first h in
         (body_names_seen b.over p.0 p.1, refl)
     layer_seen (layer.If b) h =
-        let p = some_inside (in_body lib.structs r.seen.names b.cond) (if_over (body_gives lib b.body) r.seen) split.first h in
+        let p = then_parts (if_over (body_gives lib b.body) r.seen) (in_body lib.structs r.seen.names b.cond) split.first h in
         (body_names_seen b.cond p.0 p.1, refl)
 
     pub sees : Sees lib st a
@@ -307,14 +308,14 @@ module _ (lib : Library) (outputs : OutputsDiffer lib) where
 
     inner_of : (t : Ty-F Ty) (first : Seen) → scatter_over x.item (body_gives lib x.body) r.seen t ≡ Some first → Inner
     inner_of (type.Array t some) first h =
-        let p = some_inside (body_gives lib x.body (with_item r.seen x.item t)) (λ s. Some (retyped (λ u. ty.Array u some) s)) first h in
+        let p = then_parts (λ s. Some (retyped (λ u. ty.Array u some) s)) (body_gives lib x.body (with_item r.seen x.item t)) first h in
         record { seen = with_item r.seen x.item t; given = p.0; typed = p.1; names = map-append (λ (b : Bound). b.key) r.seen.names (bound x.item t ∷ []); calls = refl }
     inner_of t first h = absurd (cc)
 
     inner : Inner
     inner =
         let s = split (stmt.Scatter x) ss a r in
-        let p = some_inside (in_body lib.structs r.seen.names x.over) (λ t. scatter_over x.item (body_gives lib x.body) r.seen (out-Ty t)) s.first (typed_at (stmt.Scatter x) ss a r (layer.Scatter x) (stmt.outs-Scatter x)) in
+        let p = then_parts (λ t. scatter_over x.item (body_gives lib x.body) r.seen (out-Ty t)) (in_body lib.structs r.seen.names x.over) s.first (typed_at (stmt.Scatter x) ss a r (layer.Scatter x) (stmt.outs-Scatter x)) in
         inner_of (out-Ty p.0) s.first p.2
 
     pub items_right : Right x.body (a.names ++ item_spot (a.path ++ a.index ∷ []) x.item ∷ []) a.calls
@@ -366,13 +367,13 @@ module _ (lib : Library) (outputs : OutputsDiffer lib) where
     chosen t first h = by_test (is_bool t) h
       where
         by_test : (b : Bool) → cond b (option_and_then (λ s. Some (retyped optional s)) (body_gives lib x.body r.seen)) None ≡ Some first → (s : Seen) × (body_gives lib x.body r.seen ≡ Some s)
-        by_test true j = let p = some_inside (body_gives lib x.body r.seen) (λ s. Some (retyped optional s)) first j in (p.0, p.1)
+        by_test true j = let p = then_parts (λ s. Some (retyped optional s)) (body_gives lib x.body r.seen) first j in (p.0, p.1)
         by_test false j = absurd (cc)
 
     pub choice_right : Right x.body a.names a.calls
     choice_right =
         let s = split (stmt.If x) ss a r in
-        let p = some_inside (in_body lib.structs r.seen.names x.cond) (if_over (body_gives lib x.body) r.seen) s.first (typed_at (stmt.If x) ss a r (layer.If x) (stmt.outs-If x)) in
+        let p = then_parts (if_over (body_gives lib x.body) r.seen) (in_body lib.structs r.seen.names x.cond) s.first (typed_at (stmt.If x) ss a r (layer.If x) (stmt.outs-If x)) in
         let g = chosen p.0 s.first p.2 in
         record {
           seen = r.seen;
@@ -475,6 +476,6 @@ layout_sees lib l h p =
           record {
             layout = q.layout;
             there = q.there;
-            laid = flow_sees lib (outputs_differ lib h) l.bodies k f q.layout (each_passes (flow_typed lib) lib.flows k f h.flows there) q.laid;
+            laid = flow_sees lib (outputs_differ lib h) l.bodies k f q.layout (all_at (flow_typed lib) lib.flows k f h.flows there) q.laid;
           };
     }

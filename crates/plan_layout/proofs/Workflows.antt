@@ -11,17 +11,17 @@ use Rattle.plan_layout.specs.declared.layout.BodyLayout.{BodyLayout}
 use Rattle.plan_layout.specs.declared.layout.FlowLayout.{FlowLayout}
 use Rattle.plan_layout.specs.declared.layout.Need.{Need}
 use Rattle.plan_layout.specs.declared.scope.Origin.{Origin}
-use Rattle.plan_layout.specs.declared.scope.Scope.{Scope}
+use Rattle.plan_layout.specs.declared.scope.CellScope.{CellScope}
 use Rattle.plan_layout.specs.Laid.{IsLaidAs, IsLaidFlow, IsLayout, Laid, anything, body_seen, input_needs, output_needs, whole, with_inputs}
 use Rattle.plan_layout.specs.Paths.{body_at, flow_body}
 use Rattle.plan_layout.specs.Steps.{Grows, LaysBody, LaysFlow, lib_of, root_of, scope_behind}
 use Rattle.plan_layout.proofs.Laying.{laid_on, there_last, there_more}
 
 -- what is seen behind these inputs, and of a workflow before its statements
-abbrev pub behind_inputs : Scope → List TInput → Scope
+abbrev pub behind_inputs : CellScope → List TInput → CellScope
 behind_inputs s is = record { names = with_inputs s.names is; calls = s.calls; path = [] }
 
-abbrev pub inputs_scope : FlowDef → Scope
+abbrev pub inputs_scope : FlowDef → CellScope
 inputs_scope f = record { names = with_inputs [] f.inputs; calls = []; path = [] }
 
 -- The workflow's own body stands at no numbers.
@@ -45,17 +45,17 @@ lays_flow o f old new number inputs outputs first_output at i b n e =
           };
     }
 
-module _ (o : Origin) (f : FlowDef) (s t : Scope) (before after : ℕ) (start : s ≡ inputs_scope f) (b : before ≡ length f.inputs) (a : after ≡ length f.outputs) where
+module _ (o : Origin) (f : FlowDef) (s t : CellScope) (before after : ℕ) (start : s ≡ inputs_scope f) (b : before ≡ length f.inputs) (a : after ≡ length f.outputs) where
   body_laid : (old new : List BodyLayout) (number : ℕ) → LaysBody o f.body s.names s.calls s.path before after old new number
       → LaysBody o f.body (with_inputs [] f.inputs) [] [] (length f.inputs) (length f.outputs) old new number
   body_laid old new number h =
       subst (λ n. LaysBody o f.body (with_inputs [] f.inputs) [] [] (length f.inputs) n old new number) a
       (subst (λ n. LaysBody o f.body (with_inputs [] f.inputs) [] [] n after old new number) b
-      (subst (λ (x : Scope). LaysBody o f.body x.names x.calls x.path before after old new number) start h))
+      (subst (λ (x : CellScope). LaysBody o f.body x.names x.calls x.path before after old new number) start h))
 
   names_seen : t ≡ scope_behind o f.body s before after → t.names ≡ body_seen (lib_of o) f
   names_seen behind =
-      ap (λ (x : Scope). x.names) (behind ∙ ap (λ (x : Scope). scope_behind o f.body x before after) start)
+      ap (λ (x : CellScope). x.names) (behind ∙ ap (λ (x : CellScope). scope_behind o f.body x before after) start)
       ∙ ap (λ n. (scope_behind o f.body (inputs_scope f) n after).names) b
       ∙ ap (λ n. (scope_behind o f.body (inputs_scope f) (length f.inputs) n).names) a
 

@@ -11,7 +11,7 @@ use Rattle.plan_layout.specs.declared.layout.Need.{Need}
 use Rattle.plan_layout.specs.declared.layout.StatementLayout.{StatementLayout}
 use Rattle.plan_layout.specs.declared.scope.Next.{Next}
 use Rattle.plan_layout.specs.declared.scope.Origin.{Origin}
-use Rattle.plan_layout.specs.declared.scope.Scope.{Scope}
+use Rattle.plan_layout.specs.declared.scope.CellScope.{CellScope}
 use Rattle.plan_layout.specs.Laid.{HasSlots, IsLaidAs, Laid, Stand, anything, beginning, behind_all, behind_names, behind_one, one, whole}
 use Rattle.plan_layout.specs.Paths.{body_at, flow_body}
 
@@ -21,11 +21,11 @@ lib_of o = library o.checked.now.structs o.checked.now.tasks o.checked.now.flows
 abbrev pub root_of : Origin → List Statement
 root_of o = flow_body (slice_get o.checked.now.flows o.flow)
 
-abbrev pub stand_of : Scope → Next → ℕ → Stand
+abbrev pub stand_of : CellScope → Next → ℕ → Stand
 stand_of s n index =
     record { names = s.names; calls = s.calls; path = s.path; index = index; next_name = n.name; next_call = n.call; next_done = n.done }
 
-abbrev pub scope_of : Stand → Scope
+abbrev pub scope_of : Stand → CellScope
 scope_of a = record { names = a.names; calls = a.calls; path = a.path }
 
 -- Bodies were added behind the others.
@@ -33,7 +33,7 @@ abbrev pub Grows : List BodyLayout → List BodyLayout → Type 0
 Grows old new = (more : List BodyLayout) × (new ≡ old ++ more)
 
 -- A statement has its slots, and what it gives out is seen.
-pub record Settles (needs after : List Need) (inner done blocks : ℕ) (given : Names) (s : Scope) (n : Next) (t : Scope) (m : Next) (l : StatementLayout) : Type 0 where
+pub record Settles (needs after : List Need) (inner done blocks : ℕ) (given : Names) (s : CellScope) (n : Next) (t : CellScope) (m : Next) (l : StatementLayout) : Type 0 where
   pub needs_are : l.needs ≡ needs
   pub after_are : l.after ≡ after
   pub inner_is : l.inner ≡ inner
@@ -41,7 +41,7 @@ pub record Settles (needs after : List Need) (inner done blocks : ℕ) (given : 
   pub behind : (index : ℕ) → stand_of t m (index + 1) ≡ behind_names given blocks (stand_of s n index)
 
 -- A statement was laid out, where it stands there, and the stand is the one behind it.
-pub record LaysOne (o : Origin) (st : Statement) (index : ℕ) (s : Scope) (n : Next) (old : List BodyLayout) (t : Scope) (m : Next) (new : List BodyLayout) (l : StatementLayout) : Type 0 where
+pub record LaysOne (o : Origin) (st : Statement) (index : ℕ) (s : CellScope) (n : Next) (old : List BodyLayout) (t : CellScope) (m : Next) (new : List BodyLayout) (l : StatementLayout) : Type 0 where
   pub laid : slice_get (body_at (root_of o) s.path) index ≡ Some st → Laid anything (lib_of o) o.flow (root_of o) new (one st (stand_of s n index) l)
   pub behind : stand_of t m (index + 1) ≡ behind_one (lib_of o) st (stand_of s n index)
   pub grows : Grows old new
@@ -54,7 +54,7 @@ pub record LaysBody (o : Origin) (ss : List Statement) (names calls : List Need)
   pub grows : Grows old new
 
 -- the scope behind the statements of a body
-abbrev pub scope_behind : Origin → List Statement → Scope → ℕ → ℕ → Scope
+abbrev pub scope_behind : Origin → List Statement → CellScope → ℕ → ℕ → CellScope
 scope_behind o ss s before after = scope_of (behind_all (lib_of o) ss (beginning s.names s.calls s.path (body_given (lib_of o) ss) before after))
 
 -- A workflow was laid out.

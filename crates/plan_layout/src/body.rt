@@ -18,8 +18,8 @@ fn inner_of<'a>(statement: Option<&'a Statement>) -> &'a [Statement]
     }
 }
 
-/// The statements of the body to which these numbers of statements lead, from the own body of a workflow; none where
-/// they lead to no body.
+/// The statements of the body to which these numbers of statements lead, from the own body of a
+/// workflow; none where they lead to no body.
 pub fn body_of<'a>(checked: &'a Checked, flow: usize, path: &[usize]) -> &'a [Statement]
     ensures { result.now ≡ spec.body_at (spec.flow_body (slice_get checked.now.flows flow)) path.now }
 {

@@ -2,20 +2,28 @@
 
 ghost use Rattle.std.specs.Prelude.{◌≡◌, ◌++◌, ◌∷◌, [], Some, length, slice_get, IfOk, OnOk};
 ghost use Rattle.wdl_typed.specs.Bodies.{library};
-ghost use Rattle.plan_layout.specs.Laid.{IsLayout, anything, default_needs, input_needs, output_needs, with_inputs, with_plain};
+ghost use Rattle.plan_layout.specs.Laid.{
+  IsLayout,
+  anything,
+  default_needs,
+  input_needs,
+  output_needs,
+  with_inputs,
+  with_plain,
+};
 ghost use Rattle.plan_layout.specs.Sees.{Sees};
 ghost use Rattle.plan_layout.specs.Steps.{LaysFlow, lib_of};
 
 use crate::layout::{BodyLayout, FlowLayout, Layout, Need};
 use crate::needs::expr_needs;
-use crate::scope::{Origin, Scope};
+use crate::scope::{CellScope, Origin};
 use crate::walk::lay_body;
 use std::alloc::Global;
 use wdl_typed::{Checked, FlowDef, TDecl, TExpr, TInput};
 use wdl_value::{Items, Name, NoMemory};
 
 /// Adds a name of the workflow's own body, at the slot behind those that are seen there.
-fn add_plain(alloc: Global, name: &Name, scope: &mut Scope) -> Result<(), NoMemory>
+fn add_plain(alloc: Global, name: &Name, scope: &mut CellScope) -> Result<(), NoMemory>
     requires { scope.old.path ≡ [] }
     ensures { OnOk result (scope.new ≡ record { names = with_plain scope.old.names name.now; calls = scope.old.calls; path = [] }) }
 {
@@ -24,7 +32,11 @@ fn add_plain(alloc: Global, name: &Name, scope: &mut Scope) -> Result<(), NoMemo
 }
 
 /// What the default of an input needs.
-fn lay_default(alloc: Global, value: &Option<TExpr>, scope: &Scope) -> Result<Items<Need>, NoMemory>
+fn lay_default(
+    alloc: Global,
+    value: &Option<TExpr>,
+    scope: &CellScope,
+) -> Result<Items<Need>, NoMemory>
     ensures { IfOk result (λ needs. needs ≡ default_needs scope.now.names value.now) }
 {
     match value {
@@ -37,7 +49,7 @@ fn lay_default(alloc: Global, value: &Option<TExpr>, scope: &Scope) -> Result<It
 fn lay_inputs(
     alloc: Global,
     inputs: &[TInput],
-    scope: &mut Scope,
+    scope: &mut CellScope,
 ) -> Result<Items<Items<Need>>, NoMemory>
     requires { scope.old.path ≡ [] }
     ensures needs { IfOk result (λ laid. laid ≡ input_needs scope.old.names inputs.now) }
@@ -55,7 +67,7 @@ fn lay_inputs(
 fn lay_outputs(
     alloc: Global,
     outputs: &[TDecl],
-    scope: &mut Scope,
+    scope: &mut CellScope,
 ) -> Result<Items<Items<Need>>, NoMemory>
     requires { scope.old.path ≡ [] }
     ensures { IfOk result (λ laid. laid ≡ output_needs scope.old.names outputs.now) }
@@ -78,7 +90,7 @@ fn lay_flow<'a>(
     requires { slice_get origin.now.checked.now.flows origin.now.flow ≡ Some def.now }
     ensures { IfOk result (LaysFlow origin.now def.now bodies.old bodies.new) }
 {
-    let mut scope = Scope::empty(alloc);
+    let mut scope = CellScope::empty(alloc);
     let inputs = lay_inputs(alloc, def.inputs.as_slice(), &mut scope)?;
     let before = def.inputs.len();
     let after = def.outputs.len();

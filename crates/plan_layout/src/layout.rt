@@ -2,8 +2,9 @@
 
 use wdl_value::{Items, Key};
 
-/// A name that an expression needs, and where its cell stands: in the instance of the body at that level, at that slot.
-/// A workflow's own body has the level 0, and the body of a block one more than the body that the block stands in.
+/// A name that an expression needs, and where its cell stands: in the instance of the body at that
+/// level, at that slot. A workflow's own body has the level 0, and the body of a block one more
+/// than the body that the block stands in.
 #[derive(Debug, Drop)]
 pub struct Need {
     pub key: Key,
@@ -14,7 +15,8 @@ pub struct Need {
 /// What a statement needs, and the slots of what it gives out: a run of names, and a run of calls.
 #[derive(Debug, Drop)]
 pub struct StatementLayout {
-    /// The names of its expression: of the declaration, of all arguments of the call, of the collection or of the condition.
+    /// The names of its expression: of the declaration, of all arguments of the call, of the
+    /// collection or of the condition.
     pub needs: Items<Need>,
     /// The calls that it comes after, as names.
     pub after: Items<Need>,
@@ -28,8 +30,9 @@ pub struct StatementLayout {
     pub inner: usize,
 }
 
-/// The slots of a body: the names that stand before its statements (inputs, or the item of a scatter), those that its
-/// statements give out, and those behind them (outputs); then the calls that its statements give out; then one for each block.
+/// The slots of a body: the names that stand before its statements (inputs, or the item of a
+/// scatter), those that its statements give out, and those behind them (outputs); then the calls
+/// that its statements give out; then one for each block.
 #[derive(Debug, Drop)]
 pub struct BodyLayout {
     pub flow: usize,
@@ -45,8 +48,8 @@ pub struct BodyLayout {
     pub statements: Items<StatementLayout>,
 }
 
-/// The number of a workflow's own body, and what the defaults of its inputs and its outputs need. Its inputs stand from
-/// the slot 0 on.
+/// The number of a workflow's own body, and what the defaults of its inputs and its outputs need.
+/// Its inputs stand from the slot 0 on.
 #[derive(Debug, Drop)]
 pub struct FlowLayout {
     pub body: usize,

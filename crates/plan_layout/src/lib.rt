@@ -1,4 +1,5 @@
-//! Where the cells of a workflow's instances stand: the slots of each body, and what each expression needs, as cells.
+//! Where the cells of a workflow's instances stand: the slots of each body, and what each
+//! expression needs, as cells.
 #![tactic(auto)]
 
 mod body;

@@ -111,9 +111,10 @@ impl Next {
     }
 }
 
-/// The names and the calls that a statement sees, and the numbers of the statements that lead to its body.
+/// The names and the calls that a statement sees, and the numbers of the statements that lead to
+/// its body.
 #[derive(Drop)]
-pub struct Scope {
+pub struct CellScope {
     pub names: Spots,
     pub calls: Spots,
     pub path: Items<usize>,
@@ -157,12 +158,12 @@ fn enter_calls(
     Ok(())
 }
 
-impl Scope {
+impl CellScope {
     /// Nothing is seen.
-    pub fn empty(alloc: Global) -> Scope
+    pub fn empty(alloc: Global) -> CellScope
         ensures { result ≡ record { names = []; calls = []; path = [] } }
     {
-        Scope {
+        CellScope {
             names: Spots::empty(alloc),
             calls: Spots::empty(alloc),
             path: Items::new(alloc),

@@ -18,7 +18,8 @@ impl Keyed for Need {
     }
 }
 
-/// Names with the places of their cells, found by a look-up in logarithmic time. Of two with one key the first counts.
+/// Names with the places of their cells, found by a look-up in logarithmic time. Of two with one
+/// key the first counts.
 #[derive(Drop)]
 pub struct Spots {
     spots: Index<Need>,

@@ -12,7 +12,7 @@ ghost use Rattle.plan_layout.specs.Steps.{LaysBody, LaysOne, Settles, lib_of, sc
 
 use crate::layout::{BodyLayout, Need, StatementLayout};
 use crate::needs::{arg_needs, call_needs, expr_needs, plain_key};
-use crate::scope::{Next, Origin, Runs, Scope, given_in};
+use crate::scope::{CellScope, Next, Origin, Runs, given_in};
 use std::alloc::Global;
 use wdl_flow::Given;
 use wdl_typed::{Statement, TCall, TDecl, TExpr};
@@ -34,7 +34,7 @@ fn settle(
     given: &Given,
     blocks: usize,
     next: &mut Next,
-    scope: &mut Scope,
+    scope: &mut CellScope,
 ) -> Result<StatementLayout, NoMemory>
     ensures { IfOk result (λ l. Settles wanted.needs wanted.after wanted.inner wanted.done blocks (given_of given.now) scope.old next.old scope.new next.new l) }
 {
@@ -83,7 +83,7 @@ fn lay_decl<'a>(
     index: usize,
     origin: &Origin<'a>,
     next: &mut Next,
-    scope: &mut Scope,
+    scope: &mut CellScope,
     bodies: &Items<BodyLayout>,
 ) -> Result<StatementLayout, NoMemory>
     ensures { IfOk result (λ l. LaysOne origin.now (stmt.Decl decl.now) index scope.old next.old bodies.now scope.new next.new bodies.now l) }
@@ -105,7 +105,7 @@ fn lay_call<'a>(
     index: usize,
     origin: &Origin<'a>,
     next: &mut Next,
-    scope: &mut Scope,
+    scope: &mut CellScope,
     bodies: &Items<BodyLayout>,
 ) -> Result<StatementLayout, NoMemory>
     ensures { IfOk result (λ l. LaysOne origin.now (stmt.Call call.now) index scope.old next.old bodies.now scope.new next.new bodies.now l) }
@@ -122,7 +122,8 @@ fn lay_call<'a>(
     settle(alloc, wanted, &given, 0, next, scope)
 }
 
-/// Gives a block the next slots, whose collection or condition this is, and whose body has that number.
+/// Gives a block the next slots, whose collection or condition this is, and whose body has that
+/// number.
 fn settle_block<'a>(
     alloc: Global,
     head: &TExpr,
@@ -130,7 +131,7 @@ fn settle_block<'a>(
     inner: usize,
     origin: &Origin<'a>,
     next: &mut Next,
-    scope: &mut Scope,
+    scope: &mut CellScope,
 ) -> Result<StatementLayout, NoMemory>
     ensures { IfOk result (λ l. Settles (needs_of scope.old.names (names_of head.now)) [] inner next.old.done 1 (body_given (lib_of origin.now) body.now) scope.old next.old scope.new next.new l) }
 {
@@ -153,7 +154,7 @@ fn lay_items<'a>(
     item: &Name,
     index: usize,
     origin: &Origin<'a>,
-    scope: &mut Scope,
+    scope: &mut CellScope,
     bodies: &mut Items<BodyLayout>,
 ) -> Result<usize, NoMemory>
     ensures laid { IfOk result (LaysBody origin.now body.now (scope.old.names ++ item_spot (scope.old.path ++ index ∷ []) item.now ∷ []) scope.old.calls (scope.old.path ++ index ∷ []) 1 0 bodies.old bodies.new) }
@@ -175,7 +176,7 @@ fn lay_choice<'a>(
     body: &[Statement],
     index: usize,
     origin: &Origin<'a>,
-    scope: &mut Scope,
+    scope: &mut CellScope,
     bodies: &mut Items<BodyLayout>,
 ) -> Result<usize, NoMemory>
     ensures laid { IfOk result (LaysBody origin.now body.now scope.old.names scope.old.calls (scope.old.path ++ index ∷ []) 0 0 bodies.old bodies.new) }
@@ -197,7 +198,7 @@ fn lay_statement<'a>(
     index: usize,
     origin: &Origin<'a>,
     next: &mut Next,
-    scope: &mut Scope,
+    scope: &mut CellScope,
     bodies: &mut Items<BodyLayout>,
 ) -> Result<StatementLayout, NoMemory>
     ensures { IfOk result (λ l. LaysOne origin.now statement.now index scope.old next.old bodies.old scope.new next.new bodies.new l) }
@@ -218,7 +219,8 @@ fn lay_statement<'a>(
     }
 }
 
-/// Lays out a body with so many names before those of its statements, and after them. The answer is its number.
+/// Lays out a body with so many names before those of its statements, and after them. The answer is
+/// its number.
 #[cycle(laying)]
 pub fn lay_body<'a>(
     alloc: Global,
@@ -226,7 +228,7 @@ pub fn lay_body<'a>(
     before: usize,
     after: usize,
     origin: &Origin<'a>,
-    scope: &mut Scope,
+    scope: &mut CellScope,
     bodies: &mut Items<BodyLayout>,
 ) -> Result<usize, NoMemory>
     ensures laid { IfOk result (LaysBody origin.now body.now scope.old.names scope.old.calls scope.old.path before after bodies.old bodies.new) }
@@ -250,7 +252,7 @@ fn put_body<'a>(
     cells: usize,
     statements: Items<StatementLayout>,
     origin: &Origin<'a>,
-    scope: &Scope,
+    scope: &CellScope,
     bodies: &mut Items<BodyLayout>,
 ) -> Result<usize, NoMemory>
     ensures number { IfOk result (λ n. n ≡ length bodies.old) }

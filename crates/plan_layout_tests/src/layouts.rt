@@ -26,8 +26,9 @@ workflow w {
   output { Array[Int] o = t.r Array[Int?] p = z }
 }";
 
-/// Slots counted by hand: in the workflow's own body `n`, `k`, `xs`, `m`, `c.r`, then `y`, `t.r` and `z` of the scatter, `o` and `p`
-/// from 0 on; the calls `c` and `t` at 10 and 11; the scatter at 12. In its body `x`, `y`, `t.r`, `z`, the call `t` and the condition.
+/// Slots counted by hand: in the workflow's own body `n`, `k`, `xs`, `m`, `c.r`, then `y`, `t.r`
+/// and `z` of the scatter, `o` and `p` from 0 on; the calls `c` and `t` at 10 and 11; the scatter
+/// at 12. In its body `x`, `y`, `t.r`, `z`, the call `t` and the condition.
 const LAID: &str = "2 2 level 2 cells 1: y@1.1 after > 0+1 1+0 0 0; / \
 2 level 1 cells 6: x@1.0 m@0.3 after > 1+1 4+0 1 0; y@1.1 after c@0.10 > 2+1 4+1 4 0; y@1.1 after > 3+1 5+0 5 0; / \
 level 0 cells 13: n@0.0 after > 3+1 10+0 3 0; m@0.3 after > 4+1 10+1 10 0; xs@0.2 after > 5+3 11+1 12 1; / \

@@ -1,5 +1,6 @@
-//! Layouts as texts: the bodies between `/`, each with its path, its level and its cells, then its statements: what they need and
-//! come after, `>`, their names, their calls, the slot that tells that they are done, and the body of a block.
+//! Layouts as texts: the bodies between `/`, each with its path, its level and its cells, then its
+//! statements: what they need and come after, `>`, their names, their calls, the slot that tells
+//! that they are done, and the body of a block.
 
 use plan_layout::{BodyLayout, Layout, Need, StatementLayout};
 use std::alloc::Global;

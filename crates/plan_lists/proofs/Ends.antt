@@ -32,23 +32,23 @@ use Rattle.plan_lists.proofs.Counting.{all_jobs, no_faults, no_jobs, row_answers
 
 -- ---- nothing is ready
 
-set_same : (o : Option Value) → known.is_some o ≡ is_some o
+pub set_same : (o : Option Value) → known.is_some o ≡ is_some o
 set_same None = refl
 set_same (Some x) = refl
 
-cells_same : (b : Sheet) (owners : List ℕ) (cs : List ℕ) → are_set (state_of b owners) cs ≡ net.are_set b.values cs
+pub cells_same : (b : Sheet) (owners : List ℕ) (cs : List ℕ) → are_set (state_of b owners) cs ≡ net.are_set b.values cs
 cells_same b owners [] = refl
 cells_same b owners (c ∷ cs) =
     ap (λ (t : Bool). t && are_set (state_of b owners) cs) (set_same (value_at b.values c)) ∙ ap (λ (t : Bool). net.is_set b.values c && t) (cells_same b owners cs)
 
-stuck_too : (lib : Library) (site : List ℕ) (rows : List Row) (b : Sheet) (owners : List ℕ) → length b.rules ≡ length b.steps → AllStuck b → growing.AllStuck lib site rows (rules_of b) (state_of b owners)
+pub stuck_too : (lib : Library) (site : List ℕ) (rows : List Row) (b : Sheet) (owners : List ℕ) → length b.rules ≡ length b.steps → AllStuck b → growing.AllStuck lib site rows (rules_of b) (state_of b owners)
 stuck_too lib site rows b owners pairs stuck t r left =
     let w = there_too b.rules b.steps t r pairs left.rule in
     ap (are_set (state_of b owners)) (ap needs_in w.1) ∙ cells_same b owners w.0.needs ∙ stuck t w.0 w.1 (sym (ap taken_in w.1) ∙ left.left)
 
 -- ---- what the flow waits for
 
-is_nothing : {A : Type 0} (xs : List A) → is_empty xs ≡ true → xs ≡ []
+pub is_nothing : {A : Type 0} (xs : List A) → is_empty xs ≡ true → xs ≡ []
 is_nothing [] e = refl
 is_nothing (x ∷ xs) e = absurd (false≢true e)
 

@@ -1,20 +1,28 @@
 //! Laws of the definitions, which say nothing of code.
 
-ghost use Rattle.plan_lists.specs.Laws.{AnswersList, AttemptsList, ListsEnd, StepsList, TooManyEarly, WorksList};
+ghost use Rattle.plan_lists.specs.Laws.{
+  AnswersList,
+  AttemptsList,
+  ListsEnd,
+  StepsList,
+  TooManyEarly,
+  WorksList,
+};
 
-/// A step that adds work leaves lists that tell of the work, with the jobs, the faults and the count of what was added.
+/// A step that adds work leaves lists that tell of the work, with the jobs, the faults and the
+/// count of what was added.
 pub fn steps_list()
     ensures { StepsList }
 {}
 
-/// An answer that puts a call's work in place of another one leaves lists that tell of the work, with the jobs that the call has now
-/// and the faults that came.
+/// An answer that puts a call's work in place of another one leaves lists that tell of the work,
+/// with the jobs that the call has now and the faults that came.
 pub fn answers_list()
     ensures { AnswersList }
 {}
 
-/// Where no step is ready, lists that tell of the work of a workflow tell of its flow from scratch: its jobs without an answer, its
-/// faults, its count, and whether it is clean.
+/// Where no step is ready, lists that tell of the work of a workflow tell of its flow from scratch:
+/// its jobs without an answer, its faults, its count, and whether it is clean.
 pub fn lists_end()
     ensures { ListsEnd }
 {}

@@ -1,6 +1,6 @@
 -- A call that is left stands at a place where there is no job and no row.
 use Rattle.std.proofs.Common.{◌≡◌, ℕ, Bool, true, false, cond, ◌==◌, List, [], ◌∷◌, Contains, Some, None, arith, ap, refl, ◌∙◌}
-use Rattle.std.proofs.lemmas.Bool.{and_parts}
+use Rattle.std.proofs.lemmas.Bool.{and_parts, false_from_ne_true}
 use Rattle.std.proofs.lemmas.List.Elements.{Contains-append_right}
 use Rattle.wdl_base.specs.declared.place.Segment.{Segment}
 use Rattle.wdl_base.specs.declared.request.Request.{Request}
@@ -11,16 +11,12 @@ use Rattle.flow_laws.proofs.SameRequests.{place_same}
 use Rattle.plan_lists.specs.Lists.{JobTest, count_jobs, jobs_in}
 use Rattle.plan_may.specs.May.{RowsNone, at_place}
 
-bool_of : (b : Bool) → (b ≡ true → ⊥) → b ≡ false
-bool_of true n = absurd (n refl)
-bool_of false n = refl
-
 -- No job passes.
 pub none_pass : (is : JobTest) (rs : List Request) (cs : List Successes) → ((x : Request) (c : Successes) → Contains rs x → is x c ≡ true → ⊥) → count_jobs is rs cs ≡ 0
 none_pass is [] cs h = refl
 none_pass is (r ∷ rs) [] h = refl
 none_pass is (r ∷ rs) (c ∷ cs) h =
-    let first : ◌≡◌ {A = ℕ} (cond (is r c) 1 0) 0 = ap (λ (b : Bool). cond b 1 0) (bool_of (is r c) (h r c (0, omega arith, refl))) in
+    let first : ◌≡◌ {A = ℕ} (cond (is r c) 1 0) 0 = ap (λ (b : Bool). cond b 1 0) (false_from_ne_true (is r c) (h r c (0, omega arith, refl))) in
     let rest = none_pass is rs cs (λ x d k. h x d (Contains-append_right (r ∷ []) rs x k)) in
     omega (arith, first, rest)
 

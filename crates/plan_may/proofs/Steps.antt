@@ -1,8 +1,8 @@
 -- Each step of a plan that is ready may be done.
-use Rattle.std.proofs.Common.{◌≡◌, ◌<◌, ◌+◌, ℕ, true, false, List, [], ◌∷◌, ◌++◌, All, Option, Some, None, length, slice_get, arith, ap, refl, subst, sym, ◌∙◌}
+use Rattle.std.proofs.Common.{◌≡◌, ◌<◌, ◌+◌, ℕ, true, false, List, [], ◌∷◌, ◌++◌, All, Some, None, length, slice_get, arith, ap, refl, subst, sym, ◌∙◌}
 use Rattle.std.proofs.lemmas.Bool.{true≢false}
 use Rattle.std.proofs.lemmas.List.Elements.{All-head}
-use Rattle.std.proofs.lemmas.Option.{slice_get_within}
+use Rattle.std.proofs.lemmas.Option.{slice_get_within, same_Some}
 use Rattle.wdl_base.specs.declared.place.Segment.TheVariants as segment
 use Rattle.wdl_value.specs.Tables.{Row}
 use Rattle.wdl_typed.specs.declared.expr.TExpr.{TExpr}
@@ -36,7 +36,6 @@ use Rattle.plan_growth.specs.Entering.{Sown}
 use Rattle.plan_growth.specs.Growth.{AskedCall, IsGrowing, growth_leaves, is_leaf, sheet_of}
 use Rattle.plan_growth.specs.Meaning.{MeansDeclared, MeansInput, MeansOutput, MeansStatement, rule_cells}
 use Rattle.plan_growth.specs.News.{Stands}
-use Rattle.plan_growth.proofs.Lists.{get_none}
 use Rattle.plan_lists.specs.Lists.{jobs_in}
 use Rattle.plan_lists.proofs.Weights.{jobs_weigh}
 use Rattle.plan_may.specs.May.{HasInputs, IsApart, at_place, MayDo, MayInput, MayOutput, MayStatement, MayTell, StepsMay}
@@ -45,17 +44,7 @@ use Rattle.plan_may.proofs.Callers.{caller_there, callers}
 use Rattle.plan_may.proofs.Jobs.{jobs_called}
 use Rattle.plan_may.proofs.Places.{none_pass}
 use Rattle.plan_may.proofs.Statements.{expr_may, layer_may, needs_reached, reached, runs}
-
-some_same : {A : Type 0} {x y : A} → Some x ≡ Some y → x ≡ y
-some_same e = cc
-
--- a place of a list that is among so many
-element_at : {A : Type 0} (xs : List A) (i : ℕ) → i < length xs → (x : A) × (slice_get xs i ≡ Some x)
-element_at {A = A} xs i lt = by_element (slice_get xs i) refl
-  where
-    by_element : (o : Option A) → slice_get xs i ≡ o → (x : A) × (slice_get xs i ≡ Some x)
-    by_element None e = let past = get_none xs i e in absurd (omega (arith, lt, past))
-    by_element (Some x) e = (x, e)
+use Rattle.wdl_base.proofs.Options.{item_there}
 
 module _ (b : Sheet) (owners : List ℕ) (t : ℕ) where
   free_below : (c : ℕ) → IsFree b owners t c → c < length b.values
@@ -105,8 +94,8 @@ module _ (lib : Library) (layout : Layout) (site : List ℕ) (rows : List Row) (
       let twice = q.once 1 in
       let st = state_of sheet owners in
       let p = growing.growth.grown in
-      let mine = caller_there lib site rows (rules_of sheet) st t x call is_call s g d (λ o i. some_same (sym i ∙ e)) p (omega (arith, once)) in
-      let other = caller_there lib site rows (rules_of sheet) st c.step (stmt.Call q.call) q.call (stmt.outs-Call q.call) q.scope q.given q.done (λ o i. some_same (sym i ∙ q.rule)) p (omega (arith, twice)) in
+      let mine = caller_there lib site rows (rules_of sheet) st t x call is_call s g d (λ o i. same_Some _ _ (sym i ∙ e)) p (omega (arith, once)) in
+      let other = caller_there lib site rows (rules_of sheet) st c.step (stmt.Call q.call) q.call (stmt.outs-Call q.call) q.scope q.given q.done (λ o i. same_Some _ _ (sym i ∙ q.rule)) p (omega (arith, twice)) in
       let one =
       one_at_a_place (callers lib site rows (rules_of sheet) st p) (callers_apart lib site rows (rules_of sheet) st depth form growing.root p) (record { step = t; place = s.place ++ segment.Call call.name ∷ [] })
       (record { step = c.step; place = q.scope.place ++ segment.Call q.call.name ∷ [] }) mine other (sym same ∙ q.place) in
@@ -120,7 +109,7 @@ module _ (lib : Library) (layout : Layout) (site : List ℕ) (rows : List Row) (
       let st = state_of sheet owners in
       let p = growing.growth.grown in
       let place = s.place ++ segment.Call call.name ∷ [] in
-      let mine = caller_there lib site rows (rules_of sheet) st t x call is_call s g d (λ o i. some_same (sym i ∙ e)) p (omega (arith, once)) in
+      let mine = caller_there lib site rows (rules_of sheet) st t x call is_call s g d (λ o i. same_Some _ _ (sym i ∙ e)) p (omega (arith, once)) in
       let w = work_of lib site rows (rules_of sheet) st p in
       sym (growing.weighs (λ (y : Work). jobs_in y (at_place place)) (jobs_weigh (at_place place)))
       ∙ none_pass (at_place place) w.jobs w.codes (λ y c within passes.
@@ -231,7 +220,7 @@ module _ (lib : Library) (layout : Layout) (site : List ℕ) (rows : List Row) (
   step_may =
       let lt = slice_get_within v.steps t w there in
       let even = growing.even.rules_too in
-      let m = element_at rules t (omega (arith, lt, even)) in
+      let m = item_there rules t (omega (arith, lt, even)) in
       by_rule r m.0 m.1 (growing.stands t r w m.0 rule_there there m.1)
 
 pub steps : StepsMay

@@ -1,6 +1,7 @@
 -- Moves of answers that arrive.
 use Rattle.std.proofs.Common.{◌≡◌, ◌+◌, ℕ, true, false, List, [], ◌∷◌, ◌++◌, Option, Some, slice_get, arith, ap, refl, subst, sym, ◌∙◌}
 use Rattle.std.proofs.lemmas.Bool.{true≢false}
+use Rattle.std.proofs.lemmas.Option.{same_Some}
 use Rattle.wdl_base.specs.declared.place.Segment.{Segment}
 use Rattle.wdl_base.specs.declared.place.Segment.TheVariants as segment
 use Rattle.wdl_value.specs.declared.value.Value.{Value}
@@ -25,7 +26,6 @@ use Rattle.plan_moves.specs.Laws.{AnswersArrive, HasAnswered, TellsCall}
 use Rattle.plan_moves.specs.Sheets.{Grown, IsArrival, Sheet, needs_in, rules_of, state_of, taken_in}
 use Rattle.plan_moves.proofs.Kept.{sets_kept, value_in}
 use Rattle.plan_moves.proofs.Needed.{follows_on, plain_on}
-use Rattle.plan_moves.proofs.Turns.{same_some}
 
 -- A flow has one work.
 same_work : (cells : ℕ → Option Value) (g : Given) (v w : Work) → flowing_of cells g v ≡ flowing_of cells g w → v ≡ w
@@ -80,7 +80,7 @@ module _ (lib : Library) (site : List ℕ) (rows later : List Row) (t : ℕ) (a 
 
   of_call : (x : TCall) (s : Scope) (g : Given) (d : ℕ) → slice_get a.rules t ≡ Some (does (stmt.Call x) s g d) → TellsCall lib site rows a x s g v × TellsCall lib site later b x s g w
   of_call x s g d e =
-      subst (λ (y : Statement-F Statement). Layer y s g) (stmt.outs-Call x) (subst TellsOf (same_some (sym is ∙ e)) (subst (λ (y : Statement-F Statement). Layer y s0 g0) (sym (stmt.outs-Call x0)) (was, now)))
+      subst (λ (y : Statement-F Statement). Layer y s g) (stmt.outs-Call x) (subst TellsOf (same_Some _ _ (sym is ∙ e)) (subst (λ (y : Statement-F Statement). Layer y s0 g0) (sym (stmt.outs-Call x0)) (was, now)))
 
   abbrev call_now : (u : ℕ) (s : Scope) (x : TCall) → CallNeeded (state_of a mine) u s x → CallNeeded (state_of b mine) u s x
   call_now u s x n = record { slots = n.slots; marks = n.marks; distinct = n.distinct; needs = n.needs; uses = n.uses; comes_after = n.comes_after; cells = needs_same u ∙ n.cells }
@@ -113,7 +113,7 @@ module _ (lib : Library) (site : List ℕ) (rows later : List Row) (t : ℕ) (a 
 
   place_same : (x : TCall) (s : Scope) (g : Given) (d : ℕ) → slice_get a.rules t ≡ Some (does (stmt.Call x) s g d) → s.place ++ segment.Call x.name ∷ [] ≡ s0.place ++ segment.Call x0.name ∷ []
   place_same x s g d e =
-      subst (λ (y : Statement-F Statement). PlaceLayer y s.place) (stmt.outs-Call x) (subst PlaceOf (same_some (sym is ∙ e)) (subst (λ (y : Statement-F Statement). PlaceLayer y s0.place) (sym (stmt.outs-Call x0)) refl))
+      subst (λ (y : Statement-F Statement). PlaceLayer y s.place) (stmt.outs-Call x) (subst PlaceOf (same_Some _ _ (sym is ∙ e)) (subst (λ (y : Statement-F Statement). PlaceLayer y s0.place) (sym (stmt.outs-Call x0)) refl))
 
   others_answered : (depth : ℕ) (f : Form) → IsRoot lib depth f → (p : Grown lib site rows a mine depth f) → ((k : ℕ) → at_step lib site rows (rules_of a) (state_of a mine) t k p ≡ k)
       → OthersAnswered lib site rows later (rules_of a) (rules_of b) (state_of a mine) (state_of b mine) t (askers lib site rows (rules_of a) (state_of a mine) p)
@@ -135,7 +135,7 @@ module _ (lib : Library) (site : List ℕ) (rows later : List Row) (t : ℕ) (a 
             told_call depth x s g d u w (kept.done u (does (stmt.Call x) s g d) q.done) (call_now u s x q.needed) (set_now u q.set) q.named q.ends_at
             (record { names = q.own.names; calls = q.own.calls; done = q.own.done }) (plain_on lib site later b x s g w (tells_of u e depth x s g d n q).1 u mine (call_now u s x q.needed))
             (follows_on lib site later b x s g w (tells_of u e depth x s g d n q).1 u mine (call_now u s x q.needed) depth);
-        only_call = λ r q. (x0, s0, g0, d0, sym (same_some (sym is ∙ q.rule)));
+        only_call = λ r q. (x0, s0, g0, d0, sym (same_Some _ _ (sym is ∙ q.rule)));
       }
 
   adds : (weight : Work → ℕ) → TurnWeighs lib site rows later (rules_of a) (rules_of b) (state_of a mine) (state_of b mine) t turned weight (weight v) (weight w)

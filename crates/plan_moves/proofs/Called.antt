@@ -1,5 +1,6 @@
 -- Moves of calls of workflows, which are entered.
 use Rattle.std.proofs.Common.{◌≡◌, ◌+◌, ℕ, zero, suc, List, Some, length, slice_get, arith, refl, subst, sym, ◌∙◌}
+use Rattle.std.proofs.lemmas.Option.{same_Some}
 use Rattle.wdl_value.specs.Tables.{Row}
 use Rattle.wdl_typed.specs.declared.flow.Statement.{Statement, Statement-F, out-Statement}
 use Rattle.wdl_typed.specs.declared.flow.Statement.TheOpen as layer
@@ -21,7 +22,7 @@ use Rattle.plan_moves.specs.Sheets.{Grown, IsMove, Sheet, rules_of, state_of}
 use Rattle.plan_moves.proofs.Kept.{done_now, grows, hit_other, needs_now, no_less, not_done_at, plus_zero, rows_same, set_now, spares}
 use Rattle.plan_moves.proofs.Apart.{decl_kind, if_kind, kind, layer_kind, scatter_kind}
 use Rattle.plan_moves.proofs.Needed.{met_on}
-use Rattle.plan_moves.proofs.Turns.{New, same_kind, same_some, turn}
+use Rattle.plan_moves.proofs.Turns.{New, same_kind, turn}
 
 arguments_alone : (k n : ℕ) → n ≡ 0 → (k + n) + 0 ≡ k
 arguments_alone k n e = omega (arith, e)
@@ -110,7 +111,7 @@ module _ (lib : Library) (site : List ℕ) (rows : List Row) (t : ℕ) (a : Shee
     other q k e f n = apart k (same_kind lib site rows t a mine b theirs r q k is e f) n
 
     told_of : (q : Rule) → slice_get a.rules t ≡ Some q → Told q
-    told_of q e = subst Told (same_some (sym is ∙ e)) h
+    told_of q e = subst Told (same_Some _ _ (sym is ∙ e)) h
 
     abbrev enters_of : (x : TCall) (s : Scope) (g : Given) (d : ℕ) → IsLeft lib site rows (rules_of a) (state_of a mine) t (does (stmt.Call x) s g d) → Enters x s g d
     enters_of x s g d left = back x s g d (told_of (does (stmt.Call x) s g d) left.rule)

@@ -1,5 +1,6 @@
 -- Moves of calls that are prepared, or that fail.
 use Rattle.std.proofs.Common.{◌≡◌, ℕ, List, Some, slice_get, arith, refl, subst, sym, ◌∙◌}
+use Rattle.std.proofs.lemmas.Option.{same_Some}
 use Rattle.wdl_value.specs.Tables.{Row}
 use Rattle.wdl_typed.specs.declared.flow.Statement.{Statement, Statement-F, out-Statement}
 use Rattle.wdl_typed.specs.declared.flow.Statement.TheOpen as layer
@@ -19,7 +20,7 @@ use Rattle.plan_moves.specs.Sheets.{Grown, Holds, IsMove, Sheet, rules_of, state
 use Rattle.plan_moves.proofs.Kept.{done_now, grows, needs_now, not_done_at, plus_zero, set_now, spares, rows_same}
 use Rattle.plan_moves.proofs.Apart.{decl_kind, if_kind, kind, layer_kind, scatter_kind}
 use Rattle.plan_moves.proofs.Needed.{cost_on, follows_on, plain_on}
-use Rattle.plan_moves.proofs.Turns.{same_kind, same_some, turn}
+use Rattle.plan_moves.proofs.Turns.{same_kind, turn}
 
 module _ (lib : Library) (site : List ℕ) (rows : List Row) (t : ℕ) (a : Sheet) (mine : List ℕ) (b : Sheet) (theirs : List ℕ) (m : IsMove t a mine b theirs) (holds : Holds t mine theirs) (w : Work) (cost : TaskCost → ℕ) where
   -- ---- what the rule tells
@@ -80,7 +81,7 @@ module _ (lib : Library) (site : List ℕ) (rows : List Row) (t : ℕ) (a : Shee
     other q k e f n = apart k (same_kind lib site rows t a mine b theirs r q k is e f) n
 
     told_of : (q : Rule) → slice_get a.rules t ≡ Some q → Told q
-    told_of q e = subst Told (same_some (sym is ∙ e)) h
+    told_of q e = subst Told (same_Some _ _ (sym is ∙ e)) h
 
     abbrev tells_of : (x : TCall) (s : Scope) (g : Given) (d : ℕ) → IsLeft lib site rows (rules_of a) (state_of a mine) t (does (stmt.Call x) s g d) → Tells x s g
     tells_of x s g d left = back x s g d (told_of (does (stmt.Call x) s g d) left.rule)

@@ -1,5 +1,6 @@
 -- Moves of declarations, defaults and outputs.
 use Rattle.std.proofs.Common.{◌≡◌, ◌⊎◌, inl, inr, ℕ, List, [], map, Some, slice_get, arith, refl, subst, sym, ◌∙◌}
+use Rattle.std.proofs.lemmas.Option.{same_Some}
 use Rattle.wdl_value.specs.Tables.{Row}
 use Rattle.wdl_typed.specs.declared.expr.TExpr.{TExpr}
 use Rattle.wdl_typed.specs.declared.flow.Statement.{Statement, Statement-F, out-Statement}
@@ -26,7 +27,7 @@ use Rattle.plan_moves.specs.Laws.{DeclarationsMove, DefaultsMove, HasMoved, IsOn
 use Rattle.plan_moves.specs.Sheets.{Grown, Holds, IsMove, Sheet, rules_of, state_of}
 use Rattle.plan_moves.proofs.Kept.{done_now, grows, hit_other, names_now, not_done_at, plus_zero, set_now, spares, zero_plus, rows_same}
 use Rattle.plan_moves.proofs.Apart.{call_kind, if_kind, kind, layer_kind, scatter_kind}
-use Rattle.plan_moves.proofs.Turns.{same_kind, same_some, turn}
+use Rattle.plan_moves.proofs.Turns.{same_kind, turn}
 
 module _ (lib : Library) (site : List ℕ) (rows : List Row) (t : ℕ) (a : Sheet) (mine : List ℕ) (b : Sheet) (theirs : List ℕ) (m : IsMove t a mine b theirs) (holds : Holds t mine theirs) (w : Work) where
   -- ---- what the rule tells
@@ -88,7 +89,7 @@ module _ (lib : Library) (site : List ℕ) (rows : List Row) (t : ℕ) (a : Shee
     other q k e f n o = apart k (same_kind lib site rows t a mine b theirs r q k is e f) n o
 
     told_of : (q : Rule) → slice_get a.rules t ≡ Some q → Told q
-    told_of q e = subst Told (same_some (sym is ∙ e)) h
+    told_of q e = subst Told (same_Some _ _ (sym is ∙ e)) h
 
     abbrev turned : Turn lib site rows rows (rules_of a) (rules_of b) (state_of a mine) (state_of b theirs) t
     turned =

@@ -1,5 +1,6 @@
 -- Moves of blocks that are entered: a scatter with its items, and a condition that is true.
 use Rattle.std.proofs.Common.{◌≡◌, ◌+◌, ◌⊎◌, inl, inr, ℕ, List, Some, Ok, slice_get, arith, refl, subst, sym, ◌∙◌}
+use Rattle.std.proofs.lemmas.Option.{same_Some}
 use Rattle.wdl_value.specs.Tables.{Row}
 use Rattle.wdl_typed.specs.declared.flow.Statement.{Statement, Statement-F, out-Statement}
 use Rattle.wdl_typed.specs.declared.flow.Statement.TheOpen as layer
@@ -19,7 +20,7 @@ use Rattle.plan_moves.specs.Laws.{BlocksEnter, EntersIf, EntersScatter, HasEnter
 use Rattle.plan_moves.specs.Sheets.{Grown, IsMove, Sheet, rules_of, state_of}
 use Rattle.plan_moves.proofs.Apart.{call_kind, decl_kind, kind, layer_kind}
 use Rattle.plan_moves.proofs.Kept.{done_now, grows, head_now, hit_other, names_now, no_less, not_done_at, plus_zero, set_now, spares, rows_same}
-use Rattle.plan_moves.proofs.Turns.{same_kind, same_some, turn}
+use Rattle.plan_moves.proofs.Turns.{same_kind, turn}
 
 head_alone : (n : ℕ) → n ≡ 0 → (1 + n) + 0 ≡ 1
 head_alone n e = omega (arith, e)
@@ -74,10 +75,10 @@ module _ (lib : Library) (site : List ℕ) (rows : List Row) (t : ℕ) (a : Shee
     other q k e f n o = apart k (same_kind lib site rows t a mine b theirs r q k is e f) n o
 
     of_scatter : (x : TScatter Statement) (s : Scope) (g : Given) (d : ℕ) → slice_get a.rules t ≡ Some (does (stmt.Scatter x) s g d) → EntersScatter lib site rows b theirs x s g d w new
-    of_scatter x s g d e = subst (λ (y : Statement-F Statement). Layer y s g d) (stmt.outs-Scatter x) (subst Told (same_some (sym is ∙ e)) h)
+    of_scatter x s g d e = subst (λ (y : Statement-F Statement). Layer y s g d) (stmt.outs-Scatter x) (subst Told (same_Some _ _ (sym is ∙ e)) h)
 
     of_if : (x : TIf Statement) (s : Scope) (g : Given) (d : ℕ) → slice_get a.rules t ≡ Some (does (stmt.If x) s g d) → EntersIf lib site rows b theirs x s g d w new
-    of_if x s g d e = subst (λ (y : Statement-F Statement). Layer y s g d) (stmt.outs-If x) (subst Told (same_some (sym is ∙ e)) h)
+    of_if x s g d e = subst (λ (y : Statement-F Statement). Layer y s g d) (stmt.outs-If x) (subst Told (same_Some _ _ (sym is ∙ e)) h)
 
     abbrev turned : Turn lib site rows rows (rules_of a) (rules_of b) (state_of a mine) (state_of b theirs) t
     turned =

@@ -1,5 +1,6 @@
 -- Moves of joints.
 use Rattle.std.proofs.Common.{◌≡◌, ◌<◌, inr, ℕ, List, Some, slice_get, arith, refl, subst, sym, ◌∙◌}
+use Rattle.std.proofs.lemmas.Option.{same_Some}
 use Rattle.wdl_value.specs.Tables.{Row}
 use Rattle.wdl_typed.specs.declared.flow.Statement.TheVariants as stmt
 use Rattle.wdl_typed.specs.Bodies.{Library}
@@ -15,7 +16,7 @@ use Rattle.plan_moves.specs.Laws.{HasMoved, Joins, JointsMove}
 use Rattle.plan_moves.specs.Sheets.{Grown, IsMove, Sheet, rules_of, state_of}
 use Rattle.plan_moves.proofs.Kept.{grows, not_done_at, spares, rows_same}
 use Rattle.plan_moves.proofs.Apart.{call_kind, decl_kind, if_kind, kind, scatter_kind}
-use Rattle.plan_moves.proofs.Turns.{same_kind, same_some, turn}
+use Rattle.plan_moves.proofs.Turns.{same_kind, turn}
 
 module _ (lib : Library) (site : List ℕ) (rows : List Row) (t : ℕ) (a : Sheet) (mine : List ℕ) (b : Sheet) (theirs : List ℕ) where
   -- what the rule's joint is, once it is done
@@ -52,8 +53,8 @@ module _ (lib : Library) (site : List ℕ) (rows : List Row) (t : ℕ) (a : Shee
     turned =
         turn lib site rows t a mine b theirs m r is (λ e. absurd (apart 0 e (omega arith))) (λ e. absurd (apart 1 e (omega arith))) (λ e. absurd (apart 2 e (omega arith))) (λ e. absurd (apart 3 e (omega arith)))
         (λ e. absurd (apart 4 e (omega arith)))
-        (λ e parts c w. subst Out (same_some (sym is ∙ w.left.rule)) (out r h)) (λ e parts c w. subst Out (same_some (sym is ∙ w.left.rule)) (out r h))
-        (λ e from c w. subst Out (same_some (sym is ∙ w.left.rule)) (out r h))
+        (λ e parts c w. subst Out (same_Some _ _ (sym is ∙ w.left.rule)) (out r h)) (λ e parts c w. subst Out (same_Some _ _ (sym is ∙ w.left.rule)) (out r h))
+        (λ e from c w. subst Out (same_Some _ _ (sym is ∙ w.left.rule)) (out r h))
 
     adds : (weight : Work → ℕ) → TurnWeighs lib site rows rows (rules_of a) (rules_of b) (state_of a mine) (state_of b theirs) t turned weight 0 0
     adds weight =

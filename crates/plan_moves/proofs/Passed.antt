@@ -1,5 +1,6 @@
 -- Moves of blocks that are not entered: a head that fails, and a condition that is false.
 use Rattle.std.proofs.Common.{◌≡◌, ◌+◌, ◌⊎◌, inl, inr, ℕ, List, [], ◌∷◌, ◌++◌, Some, Ok, Err, slice_get, codes, arith, ap, refl, subst, sym, ◌∙◌}
+use Rattle.std.proofs.lemmas.Option.{same_Some}
 use Rattle.wdl_base.specs.declared.place.Segment.TheVariants as segment
 use Rattle.wdl_value.specs.Tables.{Row}
 use Rattle.wdl_typed.specs.declared.flow.Statement.{Statement, Statement-F, out-Statement}
@@ -22,7 +23,7 @@ use Rattle.plan_moves.specs.Laws.{BlocksPass, FailsIf, FailsScatter, HasMoved, I
 use Rattle.plan_moves.specs.Sheets.{Grown, Holds, IsMove, Sheet, rules_of, state_of}
 use Rattle.plan_moves.proofs.Kept.{done_now, grows, head_now, hit_other, names_now, not_done_at, plus_zero, set_now, spares, zero_plus, rows_same}
 use Rattle.plan_moves.proofs.Apart.{call_kind, decl_kind, kind, layer_kind}
-use Rattle.plan_moves.proofs.Turns.{New, same_kind, same_some, turn}
+use Rattle.plan_moves.proofs.Turns.{New, same_kind, turn}
 
 weigh : (weight : Work → ℕ) (v w : Work) → w ≡ v → weight v + 0 ≡ weight w
 weigh weight v w e = plus_zero (weight v) ∙ ap weight (sym e)
@@ -118,10 +119,10 @@ module _ (lib : Library) (site : List ℕ) (rows : List Row) (t : ℕ) (a : Shee
     other q k e f n o = apart k (same_kind lib site rows t a mine b theirs r q k is e f) n o
 
     of_scatter : (x : TScatter Statement) (s : Scope) (g : Given) (d : ℕ) → slice_get a.rules t ≡ Some (does (stmt.Scatter x) s g d) → FailsScatter t a mine b x s w
-    of_scatter x s g d e = subst (λ (y : Statement-F Statement). Layer y s g d) (stmt.outs-Scatter x) (subst Told (same_some (sym is ∙ e)) h)
+    of_scatter x s g d e = subst (λ (y : Statement-F Statement). Layer y s g d) (stmt.outs-Scatter x) (subst Told (same_Some _ _ (sym is ∙ e)) h)
 
     of_if : (x : TIf Statement) (s : Scope) (g : Given) (d : ℕ) → slice_get a.rules t ≡ Some (does (stmt.If x) s g d) → OfIfs x s g d
-    of_if x s g d e = subst (λ (y : Statement-F Statement). Layer y s g d) (stmt.outs-If x) (subst Told (same_some (sym is ∙ e)) h)
+    of_if x s g d e = subst (λ (y : Statement-F Statement). Layer y s g d) (stmt.outs-If x) (subst Told (same_Some _ _ (sym is ∙ e)) h)
 
     abbrev turned : Turn lib site rows rows (rules_of a) (rules_of b) (state_of a mine) (state_of b theirs) t
     turned =

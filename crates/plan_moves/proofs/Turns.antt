@@ -1,5 +1,6 @@
 -- What a move makes of its step, by what the step is to do.
 use Rattle.std.proofs.Common.{◌≡◌, ℕ, List, [], ◌∷◌, Some, slice_get, ap, refl, sym, ◌∙◌}
+use Rattle.std.proofs.lemmas.Option.{same_Some}
 use Rattle.wdl_value.specs.Tables.{Row}
 use Rattle.wdl_typed.specs.declared.expr.TExpr.{TExpr}
 use Rattle.wdl_typed.specs.declared.flow.Statement.{Statement}
@@ -17,9 +18,6 @@ use Rattle.net_laws.specs.Roots.{IsCallable}
 use Rattle.plan_moves.specs.Sheets.{IsMove, Sheet, rules_of, state_of}
 use Rattle.plan_moves.proofs.Kept.{not_done, not_done_at}
 use Rattle.plan_moves.proofs.Apart.{call_kind, decl_kind, if_kind, kind, scatter_kind}
-
-pub same_some : {A : Type 0} {x y : A} → Some x ≡ Some y → x ≡ y
-same_some e = cc
 
 module _ (lib : Library) (site : List ℕ) (rows : List Row) (t : ℕ) (a : Sheet) (mine : List ℕ) (b : Sheet) (theirs : List ℕ) where
   abbrev pub Left : Rule → Type 0
@@ -67,7 +65,7 @@ module _ (lib : Library) (site : List ℕ) (rows : List Row) (t : ℕ) (a : Shee
 
   -- The step has the rule alone, so its kind alone.
   pub same_kind : (r q : Rule) (k : ℕ) → slice_get a.rules t ≡ Some r → slice_get a.rules t ≡ Some q → kind q ≡ k → kind r ≡ k
-  same_kind r q k is e h = ap kind (same_some (sym is ∙ e)) ∙ h
+  same_kind r q k is e h = ap kind (same_Some _ _ (sym is ∙ e)) ∙ h
 
   abbrev pub turn : IsMove t a mine b theirs → (r : Rule) → slice_get a.rules t ≡ Some r → (kind r ≡ 0 → OfDecl) → (kind r ≡ 1 → OfCall) → (kind r ≡ 2 → OfScatter) → (kind r ≡ 3 → OfIf) → (kind r ≡ 4 → OfDeclared)
       → (kind r ≡ 5 → OfGathered) → (kind r ≡ 6 → OfEnding) → (kind r ≡ 7 → OfCopied) → Turn lib site rows rows (rules_of a) (rules_of b) (state_of a mine) (state_of b theirs) t

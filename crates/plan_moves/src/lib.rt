@@ -1,4 +1,5 @@
-//! Laws of the moves of a plan: what each kind of step does to a net, and that the net goes on growing.
+//! Laws of the moves of a plan: what each kind of step does to a net, and that the net goes on
+//! growing.
 #![tactic(auto)]
 
 mod laws;

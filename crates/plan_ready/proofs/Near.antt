@@ -1,5 +1,5 @@
 -- What is ready in a sight is ready over needs that have the same values.
-use Rattle.std.proofs.Common.{◌≡◌, Bool, true, false, cond, ◌||◌, List, [], ◌∷◌, ◌++◌, map, Option, Some, None, Ok, refl, subst, sym, ◌∙◌}
+use Rattle.std.proofs.Common.{◌≡◌, Bool, true, false, cond, ◌||◌, List, [], ◌∷◌, map, Option, Some, None, Ok, refl, subst, sym, ◌∙◌}
 use Rattle.wdl_base.specs.declared.name.Key.{Key}
 use Rattle.wdl_value.specs.declared.env.Bind.{Bind}
 use Rattle.wdl_value.specs.declared.value.Value.{Value}
@@ -18,7 +18,7 @@ use Rattle.flow_laws.proofs.Keys.{key_same}
 use Rattle.net_laws.specs.Net.{Cells, Scope, Slot, known_in, slot_keys}
 use Rattle.net_laws.specs.Rules.{Needs, arg_keys, head}
 use Rattle.net_laws.proofs.Further.{Sees, further}
-use Rattle.net_laws.proofs.Local.{known_same}
+use Rattle.net_laws.proofs.Local.{known_same, agree_left as first_keys, agree_right as later_keys}
 use Rattle.net_laws.proofs.Sets.{all_known_set, slots_set}
 
 -- Where names agree, each one is looked up the same.
@@ -39,14 +39,6 @@ ready_near e env other a r =
       typed = r.typed;
       fitting = λ key h. subst (λ (o : Option Value). IsGiven r.context.structs (type_in r.context.names key) o) (sym (agreed env other (names_of e) a key h)) (r.fitting key h);
     }
-
-first_keys : (env other : List Bind) (ks ls : List Key) → Agree env other (ks ++ ls) → Agree env other ks
-first_keys env other [] ls h = tt
-first_keys env other (k ∷ ks) ls h = (h.0, first_keys env other ks ls h.1)
-
-later_keys : (env other : List Bind) (ks ls : List Key) → Agree env other (ks ++ ls) → Agree env other ls
-later_keys env other [] ls h = h
-later_keys env other (k ∷ ks) ls h = later_keys env other ks ls h.1
 
 pub args_near : (env other : List Bind) (as_ : List (TField TExpr)) → Agree env other (arg_keys as_) → AreArgsReady other as_ → AreArgsReady env as_
 args_near env other [] a h = tt

@@ -27,11 +27,10 @@ use Rattle.wdl_task.specs.Readiness.{are_given}
 use Rattle.flow_soundness.specs.Readiness.{AreDeclsReady, AreInputsReady, IsBodyReady, IsDeclReady, IsDefaultReady, IsFlowReady, IsStatementReady}
 use Rattle.flow_soundness.proofs.BlockReady.{if_body_ready, if_cond_ready, scatter_items_ready, scatter_over_ready}
 use Rattle.flow_soundness.proofs.FlowReady.{flow_body_ready, flow_inputs_ready, flow_outputs_ready}
-use Rattle.flow_soundness.proofs.GivenKeys.{some_inside}
 use Rattle.flow_soundness.proofs.Ready.{call_args_ready, callee_is_ready, decl_is_ready, first_ready, rest_ready, statement_typed}
 use Rattle.flow_laws.specs.Laws.{run_with}
 use Rattle.flow_laws.proofs.Agree.{Agree}
-use Rattle.flow_laws.proofs.Checked.{each_passes, kept}
+use Rattle.flow_laws.proofs.Checked.{kept}
 use Rattle.flow_laws.proofs.Runners.{sight}
 use Rattle.net_laws.specs.Growing.{CallNeeded, Declared, Form, Growing, NamesNeeded, Rule, State, absent_input, all, are_set, declares, default_input, does, each, each_scatter, failed_if, failed_scatter, false_if, flow_whole, given_input, is_set, item_next, left_call, left_decl, left_if, left_scatter, next, no_input, no_item, no_output, none_left, one, only, output_next, run_call, start, takes, tells, told_call, told_decl, true_if, whole}
 use Rattle.net_laws.specs.Moving.{at_step, declared_at}
@@ -48,6 +47,7 @@ use Rattle.net_laws.proofs.Local.{args_known_same, args_met_same}
 use Rattle.net_laws.proofs.Sets.{args_known_set, slots_set}
 use Rattle.plan_ready.specs.Ready.{IsCallReady, IsLayerReady, IsRuleReady, StepsReady}
 use Rattle.plan_ready.proofs.Near.{args_near, expr_near, known_there, value_there}
+use Rattle.wdl_base.proofs.Options.{all_at, then_parts}
 
 module _ (lib : Library) (site : List ℕ) (rows : List Row) (desc : ℕ → Rule → Type 0) (st : State) (t : ℕ) (r : Rule) (same : (q : Rule) → desc t q → q ≡ r) where
   abbrev run : Run
@@ -119,7 +119,7 @@ module _ (lib : Library) (site : List ℕ) (rows : List Row) (desc : ℕ → Rul
   call_there : (levels : ℕ) (x : TCall) (s : Sight) → IsStatementReady lib levels (stmt.Call x) s → (g : Signature) × (signature lib x.target ≡ Some g)
   call_there levels x s b =
       let h = statement_typed lib levels (stmt.Call x) s b (layer.Call x) (stmt.outs-Call x) in
-      let p = some_inside (signature lib x.target) (call_by lib.structs x b.seen) h.0 h.1 in
+      let p = then_parts (call_by lib.structs x b.seen) (signature lib x.target) h.0 h.1 in
       (p.0, p.1)
 
   call_ready_at : (x : TCall) (s : Scope) → keys_distinct (slot_keys s.names) ≡ true → OneAt (stmt.Call x) s → IsCallReady lib st.cells s x
@@ -364,7 +364,7 @@ steps lib main checked site rows rules st depth k f there given fit place g ds p
       found = there;
       ready = record {
         library = record { tasks = kept_.tasks; flows = kept_.flows };
-        nested = λ f_ e. body_kept lib f_ (each_passes (flow_typed lib) lib.flows k f_ kept_.flows e);
+        nested = λ f_ e. body_kept lib f_ (all_at (flow_typed lib) lib.flows k f_ kept_.flows e);
         fit = λ f_ e. subst (λ (w : FlowDef). are_given lib.structs w.inputs given ≡ true) (one_flow (slice_get lib.flows k) f_ f there e) fit;
       };
     })

@@ -7,8 +7,8 @@ pub fn needs_fit()
     ensures { NeedsFit }
 {}
 
-/// A body that is laid out has its cells: what its statements give out is among them, and what they need is there behind any number
-/// of cells, where what the body sees is there.
+/// A body that is laid out has its cells: what its statements give out is among them, and what they
+/// need is there behind any number of cells, where what the body sees is there.
 pub fn bodies_fit()
     ensures { BodiesFit }
 {}

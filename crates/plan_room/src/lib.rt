@@ -1,4 +1,5 @@
-//! Laws of layouts: what a workflow's statements need and give out has cells, wherever its instances are put.
+//! Laws of layouts: what a workflow's statements need and give out has cells, wherever its
+//! instances are put.
 #![tactic(auto)]
 
 mod laws;

@@ -4,17 +4,19 @@ use Rattle.std.specs.List.{slice_set, swap_remove, position_or_len}
 use Rattle.std.proofs.lemmas.Bool.{cases_eq, cases_lt, eq-eqb, false≢true}
 use Rattle.std.proofs.lemmas.List.{length-append, length-map, length-set, map-append}
 use Rattle.std.proofs.lemmas.List.Sums.{fails_before_first}
+use Rattle.std.proofs.lemmas.Option.{same_Some}
 use Rattle.wdl_base.specs.declared.place.Segment.{Segment}
 use Rattle.wdl_base.specs.Same.{same_place}
 use Rattle.wdl_names.specs.Marks.{first_place}
 use Rattle.wdl_task.specs.declared.request.Prepared.{Prepared}
 use Rattle.wdl_flow.specs.Marks.{place_mark}
 use Rattle.flow_laws.proofs.SameRequests.{place_itself, place_same}
-use Rattle.step_net.proofs.Gets.{get_map, get_other, get_same, some_same}
+use Rattle.step_net.proofs.Gets.{get_map, get_other, get_same}
 use Rattle.plan_steps.specs.declared.asking.Asked.{Asked}
 use Rattle.plan_steps.specs.declared.asking.Asking.{Asking}
 use Rattle.plan_steps.specs.Askings.{AreAsking, Call, HasAnswered, IsAnswered, IsAsking, IsFoundAt, IsNew, IsOwned, call_of, calls, is_past, mark_of, place_in}
 use Rattle.plan_steps.proofs.Lists.{get_last, get_left, get_push, get_swapped, put_last, put_other, read_at, swapped_length, within}
+use Rattle.wdl_base.proofs.Options.{item_there}
 
 -- ---- search
 
@@ -24,7 +26,7 @@ IsNewBelow cs place at = (i : ℕ) (c : Call) → i < at → slice_get cs i ≡ 
 
 mark_at : (asked : List Asked) (i : ℕ) (c : Call) → slice_get (map call_of asked) i ≡ Some c → get_or (map mark_of asked) i 0 ≡ place_mark 0 c.place
 mark_at [] i c e = cc
-mark_at (a ∷ as_) zero c e = ap (λ (x : Call). place_mark 0 x.place) (some_same e)
+mark_at (a ∷ as_) zero c e = ap (λ (x : Call). place_mark 0 x.place) (same_Some _ _ e)
 mark_at (a ∷ as_) (suc i) c e = mark_at as_ i c e
 
 pub none_before : (asked : List Asked) (marks : List ℕ) (place : List Segment) (from : ℕ) → marks ≡ map mark_of asked → from ≡ first_place (place_mark 0 place) marks → IsNewBelow (map call_of asked) place from
@@ -47,7 +49,7 @@ none_below_more asked at a place inside e differ h i c less there same = by_case
     by_case (inl l) = h i c l there same
     by_case (inr l) =
         let here : i ≡ at = omega (arith, less, l) in
-        let is : call_of a ≡ c = some_same (sym (call_there asked at a inside e) ∙ ap (slice_get (map call_of asked)) (sym here) ∙ there) in
+        let is : call_of a ≡ c = same_Some _ _ (sym (call_there asked at a inside e) ∙ ap (slice_get (map call_of asked)) (sym here) ∙ there) in
         let own : a.place ≡ place = ap (λ (x : Call). x.place) is ∙ same in
         false≢true (sym differ ∙ ap (λ (p : List Segment). same_place p place) own ∙ place_itself place)
 
@@ -95,7 +97,7 @@ asked_more ready owners asked marks h p a new place waits =
 
 pub map_set_same : {A B : Type 0} (f : A → B) (xs : List A) (i : ℕ) (a b : A) → slice_get xs i ≡ Some a → f b ≡ f a → map f (slice_set xs i b) ≡ map f xs
 map_set_same f [] i a b e same = refl
-map_set_same f (x ∷ xs) zero a b e same = ap (λ y. y ∷ map f xs) (same ∙ ap f (sym (some_same e)))
+map_set_same f (x ∷ xs) zero a b e same = ap (λ y. y ∷ map f xs) (same ∙ ap f (sym (same_Some _ _ e)))
 map_set_same f (x ∷ xs) (suc i) a b e same = ap (λ ys. f x ∷ ys) (map_set_same f xs i a b e same)
 
 -- what stood there before has the same place
@@ -104,7 +106,7 @@ old_of asked at a b there place i x e = by_case (cases_eq i at)
   where
     by_case : (i ≡ at) ⊎ (i ≡ at → ⊥) → (y : Asked) × (slice_get asked i ≡ Some y) × (x.place ≡ y.place)
     by_case (inl same) =
-        let own : b ≡ x = some_same (sym (get_same asked at b (within asked at a there)) ∙ ap (slice_get (slice_set asked at b)) (sym same) ∙ e) in
+        let own : b ≡ x = same_Some _ _ (sym (get_same asked at b (within asked at a there)) ∙ ap (slice_get (slice_set asked at b)) (sym same) ∙ e) in
         (a, ap (slice_get asked) same ∙ there, ap (λ (z : Asked). z.place) (sym own) ∙ place)
     by_case (inr other) = (x, sym (get_other asked at i b other) ∙ e, refl)
 
@@ -131,7 +133,7 @@ told_more ready owners asked marks h at a b there place waits =
   where
     owns : (k i : ℕ) → IsOwned ready asked k i → (i ≡ at) ⊎ (i ≡ at → ⊥) → IsOwned ready (slice_set asked at b) k i
     owns k i o (inl same) =
-        let own : a ≡ o.call = some_same (sym there ∙ ap (slice_get asked) (sym same) ∙ o.there) in
+        let own : a ≡ o.call = same_Some _ _ (sym there ∙ ap (slice_get asked) (sym same) ∙ o.there) in
         record {
           call = b;
           there = ap (slice_get (slice_set asked at b)) same ∙ get_same asked at b (within asked at a there);
@@ -175,7 +177,7 @@ pub one_wait : (ready : List Prepared) (owners : List ℕ) (asked : List Asked) 
 one_wait ready owners asked marks h j k at e f =
     let o : IsOwned ready asked j at = h.owned j at e in
     let u : IsOwned ready asked k at = h.owned k at f in
-    sym o.waits ∙ ap (λ (z : Asked). z.waits_at) (some_same (sym o.there ∙ u.there)) ∙ u.waits
+    sym o.waits ∙ ap (λ (z : Asked). z.waits_at) (same_Some _ _ (sym o.there ∙ u.there)) ∙ u.waits
 
 pub idle_now : (ready : List Prepared) (owners : List ℕ) (asked : List Asked) (marks : List ℕ) → AreAsking ready owners asked marks → (k at d : ℕ) → slice_get owners k ≡ Some at → (i : ℕ) → slice_get (swap_remove owners k d) i ≡ Some at → ⊥
 idle_now ready owners asked marks h k at d e i f = by_case (get_swapped owners k d i at (within owners k at e) f)
@@ -206,9 +208,9 @@ closed ready owners asked marks h k d moved q a b inside last there place waits 
     owns : (i j : ℕ) → slice_get (swap_remove owners k d) i ≡ Some j → (i + 1 < length owners) × (((i ≡ k) × (slice_get owners (length owners - 1) ≡ Some j)) ⊎ ((i ≢ k) × (slice_get owners i ≡ Some j)))
         → IsOwned (swap_remove ready k q) (slice_set asked moved b) i j
     owns i j e (less, inl s) =
-        let own : j ≡ moved = some_same (sym s.1 ∙ from_end) in
+        let own : j ≡ moved = same_Some _ _ (sym s.1 ∙ from_end) in
         let o : IsOwned ready asked (length owners - 1) j = h.owned (length owners - 1) j s.1 in
-        let same : a ≡ o.call = some_same (sym there ∙ ap (slice_get asked) (sym own) ∙ o.there) in
+        let same : a ≡ o.call = same_Some _ _ (sym there ∙ ap (slice_get asked) (sym own) ∙ o.there) in
         record {
           call = b;
           there = ap (slice_get (slice_set asked moved b)) own ∙ get_same asked moved b (within asked moved a there);
@@ -275,7 +277,7 @@ owner_there ready owners asked marks h k at e = let o : IsOwned ready asked k at
 pub waits_there : (ready : List Prepared) (owners : List ℕ) (asked : List Asked) (marks : List ℕ) → AreAsking ready owners asked marks → (k at : ℕ) → slice_get owners k ≡ Some at → (a : Asked) → a ≡ get_or asked at a → slice_get owners a.waits_at ≡ Some at
 waits_there ready owners asked marks h k at e a is =
     let o : IsOwned ready asked k at = h.owned k at e in
-    let own : o.call ≡ a = some_same (sym o.there ∙ read_at asked at a a (within asked at o.call o.there) is) in
+    let own : o.call ≡ a = same_Some _ _ (sym o.there ∙ read_at asked at a a (within asked at o.call o.there) is) in
     subst (λ (n : ℕ). slice_get owners n ≡ Some at) (sym o.waits ∙ ap (λ (z : Asked). z.waits_at) own) e
 
 module _ (ready later : List Prepared) (owners after : List ℕ) (asked : List Asked) (marks : List ℕ) (h : AreAsking ready owners asked marks) (k d : ℕ) (q : Prepared) (e : later ≡ swap_remove ready k q)
@@ -318,7 +320,7 @@ answered_calls asked old e at n a inside is =
     let b : Asked = record { place = a.place; step = a.step; last = Some n; waits_at = a.waits_at } in
     record {
       count = length-map (slice_set asked at b) call_of ∙ length-set asked at b ∙ sym (length-map asked call_of) ∙ ap (λ (cs : List Call). length cs) e;
-      here = λ c there. get_map call_of (slice_set asked at b) at b (get_same asked at b inside) ∙ ap (λ (x : Call). told x) (some_same (sym (call_there asked at a inside is) ∙ ap (λ (cs : List Call). slice_get cs at) e ∙ there));
+      here = λ c there. get_map call_of (slice_set asked at b) at b (get_same asked at b inside) ∙ ap (λ (x : Call). told x) (same_Some _ _ (sym (call_there asked at a inside is) ∙ ap (λ (cs : List Call). slice_get cs at) e ∙ there));
       others = λ i other. map_other call_of asked at i b other ∙ ap (λ (cs : List Call). slice_get cs i) e;
     }
   where
@@ -328,7 +330,7 @@ answered_calls asked old e at n a inside is =
 -- the call at a number has that place
 pub place_there : (asked : List Asked) (at : ℕ) (a : Asked) (place : List Segment) → slice_get (map place_in (map call_of asked)) at ≡ Some place → a ≡ get_or asked at a → (slice_get asked at ≡ Some a) × (place ≡ a.place)
 place_there [] at a place e is = cc
-place_there (x ∷ xs) zero a place e is = (ap Some (sym is), some_same (sym e) ∙ ap (λ (z : Asked). z.place) (sym is))
+place_there (x ∷ xs) zero a place e is = (ap Some (sym is), same_Some _ _ (sym e) ∙ ap (λ (z : Asked). z.place) (sym is))
 place_there (x ∷ xs) (suc at) a place e is = place_there xs at a place e is
 
 pub all_same : (ready : List Prepared) (owners : List ℕ) (asked : List Asked) (marks : List ℕ) (ready2 : List Prepared) (owners2 : List ℕ) (asked2 : List Asked) (marks2 : List ℕ) → ready2 ≡ ready → owners2 ≡ owners → asked2 ≡ asked → marks2 ≡ marks
@@ -343,7 +345,7 @@ all_same ready owners asked marks ready2 owners2 asked2 marks2 e f g m h =
 -- the call that stands there
 asked_at : (asked : List Asked) (i : ℕ) (c : Call) → slice_get (map call_of asked) i ≡ Some c → (x : Asked) × (slice_get asked i ≡ Some x) × (call_of x ≡ c)
 asked_at [] i c e = absurd (let f : ⊥ = cc in f)
-asked_at (x ∷ xs) zero c e = (x, refl, some_same e)
+asked_at (x ∷ xs) zero c e = (x, refl, same_Some _ _ e)
 asked_at (x ∷ xs) (suc i) c e = asked_at xs i c e
 
 module _ (ready : List Prepared) (owners : List ℕ) (asked : List Asked) (marks : List ℕ) (h : AreAsking ready owners asked marks) (at : ℕ) (a : Asked) (place : List Segment) (attempt : ℕ) where
@@ -355,7 +357,7 @@ module _ (ready : List Prepared) (owners : List ℕ) (asked : List Asked) (marks
       let places : x.0.place ≡ y.0.place = ap (λ (z : Call). z.place) x.2 ∙ same ∙ sym found.2 ∙ ap (λ (z : Call). z.place) (sym y.2) in
       let one : i ≡ at = h.distinct i at x.0 y.0 x.1 y.1 places in
       let here : slice_get asked at ≡ Some a = read_at asked at a a (within asked at y.0 y.1) is in
-      sym x.2 ∙ ap call_of (some_same (sym x.1 ∙ ap (slice_get asked) one ∙ here))
+      sym x.2 ∙ ap call_of (same_Some _ _ (sym x.1 ∙ ap (slice_get asked) one ∙ here))
 
   pub answered_to : (last : ℕ) → IsFoundAt (map call_of asked) place (Some at) → a ≡ get_or asked at a → a.last ≡ Some last → attempt ≤ last → HasAnswered (map call_of asked) place attempt
   answered_to last found is told le =
@@ -370,27 +372,22 @@ module _ (ready : List Prepared) (owners : List ℕ) (asked : List Asked) (marks
 
 -- ---- attempts by their places
 
-read_there : {A : Type 0} (xs : List A) (i : ℕ) → i < length xs → (x : A) × (slice_get xs i ≡ Some x)
-read_there [] i h = absurd (omega (arith, h))
-read_there (x ∷ xs) zero h = (x, refl)
-read_there (x ∷ xs) (suc i) h = read_there xs i (omega (arith, h))
-
 module _ (ready : List Prepared) (owners : List ℕ) (asked : List Asked) (marks : List ℕ) (h : AreAsking ready owners asked marks) where
   pub place_taken : (k at : ℕ) → slice_get owners k ≡ Some at → (p : Prepared) → slice_get ready k ≡ Some p → slice_get (map place_in (map call_of asked)) at ≡ Some p.request.place
   place_taken k at e p there =
       let o : IsOwned ready asked k at = h.owned k at e in
       get_map place_in (map call_of asked) at (call_of o.call) (get_map call_of asked at o.call o.there)
-      ∙ ap Some (sym o.place ∙ ap (λ (x : Prepared). x.request.place) (some_same (sym o.is_ready ∙ there)))
+      ∙ ap Some (sym o.place ∙ ap (λ (x : Prepared). x.request.place) (same_Some _ _ (sym o.is_ready ∙ there)))
 
   -- each attempt that waits has a call
   pub owner_of : (k : ℕ) (p : Prepared) → slice_get ready k ≡ Some p → (at : ℕ) × (slice_get owners k ≡ Some at)
-  owner_of k p there = read_there owners k (subst (λ (n : ℕ). k < n) (sym h.pairs) (within ready k p there))
+  owner_of k p there = item_there owners k (subst (λ (n : ℕ). k < n) (sym h.pairs) (within ready k p there))
 
   pub place_of_ready : (k : ℕ) (p : Prepared) → slice_get ready k ≡ Some p → (at : ℕ) × (slice_get owners k ≡ Some at) × (c : Call) × (slice_get (map call_of asked) at ≡ Some c) × (c.place ≡ p.request.place)
   place_of_ready k p there =
       let w : (at : ℕ) × (slice_get owners k ≡ Some at) = owner_of k p there in
       let o : IsOwned ready asked k w.0 = h.owned k w.0 w.1 in
-      (w.0, w.1, call_of o.call, get_map call_of asked w.0 o.call o.there, sym o.place ∙ ap (λ (x : Prepared). x.request.place) (some_same (sym o.is_ready ∙ there)))
+      (w.0, w.1, call_of o.call, get_map call_of asked w.0 o.call o.there, sym o.place ∙ ap (λ (x : Prepared). x.request.place) (same_Some _ _ (sym o.is_ready ∙ there)))
 
   -- calls of one place are one
   pub one_at : (i j : ℕ) (c d : Call) → slice_get (map call_of asked) i ≡ Some c → slice_get (map call_of asked) j ≡ Some d → c.place ≡ d.place → i ≡ j
@@ -408,7 +405,7 @@ module _ (ready : List Prepared) (owners : List ℕ) (asked : List Asked) (marks
       one_wait ready owners asked marks h j k y.0 (x.1 ∙ ap Some calls) y.1
 
   pub one_ready : (j k : ℕ) (p r : Prepared) → slice_get ready j ≡ Some p → slice_get ready k ≡ Some r → p.request.place ≡ r.request.place → p ≡ r
-  one_ready j k p r e f same = some_same (sym e ∙ ap (slice_get ready) (one_ready_at j k p r e f same) ∙ f)
+  one_ready j k p r e f same = same_Some _ _ (sym e ∙ ap (slice_get ready) (one_ready_at j k p r e f same) ∙ f)
 
   -- the call of a place that an attempt waits at is found, and waits
   pub found_waits : (place : List Segment) (at : ℕ) → IsFoundAt (map call_of asked) place (Some at) → (k : ℕ) (p : Prepared) → slice_get ready k ≡ Some p → p.request.place ≡ place → (j : ℕ) × (slice_get owners j ≡ Some at)

@@ -2,7 +2,8 @@
 use Rattle.std.proofs.Common.{◌≡◌, ◌≢◌, ◌<◌, ◌⊎◌, inl, inr, ℕ, zero, suc, ◌+◌, ◌-◌, List, [], ◌∷◌, ◌++◌, Some, length, get_or, take, slice_get, arith, ap, refl, sym, ◌∙◌}
 use Rattle.std.specs.List.{slice_set, swap_remove}
 use Rattle.std.proofs.lemmas.List.{length-set, length-take-le}
-use Rattle.step_net.proofs.Gets.{get_other, get_same, get_set, some_same}
+use Rattle.std.proofs.lemmas.Option.{same_Some}
+use Rattle.step_net.proofs.Gets.{get_other, get_same, get_set}
 
 module _ {A : Type 0} where
   pub within : (xs : List A) (i : ℕ) (y : A) → slice_get xs i ≡ Some y → i < length xs
@@ -21,7 +22,7 @@ module _ {A : Type 0} where
 
   -- An element behind a push was there, or is the last one.
   pub get_push : (xs : List A) (x y : A) (i : ℕ) → slice_get (xs ++ x ∷ []) i ≡ Some y → (slice_get xs i ≡ Some y) ⊎ ((i ≡ length xs) × (y ≡ x))
-  get_push [] x y zero e = inr (refl, sym (some_same e))
+  get_push [] x y zero e = inr (refl, sym (same_Some _ _ e))
   get_push [] x y (suc i) e = cc
   get_push (z ∷ xs) x y zero e = inl e
   get_push (z ∷ xs) x y (suc i) e = shifted (get_push xs x y i e)
@@ -61,7 +62,7 @@ module _ {A : Type 0} where
 
   get_or_is : (xs : List A) (i : ℕ) (d y : A) → slice_get xs i ≡ Some y → get_or xs i d ≡ y
   get_or_is [] i d y e = cc
-  get_or_is (x ∷ xs) zero d y e = some_same e
+  get_or_is (x ∷ xs) zero d y e = same_Some _ _ e
   get_or_is (x ∷ xs) (suc i) d y e = get_or_is xs i d y e
 
   pub put_last : (xs : List A) (k : ℕ) (d : A) (i : ℕ) (y : A) → i + 1 < length xs → i ≡ k → slice_get xs (length xs - 1) ≡ Some y → slice_get (swap_remove xs k d) i ≡ Some y

@@ -1,5 +1,6 @@
 -- What each form of statement asks for and made, by the statement.
 use Rattle.std.proofs.Common.{◌≡◌, ◌≤◌, ◌<◌, ℕ, ◌+◌, ◌-◌, List, [], ◌∷◌, ◌++◌, Option, Some, Result, Ok, Err, length, get_or, slice_get, ap, refl, sym, subst, ◌∙◌, arith}
+use Rattle.std.proofs.lemmas.Option.{same_Some}
 use Rattle.wdl_base.specs.declared.place.Segment.{Segment}
 use Rattle.wdl_base.specs.declared.place.Segment.TheVariants as segment
 use Rattle.wdl_base.specs.declared.fault.Fault.{Fault}
@@ -41,7 +42,6 @@ use Rattle.plan_bodies.specs.Bases.{last_base}
 use Rattle.plan_steps.specs.Passes.{Passes}
 use Rattle.plan_steps.specs.Values.{own_env, own_value}
 use Rattle.plan_steps.proofs.Lists.{read_at, within}
-use Rattle.step_net.proofs.Gets.{some_same}
 
 pub passes_as : {A : Type 0} (P Q R S : Type 0) (r : Result A PlanFault) → (P → R) → (Q → S) → Passes P Q r → Passes R S r
 passes_as P Q R S (Ok a) f g h = f h
@@ -52,7 +52,7 @@ passes_as P Q R S (Err NoMemory) f g h = tt
 pub found_same : {A : Type 0} (xs ys : List A) (k : ℕ) (x y : A) → ys ≡ xs → slice_get xs k ≡ Some x → y ≡ get_or ys k y → y ≡ x
 found_same {A = A} xs ys k x y same there is =
     let here : slice_get ys k ≡ Some x = ap (λ (zs : List A). slice_get zs k) same ∙ there in
-    some_same (sym (read_at ys k y y (within ys k x here) is) ∙ here)
+    same_Some _ _ (sym (read_at ys k y y (within ys k x here) is) ∙ here)
 
 pub inside_of : {A : Type 0} (xs ys : List A) (k : ℕ) (x : A) → ys ≡ xs → slice_get xs k ≡ Some x → k < length ys
 inside_of {A = A} xs ys k x same there = within ys k x (ap (λ (zs : List A). slice_get zs k) same ∙ there)

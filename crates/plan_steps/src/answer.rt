@@ -1,12 +1,32 @@
 //! What answers tell (OpenWDL 1.1, "Task Outputs", "maxRetries").
 
-ghost use Rattle.std.specs.Prelude.{◌≡◌, ◌<◌, ◌≤◌, ◌+◌, ◌++◌, ◌∷◌, [], length, map, slice_get, true, Some, OnOk};
+ghost use Rattle.std.specs.Prelude.{
+  ◌≡◌,
+  ◌<◌,
+  ◌≤◌,
+  ◌+◌,
+  ◌++◌,
+  ◌∷◌,
+  [],
+  length,
+  map,
+  slice_get,
+  true,
+  Some,
+  OnOk,
+};
 ghost use Rattle.wdl_typed.specs.Flow.{failing_at};
 ghost use Rattle.wdl_typed.specs.Requests as requests;
 ghost use Rattle.wdl_task.specs.Readiness.{IsTold};
 ghost use Rattle.wdl_task.specs.Views.{asked_of};
 ghost use Rattle.value_net.specs.Nets.{IsSound, view};
-ghost use Rattle.plan_steps.specs.Arriving.{IsRefused, ended_faults, ended_net, goes_on, with_ended};
+ghost use Rattle.plan_steps.specs.Arriving.{
+  IsRefused,
+  ended_faults,
+  ended_net,
+  goes_on,
+  with_ended,
+};
 ghost use Rattle.plan_steps.specs.Askings.{IsAsking, IsIdle, calls, place_in};
 ghost use Rattle.plan_steps.specs.Doing.{asks};
 ghost use Rattle.plan_steps.specs.Passes.{Passes};

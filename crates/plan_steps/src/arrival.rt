@@ -1,6 +1,18 @@
 //! Answers that arrive (OpenWDL 1.1, "Task Outputs", "maxRetries").
 
-ghost use Rattle.std.specs.Prelude.{◌≡◌, ◌≤◌, ◌+◌, ℕ, false, true, Some, length, map, slice_get, OnOk};
+ghost use Rattle.std.specs.Prelude.{
+  ◌≡◌,
+  ◌≤◌,
+  ◌+◌,
+  ℕ,
+  false,
+  true,
+  Some,
+  length,
+  map,
+  slice_get,
+  OnOk,
+};
 ghost use Rattle.std.specs.Option.{option_copied};
 ghost use Rattle.wdl_typed.specs.declared.flow.Statement.TheVariants as stmt;
 ghost use Rattle.wdl_typed.specs.declared.flow.Target.TheVariants as target;

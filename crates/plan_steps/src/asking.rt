@@ -1,7 +1,36 @@
 //! Calls of tasks that were asked, and their attempts that wait for an answer.
 
-ghost use Rattle.std.specs.Prelude.{◌≡◌, ◌<◌, ◌≤◌, ◌+◌, ◌++◌, ◌∷◌, [], Some, IsTrue, ◌↔◌, OnOk, length, map, slice_get, slice_index, swap_remove};
-ghost use Rattle.plan_steps.specs.Askings.{HasAnswered, IsAnswered, IsAsking, IsFoundAt, IsIdle, IsNew, IsTakenFrom, IsWaiting, calls, new_call, place_in};
+ghost use Rattle.std.specs.Prelude.{
+  ◌≡◌,
+  ◌<◌,
+  ◌≤◌,
+  ◌+◌,
+  ◌++◌,
+  ◌∷◌,
+  [],
+  Some,
+  IsTrue,
+  ◌↔◌,
+  OnOk,
+  length,
+  map,
+  slice_get,
+  slice_index,
+  swap_remove,
+};
+ghost use Rattle.plan_steps.specs.Askings.{
+  HasAnswered,
+  IsAnswered,
+  IsAsking,
+  IsFoundAt,
+  IsIdle,
+  IsNew,
+  IsTakenFrom,
+  IsWaiting,
+  calls,
+  new_call,
+  place_in,
+};
 ghost use Rattle.plan_steps.specs.Passes.{Passes};
 
 use crate::fault::PlanFault;

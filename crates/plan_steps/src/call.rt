@@ -11,7 +11,19 @@ ghost use Rattle.wdl_task.specs.Tells.{Tells};
 ghost use Rattle.flow_soundness.specs.Readiness.{AreArgsReady};
 ghost use Rattle.value_net.specs.Nets.{IsSound, view};
 ghost use Rattle.plan_steps.specs.Askings.{IsAsking, IsNew, calls};
-ghost use Rattle.plan_steps.specs.Doing.{CalledWith, Called, CanCall, IsPastCall, IsPastWith, TaskCalled, asks, call_count, field, flow_called, state};
+ghost use Rattle.plan_steps.specs.Doing.{
+  CalledWith,
+  Called,
+  CanCall,
+  IsPastCall,
+  IsPastWith,
+  TaskCalled,
+  asks,
+  call_count,
+  field,
+  flow_called,
+  state,
+};
 ghost use Rattle.plan_bodies.specs.Bases.{last_base as base_of};
 ghost use Rattle.plan_steps.specs.Passes.{Passes};
 ghost use Rattle.plan_bodies.specs.Plots.{cell_count};

@@ -1,5 +1,5 @@
-//! The steps of a plan: what each makes of the net, the faults and the jobs that were asked, and what
-//! an answer makes of its call.
+//! The steps of a plan: what each makes of the net, the faults and the jobs that were asked, and
+//! what an answer makes of its call.
 #![tactic(auto)]
 
 mod answer;

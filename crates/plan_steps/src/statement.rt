@@ -4,7 +4,13 @@ ghost use Rattle.std.specs.Prelude.{◌≤◌, ◌+◌, [], OnOk};
 ghost use Rattle.wdl_typed.specs.declared.flow.Statement.{out-Statement};
 ghost use Rattle.value_net.specs.Nets.{IsSound};
 ghost use Rattle.plan_steps.specs.Askings.{IsAsking};
-ghost use Rattle.plan_steps.specs.Doing.{CanStand, IsPastStatement, StatementDone, state, statement_count};
+ghost use Rattle.plan_steps.specs.Doing.{
+  CanStand,
+  IsPastStatement,
+  StatementDone,
+  state,
+  statement_count,
+};
 ghost use Rattle.plan_steps.specs.Passes.{Passes};
 
 use crate::asking::{Asking, JOB_LIMIT};

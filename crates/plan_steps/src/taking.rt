@@ -8,7 +8,16 @@ ghost use Rattle.plan_growth.specs.declared.rule.Rule.TheVariants as rule;
 ghost use Rattle.plan_steps.specs.Askings.{IsAsking};
 ghost use Rattle.plan_steps.specs.Doing.{field, state};
 ghost use Rattle.plan_steps.specs.Passes.{Passes};
-ghost use Rattle.plan_steps.specs.Stepping.{CanTakeInput, CanTakeOutput, CanTakeStatement, DidInput, DidOutput, DidStatement, IsPastTaken, IsWithin};
+ghost use Rattle.plan_steps.specs.Stepping.{
+  CanTakeInput,
+  CanTakeOutput,
+  CanTakeStatement,
+  DidInput,
+  DidOutput,
+  DidStatement,
+  IsPastTaken,
+  IsWithin,
+};
 
 use crate::asking::{Asking, JOB_LIMIT};
 use crate::counting::COUNT_LIMIT;

@@ -114,11 +114,6 @@ no_stop : (b : Bool) → stop_tests false b false false false false ≡ false
 no_stop true = refl
 no_stop false = refl
 
-pub backslash_on : (i : Inside) (z : Bytes) → is_string i ≡ true → stops i (92 ∷ z) ≡ false
-backslash_on (string Single) z h = no_stop (first z == 123)
-backslash_on (string Double) z h = no_stop (first z == 123)
-backslash_on (command f) z h = cc
-
 goes_on : (q : Quote) (b : ℕ) (z : Bytes) → is_ordinary q b ≡ true → (stops (string q) (b ∷ z) ≡ false) × (is_backslash (string q) b ≡ false)
 goes_on Single b z h =
     let t = tests (b == 92) (b == 126) (b == 36) (b == 39) (b == 10) (b == 0) h in (

@@ -30,10 +30,11 @@ use Rattle.wdl_print.specs.declared.inside.Open.TheVariants as open_
 use Rattle.wdl_print.specs.Printed.{ends_line, gap, printed_from, printed_document}
 use Rattle.wdl_print.specs.TokenText.{after, innermost, spelling, escaped}
 use Rattle.print_laws.specs.ReadBack.{kinds, IsReadAs, IsWritten}
-use Rattle.print_laws.proofs.Copied.{Ending, by_closer, by_hole, ending_stops, moved, as_written, backslash_on, string_written, escaped_utf8}
+use Rattle.print_laws.proofs.Copied.{Ending, by_closer, by_hole, ending_stops, moved, as_written, string_written, escaped_utf8}
 use Rattle.print_laws.proofs.Longest.{is_space, IsApart, is_edge, is_code, code_kind, hole_closes, code_again}
 use Rattle.print_laws.proofs.Places.{places, inside_place, Sound, same_inside, behind_sound, MayClose, behind_places, inside_has, hole_has}
 use Rattle.print_laws.proofs.Stack.{Stack, top, in_hole, behind, AllClosed, Reads, with_spans, without_spans}
+use Rattle.wdl_lex.proofs.CharLaws.{backslash_goes_on as backslash_on}
 
 -- ---- the text, made of kinds
 

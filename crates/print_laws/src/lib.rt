@@ -1,4 +1,5 @@
-//! The law that the text which is made of a document has the document's tokens (OpenWDL 1.1, "Document").
+//! The law that the text which is made of a document has the document's tokens (OpenWDL 1.1,
+//! "Document").
 #![tactic(auto)]
 
 mod laws;

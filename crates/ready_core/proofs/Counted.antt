@@ -10,20 +10,13 @@ use Rattle.ready_core.specs.Cores.{is_taking, requests}
 use Rattle.ready_core.specs.Inside.{AreTakenOnce}
 use Rattle.ready_core.specs.Rows.{TakenJob}
 use Rattle.ready_core.proofs.Counting.{count_cons, counts}
+use Rattle.flow_laws.proofs.Done.{split_at}
 
 -- ---- lists in which no element stands twice
 
 abbrev Once : {A : Type 0} → List A → Type 0
 Once [] = Unit {0}
 Once (x ∷ xs) = (Contains xs x → ⊥) × Once xs
-
-split_at : {A : Type 0} (xs : List A) (x : A) → Contains xs x → (as_ : List A) × (bs : List A) × (xs ≡ as_ ++ x ∷ bs)
-split_at [] x c = absurd (none_within x c)
-split_at (y ∷ xs) x c = by_case (split_at xs x) (first_or_later y xs x c)
-  where
-    by_case : (Contains xs x → (as_ : List _) × (bs : List _) × (xs ≡ as_ ++ x ∷ bs)) → (y ≡ x) ⊎ Contains xs x → (as_ : List _) × (bs : List _) × (y ∷ xs ≡ as_ ++ x ∷ bs)
-    by_case rest (inl same) = ([], xs, ap (λ z. z ∷ xs) same)
-    by_case rest (inr d) = let p = rest d in (y ∷ p.0, p.1, ap (λ zs. y ∷ zs) p.2)
 
 -- Each of the first list is in the second one, which is no shorter.
 no_shorter : {A : Type 0} (xs ys : List A) → Once xs → IsWithin xs ys → length xs ≤ length ys

@@ -1,4 +1,20 @@
-ghost use Rattle.std.specs.Prelude.{◌≡◌, ◌+◌, ◌++◌, ◌∷◌, ◌≤◌, [], true, false, ℕ, IfOk, IsSome, OnOk, Some, length, slice_get};
+ghost use Rattle.std.specs.Prelude.{
+  ◌≡◌,
+  ◌+◌,
+  ◌++◌,
+  ◌∷◌,
+  ◌≤◌,
+  [],
+  true,
+  false,
+  ℕ,
+  IfOk,
+  IsSome,
+  OnOk,
+  Some,
+  length,
+  slice_get,
+};
 ghost use Rattle.wdl_value.specs.Tables.{table};
 ghost use Rattle.wdl_typed.specs.declared.flow.FlowDef.{FlowDef};
 ghost use Rattle.wdl_typed.specs.Flow.{too_many};
@@ -25,8 +41,8 @@ pub struct Over {
     pub site: Text,
 }
 
-/// What a run goes by: a plan, which is stale where it was told of an answer that was not settled, or, past the limits of
-/// the flow, only what the run is of.
+/// What a run goes by: a plan, which is stale where it was told of an answer that was not settled,
+/// or, past the limits of the flow, only what the run is of.
 #[derive(Drop)]
 pub enum Course {
     Planned { plan: Plan, stale: bool },
@@ -159,7 +175,8 @@ fn tell_anew<S: Ledger>(
 }
 
 impl Course {
-    /// What an answer adds to what the flow over the journal came to. The plan is stale then, until the answer is kept.
+    /// What an answer adds to what the flow over the journal came to. The plan is stale then, until
+    /// the answer is kept.
     pub fn tell<S: Ledger>(
         &mut self,
         alloc: Global,

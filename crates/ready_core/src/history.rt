@@ -9,7 +9,8 @@ pub enum SettleFault {
     NoMemory(Answered),
 }
 
-/// What a core has done: its journal, and one step for each job that was taken and each answer that was settled.
+/// What a core has done: its journal, and one step for each job that was taken and each answer that
+/// was settled.
 #[derive(Debug, Drop)]
 pub struct History {
     pub journal: Items<Entry>,

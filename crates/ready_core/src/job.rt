@@ -90,7 +90,8 @@ impl Job {
         self.terms.successes()
     }
 
-    /// How often the job may be tried again, which nothing that is promised depends on. It takes no memory.
+    /// How often the job may be tried again, which nothing that is promised depends on. It takes no
+    /// memory.
     pub fn retries(&self) -> u32 {
         self.terms.retries()
     }
@@ -113,8 +114,8 @@ impl Job {
         }
     }
 
-    /// Takes the answer of a row of an earlier run. The row is refused where its request is another one or its status is no
-    /// success. It takes no memory.
+    /// Takes the answer of a row of an earlier run. The row is refused where its request is another
+    /// one or its status is no success. It takes no memory.
     pub fn kept(self, row: Entry) -> Result<Answered, NotKept>
         ensures answered { MatchResult result
             (λ a. (a ≡ kept_as self.request row.answer) × (is_usable self row ≡ true))
@@ -134,7 +135,8 @@ impl Job {
     }
 }
 
-/// Whether a row may stand for the job: it has the job's request, and a status that is a success of the job.
+/// Whether a row may stand for the job: it has the job's request, and a status that is a success of
+/// the job.
 pub fn is_usable_for(row: &Entry, job: &Job) -> bool
     ensures usable { result ≡ is_usable job.now row.now }
 {

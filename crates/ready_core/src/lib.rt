@@ -1,5 +1,5 @@
-//! A run of the main workflow of a checked library, step by step: the journal, the jobs that its flow asks for, those that are
-//! out, and their answers.
+//! A run of the main workflow of a checked library, step by step: the journal, the jobs that its
+//! flow asks for, those that are out, and their answers.
 #![tactic(auto)]
 
 mod course;

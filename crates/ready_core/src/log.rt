@@ -9,7 +9,8 @@ use std::alloc::Global;
 use std::collections::VecDeque;
 use wdl_value::{Entry, Items, NoMemory, Request, Step, same_request};
 
-/// What a run has done: its entries, the jobs that were taken, those of them that are out, and the steps.
+/// What a run has done: its entries, the jobs that were taken, those of them that are out, and the
+/// steps.
 #[derive(Drop)]
 pub struct Log {
     pub journal: Vec<Entry>,
@@ -75,7 +76,8 @@ impl Log {
         taking.job
     }
 
-    /// Settles the answer of the job of that number among those that are out. There is room for the entry and the step.
+    /// Settles the answer of the job of that number among those that are out. There is room for the
+    /// entry and the step.
     pub fn settle(&mut self, at: usize, answered: Answered)
         requires within { at < vec_len self.old.out }
         requires entry { vec_len self.old.journal < vec_capacity self.old.journal }

@@ -1,4 +1,29 @@
-ghost use Rattle.std.specs.Prelude.{◌≡◌, ◌+◌, ◌∷◌, ◌++◌, ◌⊎◌, ◌≤◌, true, false, [], ℕ, Some, Contains, IfErr, IfNone, IfOk, IfSome, IsSome, MatchBool, MatchOption, OnErr, OnOk, is_some, length, slice_get};
+ghost use Rattle.std.specs.Prelude.{
+  ◌≡◌,
+  ◌+◌,
+  ◌∷◌,
+  ◌++◌,
+  ◌⊎◌,
+  ◌≤◌,
+  true,
+  false,
+  [],
+  ℕ,
+  Some,
+  Contains,
+  IfErr,
+  IfNone,
+  IfOk,
+  IfSome,
+  IsSome,
+  MatchBool,
+  MatchOption,
+  OnErr,
+  OnOk,
+  is_some,
+  length,
+  slice_get,
+};
 ghost use Rattle.std.specs.Option.{option_copied};
 ghost use Rattle.wdl_typed.specs.declared.flow.FlowDef.{FlowDef};
 ghost use Rattle.wdl_typed.specs.Flow as flow;
@@ -24,8 +49,9 @@ use std::sync::ledger::Ledger;
 use wdl_typed::Checked;
 use wdl_value::{Entry, Env, Fault, NoMemory, Step, Steps, Text};
 
-/// A run of the main workflow: its journal, the jobs that were taken, those of them that are out, and the steps so far. What it
-/// answers of faults, outputs and jobs is that of the flow over its journal.
+/// A run of the main workflow: its journal, the jobs that were taken, those of them that are out,
+/// and the steps so far. What it answers of faults, outputs and jobs is that of the flow over its
+/// journal.
 #[derive(Drop)]
 pub struct Core {
     course: Course,
@@ -79,7 +105,8 @@ fn next_turn<S: Ledger>(
 }
 
 impl Core {
-    /// A run of the main workflow for these inputs below the directory `site`. Nothing is taken yet.
+    /// A run of the main workflow for these inputs below the directory `site`. Nothing is taken
+    /// yet.
     pub fn new<S: Ledger>(
         alloc: Global,
         checked: Checked,
@@ -139,8 +166,8 @@ impl Core {
         Ok(())
     }
 
-    /// A fault of the flow over the journal. `None` only where it has none or is past its limits; once there is a fault, one
-    /// stays. It takes no memory.
+    /// A fault of the flow over the journal. `None` only where it has none or is past its limits;
+    /// once there is a fault, one stays. It takes no memory.
     #[tactic(auto, using(crate::proofs::Running::fault_some, crate::proofs::Running::fault_none))]
     pub fn fault(&self) -> Option<&Fault>
         ensures fault { IfSome (option_copied result) (λ f. Contains (spec.flow_of self.now).faults f) }
@@ -150,15 +177,16 @@ impl Core {
         self.turn.fault.as_ref()
     }
 
-    /// Whether the flow over the journal has more than 20,000 jobs or more than 1,000,000 instances of statements. It takes no
-    /// memory.
+    /// Whether the flow over the journal has more than 20,000 jobs or more than 1,000,000 instances
+    /// of statements. It takes no memory.
     pub fn too_many(&self) -> bool
         ensures many { result ≡ flow.too_many (spec.flow_of self.now) }
     {
         self.turn.many
     }
 
-    /// The outputs, where the flow over the journal is within its limits and has no faults and no waits. It takes no memory.
+    /// The outputs, where the flow over the journal is within its limits and has no faults and no
+    /// waits. It takes no memory.
     pub fn outcome(&self) -> Option<&Env>
         ensures outcome { option_copied result ≡ outcome_of self.now.origin.checked (spec.flow_of self.now) }
     {
@@ -189,7 +217,8 @@ impl Core {
         self.log.out.len() as u32
     }
 
-    /// Whether a job with the job's request is out; that request is then one of the flow over the journal. It takes no memory.
+    /// Whether a job with the job's request is out; that request is then one of the flow over the
+    /// journal. It takes no memory.
     #[tactic(auto, using(crate::proofs::Running::none_out))]
     pub fn is_out(&self, job: &Job) -> bool
         ensures out { MatchBool result (Contains (spec.requests self.now.out) job.now.request) (¬ (Contains (spec.requests self.now.out) job.now.request)) }

@@ -7,8 +7,9 @@ use std::alloc::Global;
 use std::collections::VecDeque;
 use wdl_value::{Env, Fault, NoMemory};
 
-/// What the flow over a journal comes to: the jobs that may be taken, in the order in which they are taken, a fault, whether it is past its limits,
-/// and the outputs where it is clean. There are no such jobs where it has a fault or is past its limits.
+/// What the flow over a journal comes to: the jobs that may be taken, in the order in which they
+/// are taken, a fault, whether it is past its limits, and the outputs where it is clean. There are
+/// no such jobs where it has a fault or is past its limits.
 #[derive(Drop)]
 pub struct Turn {
     pub ready: VecDeque<Pending>,
@@ -39,8 +40,8 @@ impl Turn {
         Ok(())
     }
 
-    /// Puts the next turn in place of this one: its jobs behind those of this one, and none where it has a fault or is past
-    /// the limits. A fault that was met stays.
+    /// Puts the next turn in place of this one: its jobs behind those of this one, and none where
+    /// it has a fault or is past the limits. A fault that was met stays.
     pub fn follow(&mut self, next: Turn)
         requires room { deque_len self.old.ready + deque_len next.ready ≤ deque_capacity self.old.ready }
         ensures followed { turns.IsFollowed self.old next self.new }

@@ -3,6 +3,7 @@ use Rattle.std.proofs.Common.{◌≡◌, ℕ, Bool, true, false, cond, not, ◌&
 use Rattle.std.specs.Prelude.{is_none}
 use Rattle.std.specs.List.{list_all}
 use Rattle.std.proofs.lemmas.Bool.{false≢true, and_from, and_parts}
+use Rattle.std.proofs.lemmas.Option.{same_Some}
 use Rattle.wdl_base.specs.declared.name.Key.{Key}
 use Rattle.wdl_value.specs.declared.env.Bind.{Bind}
 use Rattle.wdl_value.specs.declared.ty.Ty.{Ty}
@@ -36,7 +37,6 @@ use Rattle.wdl_swaps.proofs.Values.{values_agree}
 use Rattle.leaf_image.specs.declared.leaf.Leaf.{Leaf}
 use Rattle.leaf_image.specs.Inside.{Each}
 use Rattle.leaf_image.specs.Records.{Callee, Own, all_args, each_arg, farther, is_own, is_path, is_record_of, leaf_arg, leaf_args, member_hops, of_input, or_itself, plain_arg, swaps_of}
-use Rattle.wdl_eval.proofs.Steps.{some_same}
 use Rattle.record_laws.specs.Given.{along_path, bind_met, leaf_binds}
 use Rattle.record_laws.proofs.ChainLaws.{hops_more, is_chain, path_more, path_of, path_typed}
 use Rattle.record_laws.proofs.Fine.{all_ok, left, names_ok}
@@ -194,7 +194,7 @@ module _ (structs : Structs) (is : List TInput) (ls : List Leaf) (fine : LeavesO
     -- the value of the leaf in the argument
     end : (l : Leaf) → OfRecord structs cis l.input l.path l.ty → l.input ≡ a.name → (z : Value) × (along_path l.path leads.0 ≡ Ok z) × (is_within z ≡ true)
     end l o i =
-        let same : o.of ≡ of_type.0 = some_same (sym o.type_is ∙ ap (input_type cis) i ∙ own_type a.name of_type.0 is_record of_type.1) in
+        let same : o.of ≡ of_type.0 = same_Some _ _ (sym o.type_is ∙ ap (input_type cis) i ∙ own_type a.name of_type.0 is_record of_type.1) in
         let p = path_leads structs l.path leads.0 o.of l.ty (subst (λ (u : Ty). fits structs leads.0 u ≡ true) (sym same) leads.2) leads.3 o.path_is in
         (p.0, p.1, p.3)
 

@@ -21,12 +21,9 @@ use Rattle.wdl_typed.specs.declared.expr.TPart.TheVariants as part
 use Rattle.wdl_typed.specs.KnownTypes.{is_some}
 use Rattle.wdl_typed.specs.Scope.{all_names, field_names, names_of, names_step, part_names, row_names, type_in}
 use Rattle.wdl_typed.specs.Typing.{Context, Typing, all_types, apply_type, at_type, binary_type, both, fields_have, fields_in, is_type, items_in, keys_in, list_type, map_type, member_type, parts_typed, takes_some, type_of, type_step, values_in, when}
+use Rattle.wdl_base.proofs.Options.{then_parts}
 
 -- ---- what comes of an option
-
-pub some_inside : {A B : Type 0} (o : Option A) (f : A → Option B) (b : B) → option_and_then f o ≡ Some b → (a : A) × (o ≡ Some a) × (f a ≡ Some b)
-some_inside (Some a) f b h = (a, refl, h)
-some_inside None f b h = absurd (cc)
 
 pub when_true : {A : Type 0} (t : Bool) (a w : A) → (let o : Option A = cond t (Some a) None in o ≡ Some w) → t ≡ true
 when_true true a w h = refl
@@ -74,16 +71,16 @@ module _ (c : Context) where
 
   two : (j k : Known) (p : Bool) (f : Ty → Ty → Option Ty) (t : Ty) → both f (typing j.0 p) (typing k.0 p) ≡ Some t → AreBound (names_of j.0 ++ names_of k.0)
   two j k p f t h =
-      let a = some_inside (typing j.0 p) (λ x. option_and_then (λ y. f x y) (typing k.0 p)) t h in
-      let b = some_inside (typing k.0 p) (λ y. f a.0 y) t a.2 in
+      let a = then_parts (λ x. option_and_then (λ y. f x y) (typing k.0 p)) (typing j.0 p) t h in
+      let b = then_parts (λ y. f a.0 y) (typing k.0 p) t a.2 in
       bound_both (names_of j.0) (names_of k.0) (j.1 p a.0 a.1) (k.1 p b.0 b.1)
 
   all_bound : (ks : List Known) (p : Bool) (ts : List Ty) → all_types (items_in (map typing (map first ks)) p) ≡ Some ts → AreBound (all_names (map names_of (map first ks)))
   all_bound [] p ts h = refl
   all_bound (k ∷ ks) p ts h =
       let rest = all_types (items_in (map typing (map first ks)) p) in
-      let a = some_inside (typing k.0 p) (λ (t : Ty). option_and_then (λ us. Some (t ∷ us)) rest) ts h in
-      let b = some_inside rest (λ us. Some (a.0 ∷ us)) ts a.2 in
+      let a = then_parts (λ (t : Ty). option_and_then (λ us. Some (t ∷ us)) rest) (typing k.0 p) ts h in
+      let b = then_parts (λ us. Some (a.0 ∷ us)) rest ts a.2 in
       bound_both (names_of k.0) (all_names (map names_of (map first ks))) (k.1 p a.0 a.1) (all_bound ks p b.0 b.1)
 
   rows_bound : (ks : List (TPair Known)) (p : Bool) (us ts : List Ty) → all_types (keys_in (rows typing (rows first ks)) p) ≡ Some us → all_types (values_in (rows typing (rows first ks)) p) ≡ Some ts
@@ -92,10 +89,10 @@ module _ (c : Context) where
   rows_bound (k ∷ ks) p us ts h j =
       let keys = all_types (keys_in (rows typing (rows first ks)) p) in
       let values = all_types (values_in (rows typing (rows first ks)) p) in
-      let a = some_inside (typing k.key.0 p) (λ (t : Ty). option_and_then (λ zs. Some (t ∷ zs)) keys) us h in
-      let b = some_inside keys (λ zs. Some (a.0 ∷ zs)) us a.2 in
-      let d = some_inside (typing k.value.0 p) (λ (t : Ty). option_and_then (λ zs. Some (t ∷ zs)) values) ts j in
-      let e = some_inside values (λ zs. Some (d.0 ∷ zs)) ts d.2 in
+      let a = then_parts (λ (t : Ty). option_and_then (λ zs. Some (t ∷ zs)) keys) (typing k.key.0 p) us h in
+      let b = then_parts (λ zs. Some (a.0 ∷ zs)) keys us a.2 in
+      let d = then_parts (λ (t : Ty). option_and_then (λ zs. Some (t ∷ zs)) values) (typing k.value.0 p) ts j in
+      let e = then_parts (λ zs. Some (d.0 ∷ zs)) values ts d.2 in
       bound_both (names_of k.key.0 ++ names_of k.value.0) (row_names (rows names_of (rows first ks)))
       (bound_both (names_of k.key.0) (names_of k.value.0) (k.key.1 p a.0 a.1) (k.value.1 p d.0 d.1)) (rows_bound ks p b.0 e.0 b.1 e.1)
 
@@ -142,28 +139,28 @@ module _ (c : Context) where
   layer_bound : (y : TExpr-F Known) (p : Bool) (t : Ty) → type_step c (map-TExpr TExpr Typing typing (plain y)) p ≡ Some t → AreBound (names_step (map-TExpr TExpr (List Key) names_of (plain y)))
   layer_bound (layer.Lit x) p t h = refl
   layer_bound (layer.Get key) p t h = and_from (has_type key) true (ap is_some h) refl
-  layer_bound (layer.Member k name) p t h = let a = some_inside (typing k.0 p) (member_type c.structs name) t h in k.1 p a.0 a.1
+  layer_bound (layer.Member k name) p t h = let a = then_parts (member_type c.structs name) (typing k.0 p) t h in k.1 p a.0 a.1
   layer_bound (layer.At j k) p t h = two j k p at_type t h
-  layer_bound (layer.Not k) p t h = let a = some_inside (typing k.0 p) (λ u. when (is_bool u) ty.Bool) t h in k.1 p a.0 a.1
-  layer_bound (layer.Neg k) p t h = let a = some_inside (typing k.0 p) (λ u. when (is_int u) ty.Int) t h in k.1 p a.0 a.1
+  layer_bound (layer.Not k) p t h = let a = then_parts (λ u. when (is_bool u) ty.Bool) (typing k.0 p) t h in k.1 p a.0 a.1
+  layer_bound (layer.Neg k) p t h = let a = then_parts (λ u. when (is_int u) ty.Int) (typing k.0 p) t h in k.1 p a.0 a.1
   layer_bound (layer.Binary o j k) p t h = two j k p (binary_type o p) t h
   layer_bound (layer.Choose i j k) p t h =
-      let a = some_inside (typing i.0 p) (λ b. both (λ x u. when (is_bool b && same_type x u) x) (typing j.0 p) (typing k.0 p)) t h in
-      let b = some_inside (typing j.0 p) (λ x. option_and_then (λ u. when (is_bool a.0 && same_type x u) x) (typing k.0 p)) t a.2 in
-      let d = some_inside (typing k.0 p) (λ u. when (is_bool a.0 && same_type b.0 u) b.0) t b.2 in
+      let a = then_parts (λ b. both (λ x u. when (is_bool b && same_type x u) x) (typing j.0 p) (typing k.0 p)) (typing i.0 p) t h in
+      let b = then_parts (λ x. option_and_then (λ u. when (is_bool a.0 && same_type x u) x) (typing k.0 p)) (typing j.0 p) t a.2 in
+      let d = then_parts (λ u. when (is_bool a.0 && same_type b.0 u) b.0) (typing k.0 p) t b.2 in
       bound_both (names_of i.0 ++ names_of j.0) (names_of k.0) (bound_both (names_of i.0) (names_of j.0) (i.1 p a.0 a.1) (j.1 p b.0 b.1)) (k.1 p d.0 d.1)
-  layer_bound (layer.ListOf ks) p t h = let a = some_inside (all_types (items_in (map typing (map first ks)) p)) list_type t h in all_bound ks p a.0 a.1
+  layer_bound (layer.ListOf ks) p t h = let a = then_parts list_type (all_types (items_in (map typing (map first ks)) p)) t h in all_bound ks p a.0 a.1
   layer_bound (layer.MapOf ks) p t h =
-      let a = some_inside (all_types (keys_in (rows typing (rows first ks)) p)) (λ us. option_and_then (λ ts. map_type us ts) (all_types (values_in (rows typing (rows first ks)) p))) t h in
-      let b = some_inside (all_types (values_in (rows typing (rows first ks)) p)) (λ ts. map_type a.0 ts) t a.2 in
+      let a = then_parts (λ us. option_and_then (λ ts. map_type us ts) (all_types (values_in (rows typing (rows first ks)) p))) (all_types (keys_in (rows typing (rows first ks)) p)) t h in
+      let b = then_parts (λ ts. map_type a.0 ts) (all_types (values_in (rows typing (rows first ks)) p)) t a.2 in
       rows_bound ks p a.0 b.0 a.1 b.1
   layer_bound (layer.PairOf j k) p t h = two j k p (λ x u. Some (ty.Pair x u)) t h
   layer_bound (layer.StructOf name ks) p t h =
-      let a = some_inside (members_of c.structs name) (λ ms. when (fields_have (fields_in (fields typing (fields first ks)) p) ms) (ty.Struct name)) t h in
+      let a = then_parts (λ ms. when (fields_have (fields_in (fields typing (fields first ks)) p) ms) (ty.Struct name)) (members_of c.structs name) t h in
       fields_bound ks p a.0 (when_true (fields_have (fields_in (fields typing (fields first ks)) p) a.0) (ty.Struct name) t a.2)
-  layer_bound (layer.Apply f ks) p t h = let a = some_inside (all_types (items_in (map typing (map first ks)) p)) (apply_type c.outputs f) t h in all_bound ks p a.0 a.1
+  layer_bound (layer.Apply f ks) p t h = let a = then_parts (apply_type c.outputs f) (all_types (items_in (map typing (map first ks)) p)) t h in all_bound ks p a.0 a.1
   layer_bound (layer.Strung ks) p t h = strung_bound ks p t h
-  layer_bound (layer.Cast k u) p t h = let a = some_inside (typing k.0 p) (λ x. when (coerces x u) u) t h in k.1 p a.0 a.1
+  layer_bound (layer.Cast k u) p t h = let a = then_parts (λ x. when (coerces x u) u) (typing k.0 p) t h in k.1 p a.0 a.1
 
   pub names_bound : (e : TExpr) → Holds e
   names_bound = ind-TExpr Holds (λ x y is. subst (λ (z : TExpr-F TExpr). Holds (roll-TExpr z)) is (λ p t h.

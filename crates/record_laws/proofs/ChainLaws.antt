@@ -2,6 +2,7 @@
 use Rattle.std.proofs.Common.{◌≡◌, ℕ, Bool, true, List, [], ◌∷◌, ◌++◌, Option, Some, None, option_and_then, Ok, Err, sym, ap, ◌∙◌, subst, refl}
 use Rattle.std.proofs.lemmas.Bool.{false≢true}
 use Rattle.std.proofs.lemmas.List.{map-append}
+use Rattle.std.proofs.lemmas.Option.{same_Some}
 use Rattle.wdl_base.specs.declared.name.Key.{Key}
 use Rattle.wdl_value.specs.declared.ty.Ty.{Ty}
 use Rattle.wdl_value.specs.declared.value.Value.{Value, out-Value}
@@ -16,7 +17,6 @@ use Rattle.wdl_swaps.specs.declared.chain.Hop.TheVariants as hop
 use Rattle.wdl_swaps.specs.Chains.{along, behind, chain, chain_of, chain_step, expr_of, hopped}
 use Rattle.wdl_swaps.proofs.Chained.{along_more}
 use Rattle.leaf_image.specs.Records.{is_path, member_hops}
-use Rattle.wdl_eval.proofs.Steps.{some_same}
 use Rattle.record_laws.specs.Given.{along_path}
 use Rattle.record_laws.proofs.Paths.{path_type}
 
@@ -34,11 +34,11 @@ first k = k.0
 further : (a : TExpr) (h : Hop) → IsChain a → (o : Option Chain) → chain_of a ≡ o → (c : Chain) → behind h o ≡ Some c → hopped a h ≡ expr_of c
 further a h is None at c j = absurd (cc)
 further a h is (Some b) at c j =
-    let same : chain b.key (b.hops ++ h ∷ []) ≡ c = some_same j in
+    let same : chain b.key (b.hops ++ h ∷ []) ≡ c = same_Some _ _ j in
     ap (λ (x : TExpr). hopped x h) (is b at) ∙ sym (along_more (e.Get b.key) b.hops h) ∙ ap expr_of same
 
 chain_layer : (y : TExpr-F Known) (c : Chain) → chain_step (map-TExpr TExpr (Option Chain) chain_of (map-TExpr Known TExpr first y)) ≡ Some c → roll-TExpr (map-TExpr Known TExpr first y) ≡ expr_of c
-chain_layer (layer.Get key) c h = let same : chain key [] ≡ c = some_same h in e.rolls-Get key ∙ ap expr_of same
+chain_layer (layer.Get key) c h = let same : chain key [] ≡ c = same_Some _ _ h in e.rolls-Get key ∙ ap expr_of same
 chain_layer (layer.Member k name) c h = e.rolls-Member k.0 name ∙ further k.0 (hop.Member name) k.1 (chain_of k.0) refl c h
 chain_layer (layer.Cast k t) c h = e.rolls-Cast k.0 t ∙ further k.0 (hop.Cast t) k.1 (chain_of k.0) refl c h
 chain_layer (layer.Lit x) c h = absurd (cc)

@@ -3,6 +3,7 @@ use Rattle.std.proofs.Common.{◌≡◌, ℕ, zero, suc, ◌+◌, ◌≤◌, Boo
 use Rattle.std.specs.List.{list_all}
 use Rattle.std.proofs.lemmas.Bool.{false≢true, and_from, and_parts, not-true}
 use Rattle.std.proofs.lemmas.List.Folds.{list_all-append}
+use Rattle.std.proofs.lemmas.Option.{same_Some}
 use Rattle.wdl_base.specs.declared.name.Key.{Key}
 use Rattle.wdl_base.specs.declared.place.Segment.{Segment}
 use Rattle.wdl_value.specs.declared.env.Bind.{Bind}
@@ -28,7 +29,6 @@ use Rattle.wdl_typed.specs.Requests.{Tried}
 use Rattle.wdl_typed.specs.Scope.{lookup, type_in}
 use Rattle.wdl_typed.specs.Typing.{is_type}
 use Rattle.flow_laws.specs.Laws.{run_with}
-use Rattle.flow_laws.proofs.Checked.{each_passes as at_passes}
 use Rattle.wdl_swaps.specs.Agreement.{is_fine}
 use Rattle.wdl_swaps.specs.Swaps.{swapped, swapped_decl}
 use Rattle.leaf_image.specs.declared.leaf.Leaf.{Leaf}
@@ -41,7 +41,6 @@ use Rattle.leaf_image.proofs.Bodies.{bodies_agree}
 use Rattle.leaf_image.proofs.Eaches.{each_by, each_mapped, each_passes, each_with}
 use Rattle.leaf_image.proofs.InsideLaws.{calls_expanded, declared_expanded, exprs_expanded, items_expanded}
 use Rattle.leaf_image.proofs.Runs.{AllAgree, declaration_agrees, turns_agree}
-use Rattle.wdl_eval.proofs.Steps.{some_in, some_same}
 use Rattle.record_laws.proofs.Args.{ArgsMet, ArgsSame, all_agree}
 use Rattle.record_laws.proofs.Bound.{some_typed}
 use Rattle.record_laws.proofs.CallLaws.{SameFlow, alike_same, ended_same, keys_same, named_met, record_named, task_same}
@@ -57,6 +56,7 @@ use Rattle.record_laws.proofs.Pairing.{AllThere, Both, Paired, agrees, paired_mo
 use Rattle.record_laws.proofs.Places.{MembersDiffer, OfRecord}
 use Rattle.record_laws.proofs.Scopes.{Fine, IsCalled, IsTyped, all_fine}
 use Rattle.record_laws.proofs.Tables.{At, IsReplaced, flow_at_mark}
+use Rattle.wdl_base.proofs.Options.{all_at, then_parts}
 
 module _ (lib : Library) (main : ℕ) (r : Replaced) (replaced : IsReplaced lib main r) (typed_all : list_all (flow_typed lib) lib.flows ≡ true)
     (again_all : list_all (flow_typed (with_flows lib r.flows)) r.flows ≡ true) (differ : MembersDiffer lib.structs) (site : List ℕ) (table : List Row) where
@@ -207,7 +207,7 @@ module _ (lib : Library) (main : ℕ) (r : Replaced) (replaced : IsReplaced lib 
         at_one = at_flow j g called_one
 
         leaves_one : HasLeaves lib.structs g at_one.own
-        leaves_one = has_leaves lib g at_one.own differ (is_flow lib g (at_passes (flow_typed lib) lib.flows j g typed_all called_one.there)) at_one.are
+        leaves_one = has_leaves lib g at_one.own differ (is_flow lib g (all_at (flow_typed lib) lib.flows j g typed_all called_one.there)) at_one.are
 
         callee_is : (let made : LeafCallee = record { inputs = g.inputs; leaves = at_one.own } in made) ≡ callee_of lib.flows r.leaves (target.Flow j)
         callee_is =
@@ -251,11 +251,11 @@ module _ (lib : Library) (main : ℕ) (r : Replaced) (replaced : IsReplaced lib 
           → args_typed lib.structs after now.inputs (args_at t) ≡ true → ((j : ℕ) (g : FlowDef) → t ≡ target.Flow j → slice_get lib.flows j ≡ Some g → Standing j g) → AtTarget t
       at_target (target.Task j) s now e i typed given again reach = at_task j s now e typed again
       at_target (target.Flow j) s now e i typed given again reach =
-          let p = some_in (λ (f : FlowDef). Some (flow_signature f)) (slice_get lib.flows j) s e in
+          let p = then_parts (λ (f : FlowDef). Some (flow_signature f)) (slice_get lib.flows j) s e in
           let g : FlowDef = p.0 in
           let one : Standing j g = reach j g refl p.1 in
-          let was : flow_signature g ≡ s = some_same p.2 in
-          let is_now : flow_signature (now_of g (at_flow j g one).own) ≡ now = some_same (sym (ap (option_and_then (λ f. Some (flow_signature f))) (at_flow j g one).now_is) ∙ i) in
+          let was : flow_signature g ≡ s = same_Some _ _ p.2 in
+          let is_now : flow_signature (now_of g (at_flow j g one).own) ≡ now = same_Some _ _ (sym (ap (option_and_then (λ f. Some (flow_signature f))) (at_flow j g one).now_is) ∙ i) in
           at_one_flow j g one (ap (λ (z : Signature). args_typed lib.structs before z.inputs c.args) was ∙ typed) (ap (λ (z : Signature). all_given z.inputs (arg_names c.args)) was ∙ given)
           (ap (λ (z : Signature). args_typed lib.structs after z.inputs (args_at (target.Flow j))) is_now ∙ again)
 
@@ -356,10 +356,10 @@ module _ (lib : Library) (main : ℕ) (r : Replaced) (replaced : IsReplaced lib 
   module _ (callee other : Callee) (same_callees : FlowsAgree callee other) (k : ℕ) (f : FlowDef) (stands : Standing k f) (a : AtFlow k f) (given now : List Bind)
       (alike : Alike lib.structs f.inputs a.own given now) (present : Present f.inputs given) (place : List Segment) where
     flow_ok : IsFlow lib f
-    flow_ok = is_flow lib f (at_passes (flow_typed lib) lib.flows k f typed_all stands.there)
+    flow_ok = is_flow lib f (all_at (flow_typed lib) lib.flows k f typed_all stands.there)
 
     flow_now : IsFlow now_lib (now_of f a.own)
-    flow_now = is_flow now_lib (now_of f a.own) (at_passes (flow_typed now_lib) r.flows k (now_of f a.own) again_all a.now_is)
+    flow_now = is_flow now_lib (now_of f a.own) (all_at (flow_typed now_lib) r.flows k (now_of f a.own) again_all a.now_is)
 
     has : HasLeaves lib.structs f a.own
     has = has_leaves lib f a.own differ flow_ok a.are

@@ -2,6 +2,7 @@
 use Rattle.std.proofs.Common.{◌≡◌, ℕ, Bool, true, false, cond, not, List, [], ◌∷◌, ◌++◌, Option, Some, None, Ok, Err, sym, ap, ◌∙◌, subst, refl}
 use Rattle.std.specs.Str.{bytes_eq}
 use Rattle.std.proofs.lemmas.Bool.{not_from_false, not_from_true, or_left, or_right}
+use Rattle.std.proofs.lemmas.Option.{same_Some}
 use Rattle.wdl_base.specs.declared.name.Key.{Key}
 use Rattle.wdl_value.specs.declared.env.Bind.{Bind}
 use Rattle.wdl_value.specs.declared.ty.Ty.{Ty}
@@ -20,13 +21,13 @@ use Rattle.leaf_image.specs.Inside.{Each}
 use Rattle.leaf_image.specs.Leaves.{or_else}
 use Rattle.leaf_image.specs.Records.{is_own, is_record_of, of_input}
 use Rattle.leaf_image.proofs.Eaches.{each_by, each_with}
-use Rattle.wdl_eval.proofs.Steps.{some_same}
 use Rattle.record_laws.specs.Given.{along_path, bind_met, leaf_binds}
-use Rattle.record_laws.proofs.LeafNames.{all_found, apart_swapped, each_kept, leaf_at, leaf_names, name_is, name_itself, other_leaf, own_leaf}
+use Rattle.record_laws.proofs.LeafNames.{all_found, apart_swapped, each_kept, leaf_at, leaf_names, name_is, other_leaf, own_leaf}
 use Rattle.record_laws.proofs.Lookups.{binds_append, keys_apart, one_found, one_missing, plain_same}
 use Rattle.record_laws.proofs.Pairing.{is_leaf}
 use Rattle.record_laws.proofs.Paths.{path_leads}
 use Rattle.record_laws.proofs.Places.{OfRecord}
+use Rattle.wdl_stdlib.proofs.Keys.{bytes_eq-refl as name_itself}
 
 -- ---- the leaves of one value
 
@@ -59,7 +60,7 @@ block_found x (k ∷ bl) m l y h is =
     by_name : (b : Bool) → bytes_eq k.name m ≡ b → cond b (Some k) (leaf_at bl m) ≡ Some l → (leaf_at bl m ≡ Some l → lookup (leaf_binds x bl) (plain_key m) ≡ Some y)
         → or_else (lookup (bind_met k.name (along_path k.path x)) (plain_key m)) (lookup (leaf_binds x bl) (plain_key m)) ≡ Some y
     by_name true e h rest =
-        let same : k ≡ l = some_same h in
+        let same : k ≡ l = same_Some _ _ h in
         ap (λ (r : Met Value). or_else (lookup (bind_met k.name r) (plain_key m)) (lookup (leaf_binds x bl) (plain_key m))) (ap (λ (z : Leaf). along_path z.path x) same ∙ is)
         ∙ ap (λ (o : Option Value). or_else o (lookup (leaf_binds x bl) (plain_key m))) (one_found (plain_key k.name) y (plain_key m) (plain_same k.name m ∙ e))
     by_name false e h rest =
@@ -116,7 +117,7 @@ module _ (structs : Structs) (is : List TInput) (ls : List Leaf) where
     where
       by_name : (b : Bool) → bytes_eq m n ≡ b → cond b (Some y) (lookup bs (plain_key n)) ≡ Some x → (lookup bs (plain_key n) ≡ Some x → Fitting n x) → Fitting n x
       by_name true e h more =
-          let same : y ≡ x = some_same h in
+          let same : y ≡ x = same_Some _ _ h in
           (t, ap (input_type is) (sym (name_is m n e)) ∙ i, subst (λ (z : Value). fits structs z t ≡ true) same f, subst (λ (z : Value). is_within z ≡ true) same w)
       by_name false e h more = more h
 
@@ -144,9 +145,9 @@ module _ (structs : Structs) (is : List TInput) (ls : List Leaf) where
             → (lookup bs (plain_key l.input) ≡ Some x → (is_within x ≡ true) × (z : Value) × (lookup cs (plain_key l.name) ≡ Some z) × (along_path l.path x ≡ Ok z) × (is_within z ≡ true))
             → (is_within x ≡ true) × (z : Value) × (lookup (leaf_binds y (of_input m ls) ++ cs) (plain_key l.name) ≡ Some z) × (along_path l.path x ≡ Ok z) × (is_within z ≡ true)
         by_name true e h more =
-            let same : y ≡ x = some_same h in
+            let same : y ≡ x = same_Some _ _ h in
             let here : m ≡ l.input = name_is m l.input e in
-            let type_ : of.of ≡ t = some_same (sym of.type_is ∙ ap (input_type is) (sym here) ∙ i) in
+            let type_ : of.of ≡ t = same_Some _ _ (sym of.type_is ∙ ap (input_type is) (sym here) ∙ i) in
             let p = path_leads structs l.path y of.of l.ty (subst (λ (u : Ty). fits structs y u ≡ true) (sym type_) f) w of.path_is in (
               subst (λ (z : Value). is_within z ≡ true) same w,
               p.0,

@@ -19,9 +19,10 @@ use Rattle.leaf_image.specs.Records.{is_own, is_record_of, of_input}
 use Rattle.leaf_image.proofs.Eaches.{each_by}
 use Rattle.record_laws.specs.Given.{along_path, bind_met, leaf_binds}
 use Rattle.record_laws.proofs.Giving.{block_apart, block_found, own_names}
-use Rattle.record_laws.proofs.LeafNames.{apart_swapped, each_kept, leaf_at, leaf_names, name_is, name_itself, other_leaf, own_leaf}
+use Rattle.record_laws.proofs.LeafNames.{apart_swapped, each_kept, leaf_at, leaf_names, name_is, other_leaf, own_leaf}
 use Rattle.record_laws.proofs.Lookups.{keys_apart, names_append, one_found, one_missing, plain_same}
 use Rattle.record_laws.proofs.Pairing.{Both, Paired, is_leaf}
+use Rattle.wdl_stdlib.proofs.Keys.{bytes_eq-refl as name_itself}
 
 -- ---- the leaves of one value, as names
 

@@ -30,18 +30,12 @@ use Rattle.leaf_image.specs.Records.{all_inputs, input_leaves, is_own, is_record
 use Rattle.leaf_image.proofs.Eaches.{each_left, each_right}
 use Rattle.record_laws.specs.Given.{bind_met, binds_of, given_leaves, leaf_binds}
 use Rattle.record_laws.proofs.Giving.{GivenAgrees, LeafGiven}
-use Rattle.record_laws.proofs.LeafNames.{apart_swapped, each_kept, leaf_names, name_is, name_itself, own_inputs}
+use Rattle.record_laws.proofs.LeafNames.{each_kept, leaf_names, name_is, own_inputs}
 use Rattle.record_laws.proofs.Lookups.{plain_same}
 use Rattle.record_laws.proofs.MainInputs.{OfInput, of_input_named}
 use Rattle.record_laws.proofs.Paths.{path_leads}
 use Rattle.record_laws.proofs.Places.{IsInput, OfRecord}
-
-eq_swapped : (a b : List ℕ) → bytes_eq a b ≡ bytes_eq b a
-eq_swapped a b = by_test (bytes_eq b a) refl
-  where
-    by_test : (t : Bool) → bytes_eq b a ≡ t → bytes_eq a b ≡ t
-    by_test false e = apart_swapped b a e
-    by_test true e = ap (λ z. bytes_eq z b) (sym (name_is b a e)) ∙ name_itself b
+use Rattle.wdl_names.proofs.FreshLemmas.{bytes_eq-sym as eq_swapped}
 
 -- ---- values that fit
 

@@ -3,6 +3,7 @@ use Rattle.std.proofs.Common.{◌≡◌, ℕ, zero, suc, Bool, true, false, cond
 use Rattle.std.specs.Str.{bytes_eq}
 use Rattle.std.proofs.lemmas.Bool.{false≢true, and_from, and_parts, not-true, not_from_false, or_from, or_parts}
 use Rattle.std.proofs.lemmas.Slice.Eq.{bytes_eq-Decides}
+use Rattle.std.proofs.lemmas.Option.{same_Some}
 use Rattle.wdl_base.specs.Names.{is_name}
 use Rattle.wdl_value.specs.declared.ty.Ty.{Ty}
 use Rattle.wdl_typed.specs.Lists.{are_distinct, has_name}
@@ -13,7 +14,8 @@ use Rattle.leaf_image.specs.Inside.{Each}
 use Rattle.leaf_image.specs.Leaves.{free, joined, leaf, leaf_name, named, or_else}
 use Rattle.leaf_image.specs.Records.{of_input}
 use Rattle.leaf_image.proofs.Eaches.{each_by}
-use Rattle.wdl_eval.proofs.Steps.{some_in, some_same}
+use Rattle.wdl_base.proofs.Options.{then_parts}
+use Rattle.wdl_stdlib.proofs.Keys.{bytes_eq-refl as name_itself}
 
 -- ---- names
 
@@ -23,9 +25,6 @@ apart_swapped a b h = by_test (bytes_eq b a) refl
     by_test : (t : Bool) → bytes_eq b a ≡ t → t ≡ false
     by_test false e = refl
     by_test true e = absurd (false≢true (sym h ∙ (bytes_eq-Decides a b).1 (sym ((bytes_eq-Decides b a).0 e))))
-
-pub name_itself : (n : List ℕ) → bytes_eq n n ≡ true
-name_itself n = (bytes_eq-Decides n n).1 refl
 
 pub name_is : (a b : List ℕ) → bytes_eq a b ≡ true → a ≡ b
 name_is a b h = (bytes_eq-Decides a b).0 h
@@ -96,7 +95,7 @@ own_leaf (k ∷ ks) input n l h i = by_name (bytes_eq k.name n) refl h (λ e. ow
     past false e h = h
 
     by_name : (b : Bool) → bytes_eq k.name n ≡ b → cond b (Some k) (leaf_at ks n) ≡ Some l → (leaf_at ks n ≡ Some l → leaf_at (of_input input ks) n ≡ Some l) → leaf_at (of_input input (k ∷ ks)) n ≡ Some l
-    by_name true e h rest = kept e (some_same h)
+    by_name true e h rest = kept e (same_Some _ _ h)
     by_name false e h rest = past (bytes_eq k.input input) e (rest h)
 
 -- the name of a leaf of another input
@@ -114,7 +113,7 @@ other_leaf (k ∷ ks) input n l d h i =
     by_name : has_name k.name (leaf_names ks) ≡ false → (b : Bool) → bytes_eq k.name n ≡ b → cond b (Some k) (leaf_at ks n) ≡ Some l
         → (leaf_at ks n ≡ Some l → Each (λ (z : Leaf). bytes_eq z.name n ≡ false) (of_input input ks)) → Each (λ (z : Leaf). bytes_eq z.name n ≡ false) (of_input input (k ∷ ks))
     by_name new true e h rest =
-        let same : k ≡ l = some_same h in
+        let same : k ≡ l = same_Some _ _ h in
         let out : bytes_eq k.input input ≡ false = ap (λ (z : Leaf). bytes_eq z.input input) same ∙ i in
         subst (λ b. Each (λ (z : Leaf). bytes_eq z.name n ≡ false) (cond b (k ∷ []) [] ++ of_input input ks)) (sym out)
         (no_leaf ks input n (ap (λ m. has_name m (leaf_names ks)) (sym (name_is k.name n e)) ∙ new))
@@ -130,7 +129,7 @@ free_new (suc n) taken s name h = by_test (is_name s && not (has_name s taken)) 
     by_test : (b : Bool) → (is_name s && not (has_name s taken)) ≡ b → or_else (cond b (Some s) None) (free n taken (s ++ 95 ∷ [])) ≡ Some name
         → (free n taken (s ++ 95 ∷ []) ≡ Some name → has_name name taken ≡ false) → has_name name taken ≡ false
     by_test true e h rest =
-        let same : s ≡ name = some_same h in
+        let same : s ≡ name = same_Some _ _ h in
         ap (λ z. has_name z taken) (sym same) ∙ not-true (has_name s taken) (and_parts (is_name s) (not (has_name s taken)) e).1
     by_test false e h rest = rest h
 
@@ -152,10 +151,10 @@ not_among (l ∷ ls) taken n h =
 pub all_named : (P : OfPlace) (ps : List Place) (taken : List (List ℕ)) (ls : List Leaf) → named taken ps ≡ Some ls → Each (λ (p : Place). P p.input p.path p.ty) ps → Named P taken ls
 all_named P [] taken ls h of =
     let none : List Leaf = [] in
-    let same : none ≡ ls = some_same h in
+    let same : none ≡ ls = same_Some _ _ h in
     subst (Named P taken) same (record { new = tt; distinct = refl; of = tt })
 all_named P (p ∷ ps) taken ls h of =
-    let a = some_in (λ (name : List ℕ). option_map (λ (ks : List Leaf). leaf p name ∷ ks) (named (taken ++ name ∷ []) ps)) (leaf_name taken p) ls h in
+    let a = then_parts (λ (name : List ℕ). option_map (λ (ks : List Leaf). leaf p name ∷ ks) (named (taken ++ name ∷ []) ps)) (leaf_name taken p) ls h in
     let b = mapped (named (taken ++ a.0 ∷ []) ps) (λ (ks : List Leaf). leaf p a.0 ∷ ks) ls a.2 in
     let rest = all_named P ps (taken ++ a.0 ∷ []) b.0 b.1 of.1 in
     subst (Named P taken) b.2 (record {
@@ -166,4 +165,4 @@ all_named P (p ∷ ps) taken ls h of =
   where
     mapped : {A B : Type 0} (o : Option A) (f : A → B) (b : B) → option_map f o ≡ Some b → (a : A) × (o ≡ Some a) × (f a ≡ b)
     mapped None f b h = absurd (cc)
-    mapped (Some a) f b h = (a, refl, some_same h)
+    mapped (Some a) f b h = (a, refl, same_Some _ _ h)

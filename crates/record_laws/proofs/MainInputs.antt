@@ -25,7 +25,8 @@ use Rattle.record_laws.specs.Given.{given_leaves, leaf_binds}
 use Rattle.record_laws.proofs.CallLaws.{record_required}
 use Rattle.record_laws.proofs.FlowFacts.{None_of, no_leaf_typed}
 use Rattle.record_laws.proofs.Giving.{Alike, members, none, plain}
-use Rattle.record_laws.proofs.LeafNames.{leaf_names, name_is, name_itself}
+use Rattle.record_laws.proofs.LeafNames.{leaf_names, name_is}
+use Rattle.wdl_stdlib.proofs.Keys.{bytes_eq-refl as name_itself}
 
 -- ---- one name
 

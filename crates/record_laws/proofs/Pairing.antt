@@ -3,6 +3,7 @@ use Rattle.std.proofs.Common.{◌≡◌, ℕ, Bool, true, false, cond, not, ◌&
 use Rattle.std.specs.Prelude.{is_none}
 use Rattle.std.specs.Str.{bytes_eq}
 use Rattle.std.proofs.lemmas.Bool.{false≢true, and_parts, not-true}
+use Rattle.std.proofs.lemmas.Option.{same_Some}
 use Rattle.wdl_base.specs.declared.name.Key.{Key}
 use Rattle.wdl_value.specs.declared.env.Bind.{Bind}
 use Rattle.wdl_value.specs.declared.value.Value.{Value}
@@ -28,7 +29,6 @@ use Rattle.leaf_image.specs.Inside.{Each}
 use Rattle.leaf_image.specs.Leaves.{or_else}
 use Rattle.leaf_image.specs.Records.{is_own, is_record_of, leaf_swap, member_hops, swaps_of}
 use Rattle.leaf_image.proofs.Eaches.{each_by}
-use Rattle.wdl_eval.proofs.Steps.{some_same}
 use Rattle.flow_laws.proofs.Keys.{key_same}
 use Rattle.record_laws.specs.Given.{along_path}
 use Rattle.record_laws.proofs.LeafNames.{leaf_names, name_is}
@@ -108,7 +108,7 @@ leaf_found P (l ∷ ls) all key hops c h = by_test (same_key (plain_key l.input)
         → (swap_at (swaps_of ls) key hops ≡ Some c → Leaf_ P key hops c) → Leaf_ P key hops c
     by_test true e h rest =
         let p = and_parts (same_key (plain_key l.input) key) (are_members hops l.path) e in
-        (l, all.0, sym (key_same (plain_key l.input) key p.0), members_are hops l.path p.1, sym (some_same h))
+        (l, all.0, sym (key_same (plain_key l.input) key p.0), members_are hops l.path p.1, sym (same_Some _ _ h))
     by_test false e h rest = rest h
 
 -- a reference that is no struct input has no place

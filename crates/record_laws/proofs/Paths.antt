@@ -1,6 +1,7 @@
 -- The values of member paths: what is met along a path, and that a path of struct members leads to a value that fits.
 use Rattle.std.proofs.Common.{◌≡◌, ℕ, Bool, true, false, cond, codes, List, [], ◌∷◌, Option, Some, None, option_and_then, Ok, Err, sym, ap, ◌∙◌, subst, refl}
 use Rattle.std.specs.Str.{bytes_eq}
+use Rattle.std.proofs.lemmas.Option.{same_Some}
 use Rattle.wdl_base.specs.declared.fault.EvalCode.{EvalCode}
 use Rattle.wdl_base.specs.declared.fault.EvalCode.TheVariants.{TooLarge}
 use Rattle.wdl_base.specs.declared.name.Key.{Key}
@@ -24,8 +25,8 @@ use Rattle.wdl_eval.specs.Laws.{IsSound}
 use Rattle.wdl_eval.specs.Nodes.{within}
 use Rattle.wdl_eval.proofs.Indices.{member_fine}
 use Rattle.wdl_eval.proofs.MemberLimits.{member_kept}
-use Rattle.wdl_eval.proofs.Steps.{some_in, some_same}
 use Rattle.record_laws.specs.Given.{along_path}
+use Rattle.wdl_base.proofs.Options.{then_parts}
 
 -- ---- what is met at references, members and casts
 
@@ -110,11 +111,11 @@ abbrev pub Leads : Structs → List (List ℕ) → Value → Ty → Type 0
 Leads structs path x t = (y : Value) × (along_path path x ≡ Ok y) × (fits structs y t ≡ true) × (is_within y ≡ true)
 
 pub path_leads : (structs : Structs) (path : List (List ℕ)) (x : Value) (t u : Ty) → fits structs x t ≡ true → is_within x ≡ true → path_type structs path t ≡ Some u → Leads structs path x u
-path_leads structs [] x t u fit small h = let same : t ≡ u = some_same h in (x, refl, subst (λ (w : Ty). fits structs x w ≡ true) same fit, small)
+path_leads structs [] x t u fit small h = let same : t ≡ u = same_Some _ _ h in (x, refl, subst (λ (w : Ty). fits structs x w ≡ true) same fit, small)
 path_leads structs (m ∷ path) x t u fit small h =
-    let p = some_in (path_type structs path) (member_type structs m t) u h in
+    let p = then_parts (path_type structs path) (member_type structs m t) u h in
     let sound : IsSound structs p.0 (member_at m (out-Value x)) =
-    member_fine structs (Some t) m (Ok x) (λ w e. subst (λ (w : Ty). fits structs x w ≡ true) (some_same e) fit) p.0 p.1 in
+    member_fine structs (Some t) m (Ok x) (λ w e. subst (λ (w : Ty). fits structs x w ≡ true) (same_Some _ _ e) fit) p.0 p.1 in
     by_met p.0 (λ y f k i. path_leads structs path y p.0 u f k i) (member_at m (out-Value x)) refl (member_kept x m small) sound p.2
   where
     by_met : (v : Ty) → ((y : Value) → fits structs y v ≡ true → is_within y ≡ true → path_type structs path v ≡ Some u → Leads structs path y u) → (r : Met Value) → member_at m (out-Value x) ≡ r → within r ≡ r → IsSound structs v r → path_type structs path v ≡ Some u

@@ -3,6 +3,7 @@ use Rattle.std.proofs.Common.{◌≡◌, ℕ, zero, suc, Bool, true, false, cond
 use Rattle.std.specs.List.{list_all}
 use Rattle.std.specs.Str.{bytes_eq}
 use Rattle.std.proofs.lemmas.Bool.{and_parts, not-true, or_parts}
+use Rattle.std.proofs.lemmas.Option.{same_Some}
 use Rattle.wdl_value.specs.declared.ty.Member.{Member}
 use Rattle.wdl_value.specs.declared.ty.StructDef.{StructDef}
 use Rattle.wdl_value.specs.declared.ty.Ty.{Ty, Ty-F, out-Ty}
@@ -21,9 +22,9 @@ use Rattle.leaf_image.specs.Inside.{Each}
 use Rattle.leaf_image.specs.Leaves.{all_places, input_places, is_record, is_small, leaves_of, named, place, places_at, places_of, some_places, struct_places, taken_by}
 use Rattle.leaf_image.specs.Records.{is_record_of}
 use Rattle.leaf_image.proofs.Eaches.{each_both, each_by, each_with}
-use Rattle.wdl_eval.proofs.Steps.{some_same}
-use Rattle.record_laws.proofs.LeafNames.{Named, all_named, apart_swapped, name_itself}
+use Rattle.record_laws.proofs.LeafNames.{Named, all_named, apart_swapped}
 use Rattle.record_laws.proofs.Paths.{path_type}
+use Rattle.wdl_stdlib.proofs.Keys.{bytes_eq-refl as name_itself}
 
 -- ---- members of structs
 
@@ -57,7 +58,7 @@ members_differ structs h = among structs (and_parts (are_distinct (struct_names 
       where
         by_name : (b : Bool) → are_distinct (member_names d.members) ≡ true → cond b (Some d.members) (members_of ds s) ≡ Some ms → (members_of ds s ≡ Some ms → are_distinct (member_names ms) ≡ true)
             → are_distinct (member_names ms) ≡ true
-        by_name true own e rest = ap (λ (xs : List Member). are_distinct (member_names xs)) (sym (some_same e)) ∙ own
+        by_name true own e rest = ap (λ (xs : List Member). are_distinct (member_names xs)) (sym (same_Some _ _ e)) ∙ own
         by_name false own e rest = rest e
 
 -- ---- places

@@ -4,6 +4,7 @@ use Rattle.std.specs.Prelude.{is_none}
 use Rattle.std.specs.List.{list_all}
 use Rattle.std.proofs.lemmas.Bool.{and_from, and_parts}
 use Rattle.std.proofs.lemmas.List.Folds.{list_all-append}
+use Rattle.std.proofs.lemmas.Option.{same_Some}
 use Rattle.wdl_base.specs.declared.name.Key.{Key}
 use Rattle.wdl_value.specs.declared.ty.Ty.{Ty, Ty-F, out-Ty}
 use Rattle.wdl_value.specs.declared.ty.Ty.TheOpen as type
@@ -23,14 +24,12 @@ use Rattle.wdl_typed.specs.Typing.{is_type}
 use Rattle.leaf_image.specs.Inside.{Each, calls_in, calls_of, calls_step, exprs_in, exprs_of, exprs_step}
 use Rattle.leaf_image.specs.Leaves.{items_in, items_of, items_step}
 use Rattle.leaf_image.proofs.Eaches.{each_both}
-use Rattle.record_laws.proofs.Bound.{some_inside, some_typed}
+use Rattle.record_laws.proofs.Bound.{some_typed}
+use Rattle.wdl_base.proofs.Options.{then_parts}
 
 when_some : {A : Type 0} (t : Bool) (a w : A) → (let o : Option A = cond t (Some a) None in o ≡ Some w) → (t ≡ true) × (a ≡ w)
 when_some true a w h = (refl, cc)
 when_some false a w h = absurd (cc)
-
-some_is : {A : Type 0} (a b : A) → Some a ≡ Some b → a ≡ b
-some_is a b h = cc
 
 module _ (lib : Library) (first : List Bound) (bad : List ℕ → Bool) where
   abbrev pub ok : Key → Bool
@@ -92,10 +91,10 @@ module _ (lib : Library) (first : List Bound) (bad : List ℕ → Bool) where
 
   body_fine : (ks : List Known) (seen given : Seen) → Scope seen.names → Good (all_declared (firsts ks)) → Good (items_of (firsts ks)) → body_gives lib (firsts ks) seen ≡ Some given
       → Fine (exprs_in (firsts ks)) (calls_in (firsts ks)) given
-  body_fine [] seen given scope d i h = record { exprs = tt; calls = tt; names = ap (λ (s : Seen). list_all ok_bound s.names) (sym (some_is (record { names = []; calls = [] }) given h)) }
+  body_fine [] seen given scope d i h = record { exprs = tt; calls = tt; names = ap (λ (s : Seen). list_all ok_bound s.names) (sym (same_Some (record { names = []; calls = [] }) given h)) }
   body_fine (k ∷ ks) seen given scope d i h =
-      let p = some_inside (gives lib k.0 seen) (λ one. option_and_then (λ rest. Some (joined one rest)) (body_gives lib (firsts ks) (joined seen one))) given h in
-      let q = some_inside (body_gives lib (firsts ks) (joined seen p.0)) (λ rest. Some (joined p.0 rest)) given p.2 in
+      let p = then_parts (λ one. option_and_then (λ rest. Some (joined one rest)) (body_gives lib (firsts ks) (joined seen one))) (gives lib k.0 seen) given h in
+      let q = then_parts (λ rest. Some (joined p.0 rest)) (body_gives lib (firsts ks) (joined seen p.0)) given p.2 in
       let a = k.1 seen p.0 scope (good_left (declared k.0) (all_declared (firsts ks)) d) (good_left (items_in k.0) (items_of (firsts ks)) i) p.1 in
       let b =
       body_fine ks (joined seen p.0) q.0 (more_scope seen.names p.0.names scope a.names) (good_right (declared k.0) (all_declared (firsts ks)) d) (good_right (items_in k.0) (items_of (firsts ks)) i) q.1 in
@@ -103,7 +102,7 @@ module _ (lib : Library) (first : List Bound) (bad : List ℕ → Bool) where
         exprs = each_both IsTyped (exprs_of k.0) (exprs_in (firsts ks)) a.exprs b.exprs;
         calls = each_both IsCalled (calls_of k.0) (calls_in (firsts ks)) a.calls b.calls;
         names =
-            ap (λ (s : Seen). list_all ok_bound s.names) (sym (some_is (joined p.0 q.0) given q.2))
+            ap (λ (s : Seen). list_all ok_bound s.names) (sym (same_Some (joined p.0 q.0) given q.2))
             ∙ list_all-append ok_bound p.0.names q.0.names ∙ and_from (list_all ok_bound p.0.names) (list_all ok_bound q.0.names) a.names b.names;
       }
 
@@ -130,12 +129,12 @@ module _ (lib : Library) (first : List Bound) (bad : List ℕ → Bool) where
   block_fine : (ks : List Known) (f : Ty → Ty) (seen given : Seen) (e : TExpr) → IsTyped e → Scope seen.names → Good (all_declared (firsts ks)) → Good (items_of (firsts ks))
       → option_and_then (λ (s : Seen). Some (retyped f s)) (body_gives lib (firsts ks) seen) ≡ Some given → Fine (e ∷ exprs_in (firsts ks)) (calls_in (firsts ks)) given
   block_fine ks f seen given e typed scope d i h =
-      let p = some_inside (body_gives lib (firsts ks) seen) (λ (s : Seen). Some (retyped f s)) given h in
+      let p = then_parts (λ (s : Seen). Some (retyped f s)) (body_gives lib (firsts ks) seen) given h in
       let b = body_fine ks seen p.0 scope d i p.1 in
       record {
         exprs = (typed, b.exprs);
         calls = b.calls;
-        names = ap (λ (s : Seen). list_all ok_bound s.names) (sym (some_is (retyped f p.0) given p.2)) ∙ retyped_fine f p.0.names b.names;
+        names = ap (λ (s : Seen). list_all ok_bound s.names) (sym (same_Some (retyped f p.0) given p.2)) ∙ retyped_fine f p.0.names b.names;
       }
 
   by_layer : (y : Statement-F Known) → FineLayer y
@@ -148,7 +147,7 @@ module _ (lib : Library) (first : List Bound) (bad : List ℕ → Bool) where
         names = ap (λ (s : Seen). list_all ok_bound s.names) (sym p.1) ∙ n;
       }
   by_layer (layer.Call c) seen given scope n i h =
-      let p = some_inside (signature lib c.target) (call_by lib.structs c seen) given h in
+      let p = then_parts (call_by lib.structs c seen) (signature lib c.target) given h in
       let s : Signature = p.0 in
       let q = when_some (args_typed lib.structs seen.names s.inputs c.args && are_distinct (arg_names c.args) && all_given s.inputs (arg_names c.args) && all_seen seen.calls c.after) (call_gives c.name s.outputs) given p.2 in
       let a = and_parts (args_typed lib.structs seen.names s.inputs c.args && are_distinct (arg_names c.args) && all_given s.inputs (arg_names c.args)) (all_seen seen.calls c.after) q.0 in
@@ -160,7 +159,7 @@ module _ (lib : Library) (first : List Bound) (bad : List ℕ → Bool) where
         names = ap (λ (z : Seen). list_all ok_bound z.names) (sym q.1) ∙ outputs_fine c.name s.outputs;
       }
   by_layer (layer.Scatter s) seen given scope n i h =
-      let p = some_inside (in_body lib.structs seen.names s.over) (λ t. scatter_over s.item (body_step (map (gives lib) (firsts s.body))) seen (out-Ty t)) given h in
+      let p = then_parts (λ t. scatter_over s.item (body_step (map (gives lib) (firsts s.body))) seen (out-Ty t)) (in_body lib.structs seen.names s.over) given h in
       by_type p.0 p.1 (out-Ty p.0) p.2
     where
       by_type : (u : Ty) → in_body lib.structs seen.names s.over ≡ Some u → (t : Ty-F Ty) → scatter_over s.item (body_step (map (gives lib) (firsts s.body))) seen t ≡ Some given
@@ -180,12 +179,12 @@ module _ (lib : Library) (first : List Bound) (bad : List ℕ → Bool) where
       by_type u e type.Absent g = absurd (cc)
       by_type u e type.Empty g = absurd (cc)
   by_layer (layer.If s) seen given scope n i h =
-      let p = some_inside (in_body lib.structs seen.names s.cond) (if_over (body_step (map (gives lib) (firsts s.body))) seen) given h in
+      let p = then_parts (if_over (body_step (map (gives lib) (firsts s.body))) seen) (in_body lib.structs seen.names s.cond) given h in
       by_test (is_bool p.0) p.2
     where
       typed : IsTyped s.cond
       typed =
-          let p = some_inside (in_body lib.structs seen.names s.cond) (if_over (body_step (map (gives lib) (firsts s.body))) seen) given h in
+          let p = then_parts (if_over (body_step (map (gives lib) (firsts s.body))) seen) (in_body lib.structs seen.names s.cond) given h in
           record { names = seen.names; scope = scope; ty = p.0; typed = p.1 }
 
       by_test : (b : Bool) → cond b (option_and_then (λ (z : Seen). Some (retyped optional z)) (body_gives lib (firsts s.body) seen)) None ≡ Some given → Fine (s.cond ∷ exprs_in (firsts s.body)) (calls_in (firsts s.body)) given

@@ -17,7 +17,7 @@ use Rattle.wdl_typed.specs.Kept.{count, flow_typed, is_checked, main_is_there}
 use Rattle.wdl_typed.specs.KnownTypes.{are_structs}
 use Rattle.wdl_typed.specs.Lists.{are_distinct}
 use Rattle.flow_laws.specs.Laws.{run_with}
-use Rattle.flow_laws.proofs.Checked.{each_passes, kept, names_left}
+use Rattle.flow_laws.proofs.Checked.{kept, names_left}
 use Rattle.wdl_swaps.specs.declared.swap.Swap.{Swap}
 use Rattle.wdl_swaps.specs.Swaps.{swapped_decl}
 use Rattle.leaf_image.specs.declared.leaf.Leaf.{Leaf}
@@ -36,6 +36,7 @@ use Rattle.record_laws.proofs.MainInputs.{alike_given, present_given}
 use Rattle.record_laws.proofs.Marks.{main_marked, marked_reached}
 use Rattle.record_laws.proofs.Places.{MembersDiffer, all_inputs_found, members_differ}
 use Rattle.record_laws.proofs.Tables.{At, IsReplaced, flow_at_mark, is_replaced}
+use Rattle.wdl_base.proofs.Options.{all_at}
 
 structs_kept : (lib : Library) (main : Option ℕ) → is_checked lib main ≡ true → are_structs lib.structs ≡ true
 structs_kept lib main h =
@@ -72,7 +73,7 @@ module _ (lib : Library) (main : ℕ) (r : Replaced) (f : FlowDef) (replaced : I
     (again_all : list_all (flow_typed (with_flows lib r.flows)) r.flows ≡ true) (structs_fine : are_structs lib.structs ≡ true) (there : slice_get lib.flows main ≡ Some f)
     (given : List Bind) (fit : inputs_fit lib.structs f.inputs given ≡ true) (site : List ℕ) (table : List Row) where
   flow_ok : IsFlow lib f
-  flow_ok = is_flow lib f (each_passes (flow_typed lib) lib.flows main f typed_all there)
+  flow_ok = is_flow lib f (all_at (flow_typed lib) lib.flows main f typed_all there)
 
   abbrev differ : MembersDiffer lib.structs
   differ = members_differ lib.structs structs_fine
@@ -112,7 +113,7 @@ module _ (lib : Library) (main : ℕ) (r : Replaced) (f : FlowDef) (replaced : I
   now_distinct : are_distinct (input_names (all_inputs at.own f.inputs)) ≡ true
   now_distinct =
       let now : FlowDef = expanded_flow lib.flows r.leaves at.own f in
-      let n = (is_flow (with_flows lib r.flows) now (each_passes (flow_typed (with_flows lib r.flows)) r.flows main now again_all at.now_is)).distinct in
+      let n = (is_flow (with_flows lib r.flows) now (all_at (flow_typed (with_flows lib r.flows)) r.flows main now again_all at.now_is)).distinct in
       names_left (input_names now.inputs) (all_declared now.body) (names_left (input_names now.inputs ++ all_declared now.body) (decl_names now.outputs) n)
 
   leaves_fit : inputs_fit lib.structs (all_inputs at.own f.inputs) leaves ≡ true

@@ -1,4 +1,5 @@
-//! The law that a checked form keeps its flow where the members of struct inputs stand in their places.
+//! The law that a checked form keeps its flow where the members of struct inputs stand in their
+//! places.
 #![tactic(auto)]
 
 mod laws;

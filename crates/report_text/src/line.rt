@@ -1,4 +1,15 @@
-ghost use Rattle.std.specs.Prelude.{◌≡◌, ◌<◌, ◌++◌, false, [], decimal, length, slice_get, Some, IfOk};
+ghost use Rattle.std.specs.Prelude.{
+  ◌≡◌,
+  ◌<◌,
+  ◌++◌,
+  false,
+  [],
+  decimal,
+  length,
+  slice_get,
+  Some,
+  IfOk,
+};
 ghost use Rattle.wdl_base.specs.Plain.{has_nul};
 ghost use Rattle.report_text.specs.Lines as spec;
 ghost use Rattle.report_text.specs.Lines.{HasPath};

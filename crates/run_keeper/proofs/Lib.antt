@@ -1,4 +1,3 @@
-pub mod NulLemmas
 pub mod TextLemmas
 pub mod RowLemmas
 pub mod ListLemmas

@@ -1,5 +1,5 @@
 -- The data of rows.
-use Rattle.std.proofs.Common.{◌≡◌, ℕ, ◌^◌, ◌<◌, List, [], ◌∷◌, ◌++◌, codes, Some, None, Result, ◌⊎◌, inl, inr, refl, ap, ◌∙◌, arith}
+use Rattle.std.proofs.Common.{◌≡◌, ℕ, ◌^◌, ◌<◌, List, codes, Some, None, Result, ◌⊎◌, inl, inr, refl, ap, ◌∙◌, arith}
 use Rattle.std.specs.Prelude.{IsErrOf}
 use Rattle.hex.specs.Hex.{encode_lower}
 use Rattle.serde_json.specs.Data.{Data, number, unsigned, string, object, no_members, put}
@@ -21,8 +21,7 @@ use Rattle.run_keeper.specs.declared.error.RowFault.{RowFault}
 use Rattle.run_keeper.specs.declared.error.RowFault.TheVariants.{NotARow}
 use Rattle.run_keeper.specs.Members.{HasAnswer, HasRequest}
 use Rattle.run_keeper.proofs.TextLemmas.{IsRead, string_written, number_written, null_written, list_written, none_written, member_written, object_written, string_read, number_read, null_read, list_read, none_read, member_read, object_read, read_back}
-use Rattle.run_keeper.proofs.NulLemmas.{append_nul, cons_nul, quoted_nul}
-use Rattle.json.specs.Print.{quoted}
+use Rattle.json_laws.proofs.Texts.{text_nul}
 
 pub new_members : (e : Entry) → object (put (codes "v") (number (unsigned 2)) (with_attempt e.request (with_answer e.answer (with_request e.request no_members)))) ≡ row_data e
 new_members e = refl
@@ -35,10 +34,7 @@ body_written (Bytes bytes) = string_written (encode_lower bytes)
 body_written Long = null_written
 
 pair_written : (name : List ℕ) (d : Data) → IsWritten d → IsWritten (pair_data name d)
-pair_written name d w =
-    let value = append_nul (compact_text d) (93 ∷ []) w.no_nul refl in
-    let rest = cons_nul 44 (compact_text d ++ 93 ∷ []) (omega arith) value in
-    record { exact = rw w.exact refl; no_nul = append_nul (quoted name) (44 ∷ (compact_text d ++ 93 ∷ [])) (quoted_nul name) rest }
+pair_written name d w = record { exact = rw w.exact refl; no_nul = text_nul (pair_data name d) }
 
 seen_written : (file : Seen) → IsWritten (seen_data file)
 seen_written file = pair_written file.name (body_data file.body) (body_written file.body)

@@ -1,8 +1,8 @@
 -- Data that is written in one way, without NUL, and read back.
-use Rattle.std.proofs.Common.{◌≡◌, ℕ, suc, ◌^◌, ◌<◌, ◌≤◌, max, Bool, true, false, List, [], ◌∷◌, ◌++◌, map, codes, decimal, Option, Some, option_map, option_and_then, refl, sym, ap, ◌∙◌, append-nil, arith}
+use Rattle.std.proofs.Common.{◌≡◌, ℕ, suc, ◌^◌, ◌<◌, ◌≤◌, max, false, List, [], ◌∷◌, map, codes, decimal, Option, Some, option_map, option_and_then, refl, sym, ap, ◌∙◌, append-nil, arith}
 use Rattle.std.specs.Prelude.{⊤}
 use Rattle.json.specs.Json as json
-use Rattle.json.specs.Print.{quoted, print}
+use Rattle.json.specs.Print.{print}
 use Rattle.json.specs.Token.{Token}
 use Rattle.json.specs.Tree as tree
 use Rattle.json.proofs.Printed.Decimals.{IsNumber-decimal}
@@ -11,13 +11,12 @@ use Rattle.json.proofs.Printed.Trees.{value-json_tokens, ArePrintable-json_token
 use Rattle.serde_json.specs.Data.{Data, null, number, unsigned, string, array, object, Items, no_items, item, Members, no_members, member, put}
 use Rattle.serde_json.specs.Read.{read, max_depth, of_json, of_items, of_members}
 use Rattle.serde_json.specs.View.{items_of}
-use Rattle.serde_json.specs.Written.{outline, items_outline, members_outline, has_float, items_have_float, members_have_float, comma_if, compact_text, items_text, members_text}
+use Rattle.serde_json.specs.Written.{outline, items_outline, members_outline, has_float, items_have_float, members_have_float, compact_text}
 use Rattle.serde_json.proofs.Numbers.{number_of-decimal}
 use Rattle.serde_json.proofs.Texts.{print-outline}
-use Rattle.wdl_base.specs.Plain.{has_nul}
 use Rattle.run_keeper.specs.RowText.{list_data}
 use Rattle.run_keeper.specs.Written.{IsWritten}
-use Rattle.run_keeper.proofs.NulLemmas.{append_nul, cons_nul, decimal_nul, quoted_nul}
+use Rattle.json_laws.proofs.Texts.{text_nul}
 
 -- it is read back, and nests at most n deep
 pub record IsRead (n : ℕ) (d : Data) : Type 0 where
@@ -38,10 +37,10 @@ read_back n d within r =
     ∙ r.same
 
 pub string_written : (s : List ℕ) → IsWritten (string s)
-string_written s = record { exact = refl; no_nul = quoted_nul s }
+string_written s = record { exact = refl; no_nul = text_nul (string s) }
 
 pub number_written : (n : ℕ) → IsWritten (number (unsigned n))
-number_written n = record { exact = refl; no_nul = decimal_nul n }
+number_written n = record { exact = refl; no_nul = text_nul (number (unsigned n)) }
 
 pub null_written : IsWritten null
 null_written = record { exact = refl; no_nul = refl }
@@ -57,20 +56,12 @@ number_read m n h = record { numbers = IsNumber-decimal n h; same = rw (number_o
 
 -- ---- lists
 
-comma_nul : (later : Bool) (xs : List ℕ) → has_nul xs ≡ false → has_nul (comma_if later ++ xs) ≡ false
-comma_nul true xs h = h
-comma_nul false xs h = h
-
-items_nul : {T : Type 0} (f : T → Data) → ((x : T) → IsWritten (f x)) → (later : Bool) (xs : List T) → has_nul (items_text later (items_of (map f xs))) ≡ false
-items_nul f each later [] = refl
-items_nul f each later (x ∷ xs) = comma_nul later _ (append_nul (compact_text (f x)) _ (each x).no_nul (items_nul f each true xs))
-
 items_exact : {T : Type 0} (f : T → Data) → ((x : T) → IsWritten (f x)) → (xs : List T) → items_have_float (items_of (map f xs)) ≡ false
 items_exact f each [] = refl
 items_exact f each (x ∷ xs) = rw ((each x).exact) (items_exact f each xs)
 
 pub list_written : {T : Type 0} (f : T → Data) → ((x : T) → IsWritten (f x)) → (xs : List T) → IsWritten (list_data f xs)
-list_written f each xs = record { exact = items_exact f each xs; no_nul = items_nul f each false xs }
+list_written f each xs = record { exact = items_exact f each xs; no_nul = text_nul (list_data f xs) }
 
 items_numbers : {T : Type 0} (f : T → Data) (n : ℕ) → ((x : T) → IsRead n (f x)) → (xs : List T) → tree.ItemsHaveNumbers (items_outline (items_of (map f xs)))
 items_numbers f n each [] = tt
@@ -95,22 +86,15 @@ list_read f n each xs = record {
 
 pub record MembersWritten (ms : Members) : Type 0 where
   pub exact : members_have_float ms ≡ false
-  pub no_nul : (later : Bool) → has_nul (members_text later ms) ≡ false
 
 pub none_written : MembersWritten no_members
-none_written = record { exact = refl; no_nul = λ later. refl }
+none_written = record { exact = refl }
 
 pub member_written : (k : List ℕ) {d : Data} {ms : Members} → IsWritten d → MembersWritten ms → MembersWritten (member k d ms)
-member_written k {d} {ms} w more = record {
-  exact = rw w.exact more.exact;
-  no_nul = λ later.
-      let value = append_nul (compact_text d) (members_text true ms) w.no_nul (more.no_nul true) in
-      comma_nul later (quoted k ++ 58 ∷ (compact_text d ++ members_text true ms))
-      (append_nul (quoted k) (58 ∷ (compact_text d ++ members_text true ms)) (quoted_nul k) (cons_nul 58 (compact_text d ++ members_text true ms) (omega arith) value));
-}
+member_written k w more = record { exact = rw w.exact more.exact }
 
 pub object_written : {ms : Members} → MembersWritten ms → IsWritten (object ms)
-object_written {ms} w = record { exact = w.exact; no_nul = w.no_nul false }
+object_written {ms} w = record { exact = w.exact; no_nul = text_nul (object ms) }
 
 -- the members put into others, one after another
 abbrev pub put_all : Members → Members → Members

@@ -1,5 +1,8 @@
 ghost use Rattle.std.specs.Prelude.{◌≡◌};
-ghost use Rattle.run_keeper.specs.declared.error.RowFault.TheVariants.{NotARow as NoRow, NoMemory as OutOfMemory};
+ghost use Rattle.run_keeper.specs.declared.error.RowFault.TheVariants.{
+  NotARow as NoRow,
+  NoMemory as OutOfMemory,
+};
 ghost use Rattle.run_keeper.specs.declared.error.MigrateFault.TheVariants.{NoMemory as NoRoom};
 
 use std::alloc::AllocError;

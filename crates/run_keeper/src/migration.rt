@@ -19,8 +19,8 @@ fn renewed(alloc: Global, row: &Text) -> Result<Text, RowFault>
     Ok(row_text(alloc, &entry)?)
 }
 
-/// Each row's text, replaced by the version 2 text of its entry, in order. It is `NotARow` exactly where a text is no
-/// row's, with the number of the first such.
+/// Each row's text, replaced by the version 2 text of its entry, in order. It is `NotARow` exactly
+/// where a text is no row's, with the number of the first such.
 pub fn migrate(alloc: Global, rows: &[Text]) -> Result<Items<Text>, MigrateFault>
     requires { length rows.now < 2 ^ 32 }
     ensures value { IfOk result (AreRenewed rows.now) }

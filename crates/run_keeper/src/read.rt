@@ -7,7 +7,13 @@ ghost use Rattle.wdl_port.specs.Rows.{kept_row};
 ghost use Rattle.run_keeper.specs.Entries.{IsEntry};
 ghost use Rattle.run_keeper.specs.Members.{HasAnswer, HasRequest};
 ghost use Rattle.run_keeper.specs.Reads.{Gives, IsNoRow};
-ghost use Rattle.run_keeper.specs.RowText.{IsRowOf, IsOldRow, row_text as new_text, row_data, old_data};
+ghost use Rattle.run_keeper.specs.RowText.{
+  IsRowOf,
+  IsOldRow,
+  row_text as new_text,
+  row_data,
+  old_data,
+};
 ghost use Rattle.run_keeper.specs.declared.error.RowFault.TheVariants.{NotARow};
 
 use crate::error::RowFault;
@@ -109,8 +115,8 @@ fn entry_by_version(alloc: Global, s: &str, row: &Value) -> Result<Entry, RowFau
     }
 }
 
-/// The entry of a row's text, in version 2 or 1, with the source `Kept`. It is `NotARow` exactly where the string is no
-/// row's text.
+/// The entry of a row's text, in version 2 or 1, with the source `Kept`. It is `NotARow` exactly
+/// where the string is no row's text.
 pub fn entry_of(alloc: Global, s: &str) -> Result<Entry, RowFault>
     ensures row { IfOk result (IsRowOf s.now) }
     ensures kept { IfOk result (λ e. e.source ≡ Kept) }

@@ -1,7 +1,17 @@
 ghost use Rattle.std.specs.Prelude.{◌≡◌, IfOk, OnOk};
 ghost use Rattle.serde_json.specs.View.{view, members_view};
 ghost use Rattle.serde_json.specs.Written.{compact_text};
-ghost use Rattle.run_keeper.specs.RowText.{hex_data, body_data, seen_data, laid_data, list_data, row_data, old_data, row_text as new_text, old_text as old_row_text};
+ghost use Rattle.run_keeper.specs.RowText.{
+  hex_data,
+  body_data,
+  seen_data,
+  laid_data,
+  list_data,
+  row_data,
+  old_data,
+  row_text as new_text,
+  old_text as old_row_text,
+};
 ghost use Rattle.run_keeper.specs.Written.{IsWritten};
 ghost use Rattle.run_keeper.specs.Written as spec;
 

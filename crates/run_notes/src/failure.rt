@@ -105,10 +105,10 @@ fn push_output(
     push_files(note, entry.answer.files.as_slice())
 }
 
-/// Returns what is known of a job that failed, in some 30 lines at most: of a status that is no success the command, the
-/// end of what it wrote to standard error, and the paths of its streams; of an output without a value the file that its
-/// expression names and the files that are there. `task` is the task of the job. It is empty where the fault is of no
-/// job of the journal.
+/// Returns what is known of a job that failed, in some 30 lines at most: of a status that is no
+/// success the command, the end of what it wrote to standard error, and the paths of its streams;
+/// of an output without a value the file that its expression names and the files that are there.
+/// `task` is the task of the job. It is empty where the fault is of no job of the journal.
 pub(crate) fn failed_note(
     alloc: Global,
     fault: &Fault,

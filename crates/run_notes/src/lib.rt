@@ -1,4 +1,5 @@
-//! What a person sees of a run: a line as each job starts and ends, a note on the job that failed, and a summary.
+//! What a person sees of a run: a line as each job starts and ends, a note on the job that failed,
+//! and a summary.
 #![tactic(auto)]
 
 mod attempt;

@@ -12,7 +12,8 @@ pub(crate) enum Event {
     Started {
         attempt: Attempt,
     },
-    /// Its command ended after this time, where the clock could be read. There is an attempt where the status is no success.
+    /// Its command ended after this time, where the clock could be read. There is an attempt where
+    /// the status is no success.
     Ended {
         status: u8,
         took: Option<Duration>,
@@ -65,7 +66,8 @@ pub(crate) fn push_event(note: &mut Note, place: &str, event: Event) -> Result<(
     }
 }
 
-/// Appends the counts of a run as `[12 done, 1 failed, 4 running]`. Failed jobs are named where there are any.
+/// Appends the counts of a run as `[12 done, 1 failed, 4 running]`. Failed jobs are named where
+/// there are any.
 pub(crate) fn push_counts(note: &mut Note, tally: &Tally) -> Result<(), NoMemory> {
     note.push("[")?;
     note.push_number(tally.done)?;

@@ -66,7 +66,8 @@ fn output_of<'a>(task: &'a TaskDef, name: &Text) -> Option<&'a TDecl> {
     None
 }
 
-/// The part of an output's expression that names a file: a text, or the argument of a function that reads one.
+/// The part of an output's expression that names a file: a text, or the argument of a function that
+/// reads one.
 fn file_part(expr: &TExpr) -> Option<&TExpr> {
     match expr {
         TExpr::Lit(Value::Str(_) | Value::File(_)) | TExpr::Strung(_) | TExpr::Binary(..) => {
@@ -91,7 +92,8 @@ fn push_key(note: &mut Note, key: &Key) -> Result<(), NoMemory> {
     note.push("}")
 }
 
-/// Appends an expression as the pattern of a text: names as placeholders, and `~{..}` for what is longer.
+/// Appends an expression as the pattern of a text: names as placeholders, and `~{..}` for what is
+/// longer.
 #[cycle(pattern)]
 fn push_pattern(note: &mut Note, expr: &TExpr) -> Result<(), NoMemory> {
     match expr {
@@ -118,7 +120,8 @@ fn push_parts(note: &mut Note, parts: &[TPart<TExpr>]) -> Result<(), NoMemory> {
     Ok(())
 }
 
-/// Appends the name of the file that an output is about, as its expression spells it, in a line of its own.
+/// Appends the name of the file that an output is about, as its expression spells it, in a line of
+/// its own.
 pub(crate) fn push_file(note: &mut Note, task: &TaskDef, output: &Text) -> Result<(), NoMemory> {
     let Some(output) = output_of(task, output) else {
         return Ok(());

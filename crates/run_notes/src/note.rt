@@ -51,7 +51,8 @@ impl Note {
         self.push(digits.as_str())
     }
 
-    /// Appends what a program wrote, with `?` in place of control characters but tabs, which a terminal would obey.
+    /// Appends what a program wrote, with `?` in place of control characters but tabs, which a
+    /// terminal would obey.
     fn push_bytes(&mut self, bytes: &[u8]) -> Result<(), NoMemory> {
         for byte in bytes {
             let shown = if byte.is_ascii_control() && *byte != b'\t' {
@@ -64,7 +65,8 @@ impl Note {
         Ok(())
     }
 
-    /// Appends the first lines of the bytes, at most so many, each with an indent, and `..` where there are more.
+    /// Appends the first lines of the bytes, at most so many, each with an indent, and `..` where
+    /// there are more.
     pub(crate) fn push_lines(&mut self, bytes: &[u8], most: usize) -> Result<(), NoMemory> {
         let mut rest = bytes;
         for _ in 0..most {

@@ -25,8 +25,8 @@ pub enum Style {
     Terminal,
 }
 
-/// A job that is running: when it began, where the clock could be read, which attempt it is, and which statuses are its
-/// successes.
+/// A job that is running: when it began, where the clock could be read, which attempt it is, and
+/// which statuses are its successes.
 #[derive(Drop)]
 struct Running {
     began: Option<Instant>,
@@ -34,8 +34,8 @@ struct Running {
     codes: Success,
 }
 
-/// The notes of a run, written to a sink for a person. A write that fails ends them, and a line for which there is no memory is
-/// left out.
+/// The notes of a run, written to a sink for a person. A write that fails ends them, and a line for
+/// which there is no memory is left out.
 #[derive(Drop)]
 pub struct RunNotes<'s, N: Sink, C: Clock + Drop> {
     alloc: Global,
@@ -60,7 +60,8 @@ fn write_all<N: Sink>(sink: &mut N, bytes: &[u8]) -> bool {
     true
 }
 
-/// Whether a status is a success of a job that had been running. Where the job was not kept, 0 alone is.
+/// Whether a status is a success of a job that had been running. Where the job was not kept, 0
+/// alone is.
 fn has_succeeded(running: &Option<Running>, status: u8) -> bool {
     match running {
         Some(running) => running.codes.holds(status),
@@ -204,8 +205,8 @@ impl<'s, N: Sink, C: Clock + Drop> RunNotes<'s, N, C> {
         }
     }
 
-    /// Ends the notes of a run: writes what is known of the job that failed, where one did, and the summary. `root` is the directory
-    /// of the jobs.
+    /// Ends the notes of a run: writes what is known of the job that failed, where one did, and the
+    /// summary. `root` is the directory of the jobs.
     pub fn end(&mut self, alloc: Global, core: &Core, root: &Text) {
         self.tell_failed(alloc, core);
         self.summarize(alloc, root);

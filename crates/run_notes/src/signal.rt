@@ -27,8 +27,8 @@ fn push_signal(note: &mut Note, signal: u8) -> Result<(), NoMemory> {
     note.push(")")
 }
 
-/// Appends the status of a command. A shell answers 128 and the number of the signal that ended its last program; a command
-/// whose own shell was ended by a signal has the status 255.
+/// Appends the status of a command. A shell answers 128 and the number of the signal that ended its
+/// last program; a command whose own shell was ended by a signal has the status 255.
 pub(crate) fn push_ended(note: &mut Note, status: u8) -> Result<(), NoMemory> {
     note.push("the command ended with status ")?;
     note.push_number(u64::from(status))?;

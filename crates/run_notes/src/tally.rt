@@ -19,7 +19,8 @@ pub(crate) struct Tally {
 }
 
 impl Tally {
-    /// Counts an attempt, by its number from 0: after the first one its job is no longer one that failed.
+    /// Counts an attempt, by its number from 0: after the first one its job is no longer one that
+    /// failed.
     fn attempt(&mut self, attempt: u32)
         ensures tally { self.new ≡ spec.attempted attempt self.old }
     {

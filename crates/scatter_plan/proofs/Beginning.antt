@@ -4,6 +4,7 @@ use Rattle.std.specs.List.{list_all}
 use Rattle.std.proofs.lemmas.Bool.{and_from, and_parts, lt-ltb, ltb-true, or_right}
 use Rattle.std.proofs.lemmas.Option.{same_Some, slice_get_within}
 use Rattle.std.proofs.Math.Seq.{drop-cons}
+use Rattle.std.proofs.Math.Bool.{and-false}
 use Rattle.wdl_base.specs.declared.fault.Fault.{Fault}
 use Rattle.wdl_value.specs.declared.env.Bind.{Bind}
 use Rattle.wdl_value.specs.declared.value.Value.{Value}
@@ -225,12 +226,8 @@ is_over_if s a b = and_from (is_empty s.asks.ready) (is_empty s.field.faults) (n
 pub waits_still : (s : State) → 0 < length s.asks.ready → is_over s ≡ false
 waits_still s a = ap (λ b. b && is_empty s.field.faults) (some_left s.asks.ready a)
 
-and_false : (a : Bool) → (a && false) ≡ false
-and_false true = refl
-and_false false = refl
-
 pub has_failed : (s : State) → 0 < length s.field.faults → is_over s ≡ false
-has_failed s b = ap (λ x. is_empty s.asks.ready && x) (some_left s.field.faults b) ∙ and_false (is_empty s.asks.ready)
+has_failed s b = ap (λ x. is_empty s.asks.ready && x) (some_left s.field.faults b) ∙ and-false (is_empty s.asks.ready)
 
 pub outputs_shown : (s : State) (values : List (Option Value)) (env : List Bind) (slice : List TDecl) (flow f : FlowDef) (line l : FlowLayout) → env ≡ env_at values line.first_output slice → slice ≡ flow.outputs → flow ≡ f → line ≡ l
     → is_over s ≡ true → Some env ≡ outputs_when (is_over s) values l.first_output f.outputs

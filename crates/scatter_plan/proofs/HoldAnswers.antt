@@ -3,7 +3,8 @@ use Rattle.std.proofs.Common.{◌≡◌, ℕ, zero, suc, ◌+◌, ◌-◌, ◌<�
 use Rattle.std.proofs.lemmas.Bool.{cases_eq, lt-ltb, ltb-false, ltb-true, or_left}
 use Rattle.std.proofs.lemmas.List.Elements.{Contains-append_cases}
 use Rattle.std.proofs.lemmas.List.Sums.{sum_by-append, sum_by-cons}
-use Rattle.std.proofs.lemmas.Option.{slice_get_within}
+use Rattle.std.proofs.lemmas.Option.{slice_get_within, same_Some}
+use Rattle.std.proofs.Math.Bool.{and-false}
 use Rattle.wdl_base.specs.declared.answer.Answer.{Answer}
 use Rattle.wdl_base.specs.declared.fault.Fault.{Fault}
 use Rattle.wdl_base.specs.declared.place.Segment.{Segment}
@@ -59,9 +60,6 @@ use Rattle.scatter_plan.specs.Holding.{IsAwaited, IsHolding, owed, paid_of, pass
 use Rattle.plan_steps.specs.Stepping.{library_in}
 use Rattle.plan_steps.proofs.Lists.{get_swapped}
 
-some_same : {A : Type 0} {x y : A} → Some x ≡ Some y → x ≡ y
-some_same e = cc
-
 -- ---- lists
 
 module _ {A : Type 0} (test : A → Bool) where
@@ -74,7 +72,7 @@ module _ {A : Type 0} (test : A → Bool) where
   counted_set : (xs : List A) (k : ℕ) (x y : A) → slice_get xs k ≡ Some x → count_by test (slice_set xs k y) + weight x ≡ count_by test xs + weight y
   counted_set [] k x y e = absurd (let f : ⊥ = cc in f)
   counted_set (z ∷ xs) zero x y e =
-      let same : weight z ≡ weight x = ap weight (some_same e) in
+      let same : weight z ≡ weight x = ap weight (same_Some _ _ e) in
       let a = counted y xs in
       let b = counted z xs in
       omega (arith, a, b, same)
@@ -162,7 +160,7 @@ without_among t (c ∷ cs) i d e = by_case (cases_eq c.step t) i (without_among 
     by_case : (o : (c.step ≡ t) ⊎ (c.step ≡ t → ⊥)) (n : ℕ) → ((m : ℕ) (x : AskedCall) → slice_get (without t cs) m ≡ Some x → (j : ℕ) × (slice_get cs j ≡ Some x) × (x.step ≡ t → ⊥)) → slice_get (keep c o (without t cs)) n ≡ Some d
         → (j : ℕ) × (slice_get (c ∷ cs) j ≡ Some d) × (d.step ≡ t → ⊥)
     by_case (inl z) n rest h = later (rest n d h)
-    by_case (inr z) zero rest h = let same : c ≡ d = some_same h in (0, h, subst (λ (x : AskedCall). x.step ≡ t → ⊥) same z)
+    by_case (inr z) zero rest h = let same : c ≡ d = same_Some _ _ h in (0, h, subst (λ (x : AskedCall). x.step ≡ t → ⊥) same z)
     by_case (inr z) (suc n) rest h = later (rest n d h)
 
 without_keeps : (t : ℕ) (cs : List AskedCall) (j : ℕ) (d : AskedCall) → slice_get cs j ≡ Some d → (d.step ≡ t → ⊥) → (i : ℕ) × (slice_get (without t cs) i ≡ Some d)
@@ -171,7 +169,7 @@ without_keeps t [] j d e n = absurd (let f : ⊥ = cc in f)
 without_keeps t (c ∷ cs) zero d e n = by_case (cases_eq c.step t)
   where
     by_case : (o : (c.step ≡ t) ⊎ (c.step ≡ t → ⊥)) → (i : ℕ) × (slice_get (keep c o (without t cs)) i ≡ Some d)
-    by_case (inl z) = let same : c ≡ d = some_same e in absurd (n (ap (λ (x : AskedCall). x.step) (sym same) ∙ z))
+    by_case (inl z) = let same : c ≡ d = same_Some _ _ e in absurd (n (ap (λ (x : AskedCall). x.step) (sym same) ∙ z))
     by_case (inr z) = (0, e)
 without_keeps t (c ∷ cs) (suc j) d e n = by_case (cases_eq c.step t) (without_keeps t cs j d e n)
   where
@@ -194,11 +192,11 @@ without_pays t [] j d e same = absurd (let f : ⊥ = cc in f)
 without_pays t (c ∷ cs) zero d e same = by_case (cases_eq c.step t) (without_owes t cs)
   where
     here : length c.task.outputs ≡ length d.task.outputs
-    here = ap (λ (x : AskedCall). length x.task.outputs) (some_same e)
+    here = ap (λ (x : AskedCall). length x.task.outputs) (same_Some _ _ e)
 
     by_case : (o : (c.step ≡ t) ⊎ (c.step ≡ t → ⊥)) → owed (without t cs) ≤ owed cs → owed (keep c o (without t cs)) + length d.task.outputs ≤ length c.task.outputs + owed cs
     by_case (inl z) le = let h = here in omega (arith, le, h)
-    by_case (inr z) le = absurd (z (ap (λ (x : AskedCall). x.step) (some_same e) ∙ same))
+    by_case (inr z) le = absurd (z (ap (λ (x : AskedCall). x.step) (same_Some _ _ e) ∙ same))
 without_pays t (c ∷ cs) (suc j) d e same = by_case (cases_eq c.step t) (without_pays t cs j d e same)
   where
     by_case : (o : (c.step ≡ t) ⊎ (c.step ≡ t → ⊥)) → owed (without t cs) + length d.task.outputs ≤ owed cs → owed (keep c o (without t cs)) + length d.task.outputs ≤ length c.task.outputs + owed cs
@@ -264,10 +262,6 @@ rule_place (copies from c) = []
 call_place : (x : TCall) (s : Scope) (g : Given) (d : ℕ) → rule_place (does (stmt.Call x) s g d) ≡ s.place ++ segment.Call x.name ∷ []
 call_place x s g d = ap (λ (y : Statement-F Statement). layer_place y s) (stmt.outs-Call x)
 
-nothing_and : (b : Bool) → (b && false) ≡ false
-nothing_and true = refl
-nothing_and false = refl
-
 -- ---- an answer
 
 all_wait : (ready : List Prepared) → waiting ready any_job ≡ length ready
@@ -310,7 +304,7 @@ module _ (checked : Checked) (layout : Layout) (main : ℕ) (given : List Bind) 
   step_is : b.step ≡ c.step
   step_is =
       w.by_step
-      ∙ ap (λ (d : Call). d.step) (some_same (sym w.call_there ∙ ap (slice_get s.asks.calls) (one w.at at w.call c w.call_there c_there (w.place ∙ sym same)) ∙ c_there))
+      ∙ ap (λ (d : Call). d.step) (same_Some _ _ (sym w.call_there ∙ ap (slice_get s.asks.calls) (one w.at at w.call c w.call_there c_there (w.place ∙ sym same)) ∙ c_there))
 
   abbrev z : Concludes lib layout site rows 24 form v is_ h.listed h.asked h.paid_by h.growing b q
   z = conclude lib layout site rows 24 form v is_ h.listed h.asked h.paid_by h.inputs_given h.growing b q
@@ -382,7 +376,7 @@ module _ (checked : Checked) (layout : Layout) (main : ℕ) (given : List Bind) 
     over_now is =
         let old = ap h.answered (unanswered_more rows row is) ∙ h.over (elsewhere_too row is) in
         let there : has_row more place attempt ≡ true = row_last rows row place attempt ∙ ap (λ (t : Bool). has_row rows place attempt || t) (at_itself row) ∙ or_true (has_row rows place attempt) in
-        let none : ◌≡◌ {A = ℕ} (hit (unanswered more is)) 0 = ap (λ (t : Bool). cond (is p.request (successes_of p.codes) && not t) 1 0) there ∙ ap (λ (t : Bool). cond t 1 0) (nothing_and (is p.request (successes_of p.codes))) in
+        let none : ◌≡◌ {A = ℕ} (hit (unanswered more is)) 0 = ap (λ (t : Bool). cond (is p.request (successes_of p.codes) && not t) 1 0) there ∙ ap (λ (t : Bool). cond t 1 0) (and-false (is p.request (successes_of p.codes))) in
         omega (arith, old, none)
       where
         or_true : (t : Bool) → (t || true) ≡ true
@@ -412,7 +406,7 @@ module _ (checked : Checked) (layout : Layout) (main : ℕ) (given : List Bind) 
           let u = h.awaited o x e in
           let r = h.growing.asks u.asker u.by u.by_there in
           let rules = ap (slice_get h.growing.growth.rules) f in
-          let one_rule : does (stmt.Call r.call) r.scope r.given r.done ≡ does (stmt.Call q.call) q.scope q.given q.done = some_same (sym r.rule ∙ rules ∙ q.rule) in
+          let one_rule : does (stmt.Call r.call) r.scope r.given r.done ≡ does (stmt.Call q.call) q.scope q.given q.done = same_Some _ _ (sym r.rule ∙ rules ∙ q.rule) in
           away (sym u.by_place ∙ r.place ∙ sym (call_place r.call r.scope r.given r.done) ∙ ap rule_place one_rule ∙ call_place q.call q.scope q.given q.done ∙ sym q.place ∙ w.by_place)
 
       still : (later : List AskedCall) → ((d : AskedCall) (n : ℕ) → slice_get h.asked n ≡ Some d → (d.step ≡ b.step → ⊥) → (e : ℕ) × (slice_get later e ≡ Some d)) → (n : ℕ) (x : Prepared) → slice_get between.ready n ≡ Some x
@@ -424,7 +418,7 @@ module _ (checked : Checked) (layout : Layout) (main : ℕ) (given : List Bind) 
           record {
             at = u.at;
             call = u.call;
-            call_there = taken.calls.others u.at (λ f. o.2 (sym u.place ∙ ap (λ (d : Call). d.place) (some_same (sym u.call_there ∙ ap (slice_get s.asks.calls) f ∙ c_there)) ∙ same)) ∙ u.call_there;
+            call_there = taken.calls.others u.at (λ f. o.2 (sym u.place ∙ ap (λ (d : Call). d.place) (same_Some _ _ (sym u.call_there ∙ ap (slice_get s.asks.calls) f ∙ c_there)) ∙ same)) ∙ u.call_there;
             place = u.place;
             asker = l.0;
             by = u.by;
@@ -440,7 +434,7 @@ module _ (checked : Checked) (layout : Layout) (main : ℕ) (given : List Bind) 
       called_now n d e = by_case (cases_eq n at)
         where
           by_case : (n ≡ at) ⊎ (n ≡ at → ⊥) → (o : ℕ) × (x : Call) × (slice_get s.asks.calls o ≡ Some x) × (x.place ≡ d.place)
-          by_case (inl f) = (at, c, c_there, ap (λ (x : Call). x.place) (some_same (sym (taken.calls.here c c_there) ∙ ap (slice_get between.calls) (sym f) ∙ e)))
+          by_case (inl f) = (at, c, c_there, ap (λ (x : Call). x.place) (same_Some _ _ (sym (taken.calls.here c c_there) ∙ ap (slice_get between.calls) (sym f) ∙ e)))
           by_case (inr f) = (n, d, sym (taken.calls.others n f) ∙ e, refl)
 
       -- ---- it holds
@@ -595,7 +589,7 @@ module _ (checked : Checked) (layout : Layout) (main : ℕ) (given : List Bind) 
           awaited_more : IsWaiting more place a (attempt + 1) → (n : ℕ) (x : Prepared) → (slice_get between.ready n ≡ Some x) ⊎ ((o : ℕ) × (n ≡ length between.ready + o) × (slice_get (next_of site p ∷ []) o ≡ Some x)) → IsAwaited site more between.calls h.asked x
           awaited_more waits_next n x (inl e) = still h.asked (λ d o f away. (o, f)) n x e
           awaited_more waits_next n x (inr (zero, e, f)) =
-              subst (IsAwaited site more between.calls h.asked) (some_same f)
+              subst (IsAwaited site more between.calls h.asked) (same_Some _ _ f)
               (record {
                 at = at;
                 call = record { place = c.place; step = c.step; last = Some attempt };

@@ -52,6 +52,7 @@ use Rattle.scatter_plan.specs.Holding.{IsAwaited, IsFew, IsHolding, owed, paid_o
 use Rattle.plan_steps.specs.Stepping.{library_in}
 use Rattle.plan_steps.specs.Values.{own_env}
 use Rattle.scatter_plan.proofs.Holds as holds
+use Rattle.step_net.proofs.Growth.{get_before as more_there}
 
 -- ---- lists with one more at the end
 
@@ -60,11 +61,6 @@ last_or P [] y all last zero x e = subst P (same_Some y x e) last
 last_or P [] y all last (suc k) x e = absurd (let f : ⊥ = cc in f)
 last_or P (z ∷ xs) y all last zero x e = all 0 x e
 last_or P (z ∷ xs) y all last (suc k) x e = last_or P xs y (λ j u at. all (suc j) u at) last k x e
-
-more_there : {A : Type 0} (xs : List A) (y : A) (k : ℕ) (x : A) → slice_get xs k ≡ Some x → slice_get (xs ++ y ∷ []) k ≡ Some x
-more_there [] y k x e = cc
-more_there (z ∷ xs) y zero x e = e
-more_there (z ∷ xs) y (suc k) x e = more_there xs y k x e
 
 last_there : {A : Type 0} (xs : List A) (y : A) → slice_get (xs ++ y ∷ []) (length xs) ≡ Some y
 last_there [] y = refl

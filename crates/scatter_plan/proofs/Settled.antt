@@ -23,6 +23,7 @@ use Rattle.plan_steps.specs.Doing.{State}
 use Rattle.scatter_plan.specs.Holding.{IsHolding, passes, task_cost, waiting}
 use Rattle.scatter_plan.specs.Settling.{IsSettled, env_at, is_over, main_flow, outputs_when}
 use Rattle.plan_steps.specs.Stepping.{library_in}
+use Rattle.plan_lists.proofs.Ends.{is_nothing}
 
 -- ---- what waits has no answer
 
@@ -63,10 +64,6 @@ env_same f values first (d ∷ ds) h =
     ap (λ (o : Option Value). bound_by (plain_key d.name) o ++ env_at values (first + 1) ds) (sym (h 0 d refl ∙ ap (value_at values) (omega arith)))
     ∙ ap (λ (e : List Bind). bound_by (plain_key d.name) (value_in (plain_key d.name) f) ++ e)
     (env_same f values (first + 1) ds (λ k x e. h (suc k) x e ∙ ap (value_at values) (omega arith)))
-
-is_nothing : {A : Type 0} (xs : List A) → is_empty xs ≡ true → xs ≡ []
-is_nothing [] e = refl
-is_nothing (x ∷ xs) e = absurd (false≢true e)
 
 -- ---- where nothing is ready
 

@@ -1,5 +1,5 @@
 -- What holds of a plan while its steps are done.
-use Rattle.std.proofs.Common.{◌≡◌, ℕ, zero, suc, ◌+◌, ◌-◌, ◌<◌, ◌≤◌, true, List, [], ◌∷◌, ◌++◌, append-nil, append_assoc, length, Option, Some, None, Result, Err, slice_get, sym, ap, ◌∙◌, subst, refl, arith}
+use Rattle.std.proofs.Common.{◌≡◌, ℕ, ◌+◌, ◌-◌, ◌≤◌, true, List, [], ◌++◌, append-nil, append_assoc, Option, Some, None, Result, Err, slice_get, sym, ap, ◌∙◌, subst, arith}
 use Rattle.wdl_value.specs.declared.env.Bind.{Bind}
 use Rattle.wdl_value.specs.Tables.{Row}
 use Rattle.wdl_typed.specs.declared.checked.Checked.{Checked}
@@ -24,6 +24,7 @@ use Rattle.plan_steps.specs.Stepping.{Did, IsPastStep, IsWithin, library_in}
 use Rattle.scatter_plan.proofs.HoldMany.{past_many}
 use Rattle.scatter_plan.proofs.HoldReady.{readies}
 use Rattle.scatter_plan.proofs.Turns as turns
+use Rattle.wdl_base.proofs.Options.{item_there}
 
 module _ (checked : Checked) (layout : Layout) (main : ℕ) (given : List Bind) (site : List ℕ) (rows : List Row) (s : State) (h : IsHolding checked layout main given site rows s) (t : ℕ) (net : Sown) (taken : IsTaken s.field.plot.net t net) where
   abbrev with : Sown → State
@@ -55,11 +56,6 @@ pub begins : (checked : Checked) (layout : Layout) (site : List ℕ) (n : ℕ) (
 begins checked layout site n g q sound asking =
     record { sound = sound; asking = asking; holds = λ main given rows h. record { holding = h; more = []; ready = sym (append-nil q.ready.items); paid = omega arith } }
 
-there_some : {A : Type 0} (xs : List A) (k : ℕ) → k < length xs → (x : A) × (slice_get xs k ≡ Some x)
-there_some [] k lt = absurd (omega (arith, lt))
-there_some (x ∷ xs) zero lt = (x, refl)
-there_some (x ∷ xs) (suc k) lt = there_some xs k (omega (arith, lt))
-
 pub taken_of : (o : Option ℕ) (t : ℕ) (old new : Sown) → o ≡ Some t → Popped old o new → IsTaken old t new
 taken_of o t old new e p = subst (λ (z : Option ℕ). Popped old z new) e p
 
@@ -82,7 +78,7 @@ module _ (checked : Checked) (layout : Layout) (site : List ℕ) (first : State)
           asking = asking;
           holds = λ main given rows first_holds.
               let k = i.holds main given rows first_holds in
-              let r = there_some net.rules t (turns.rule_there checked layout main given site rows (state g q) k.holding t net taken) in
+              let r = item_there net.rules t (turns.rule_there checked layout main given site rows (state g q) k.holding t net taken) in
               let j = turns.goes checked layout main given site rows (state g q) k.holding t net taken see r.0 r.1 (state h p) (count, jobs k.holding.few_jobs) (m - n) (done r.0 r.1) (within r.0 r.1) in
               let can = turns.can checked layout main given site rows (state g q) k.holding t net taken r.0 r.1 in
               let more = readies checked layout site (now net) t r.0 can (state h p) (done r.0 r.1) in
@@ -101,7 +97,7 @@ module _ (checked : Checked) (layout : Layout) (site : List ℕ) (first : State)
     past see NoMemory done main given rows h = tt
     past see TooMany done main given rows h =
         let k = i.holds main given rows h in
-        let r = there_some net.rules t (turns.rule_there checked layout main given site rows (state g q) k.holding t net taken) in
+        let r = item_there net.rules t (turns.rule_there checked layout main given site rows (state g q) k.holding t net taken) in
         is_many checked layout main given site rows (state g q) k.holding t net taken see r.0 r.1 (done r.0 r.1)
 
   -- ---- the end

@@ -1,6 +1,23 @@
 //! The plan of a run: what the answers so far made ready, what failed, and the outputs.
 
-ghost use Rattle.std.specs.Prelude.{◌≡◌, true, false, ℕ, List, Err, Some, IfErr, IfOk, IsSome, OnErr, OnOk, ◌++◌, ◌∷◌, [], slice_get};
+ghost use Rattle.std.specs.Prelude.{
+  ◌≡◌,
+  true,
+  false,
+  ℕ,
+  List,
+  Err,
+  Some,
+  IfErr,
+  IfOk,
+  IsSome,
+  OnErr,
+  OnOk,
+  ◌++◌,
+  ◌∷◌,
+  [],
+  slice_get,
+};
 ghost use Rattle.std.specs.Option.{option_copied};
 ghost use Rattle.wdl_value.specs.Tables.{Row, table};
 ghost use Rattle.wdl_typed.specs.declared.flow.FlowDef.{FlowDef};

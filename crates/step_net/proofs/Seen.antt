@@ -4,10 +4,11 @@ use Rattle.std.specs.List.{list_all, slice_range, slice_set}
 use Rattle.std.proofs.Math.Seq.{drop-append_seam, take-length}
 use Rattle.std.proofs.lemmas.List.{drop-append-le, get_or-drop, get_or-take, length-take-le, map-append, map-set, take-append-le}
 use Rattle.std.proofs.lemmas.List.Folds.{list_all_at}
+use Rattle.std.proofs.lemmas.Option.{same_Some}
 use Rattle.step_net.specs.declared.net.Step.{Step}
 use Rattle.step_net.specs.Nets.{IsSound, IsStuck, Spans, Watchers, need_is_set, set_at, step_of}
 use Rattle.step_net.specs.Views.{AllStuck, IsTaken, View, Wants, view_of, wants, with_step}
-use Rattle.step_net.proofs.Gets.{get_map, set_own, some_same}
+use Rattle.step_net.proofs.Gets.{get_map, set_own}
 use Rattle.step_net.proofs.Looks.{AllSet, moved_to, passed}
 use Rattle.step_net.proofs.Moves.{stuck}
 
@@ -71,7 +72,7 @@ seen_same is_set needs steps s x k e fresh =
 -- an element of a mapped list is that of an element
 from_map : {A B : Type 0} (f : A → B) (xs : List A) (i : ℕ) (b : B) → slice_get (map f xs) i ≡ Some b → (a : A) × (slice_get xs i ≡ Some a) × (f a ≡ b)
 from_map f [] i b h = cc
-from_map f (x ∷ xs) zero b h = (x, refl, some_same h)
+from_map f (x ∷ xs) zero b h = (x, refl, same_Some _ _ h)
 from_map f (x ∷ xs) (suc i) b h = from_map f xs i b h
 
 -- With an empty queue no step that is not taken is ready.

@@ -1,9 +1,31 @@
 //! A net of steps and cells. A step that is not taken watches one cell that it needs and that is
 //! not set, or it is queued: first in, first out.
 
-ghost use Rattle.std.specs.Prelude.{◌≡◌, ◌<◌, ◌≤◌, ℕ, true, false, Some, IfOk, slice_get, slice_index, length};
+ghost use Rattle.std.specs.Prelude.{
+  ◌≡◌,
+  ◌<◌,
+  ◌≤◌,
+  ℕ,
+  true,
+  false,
+  Some,
+  IfOk,
+  slice_get,
+  slice_index,
+  length,
+};
 ghost use Rattle.step_net.specs.Nets.{AreSound, IsSoundBut, need_is_set};
-ghost use Rattle.step_net.specs.Views.{IsSoundNet, Looked, Popped, Wants, view, empty, with_cell, with_step, with_set};
+ghost use Rattle.step_net.specs.Views.{
+  IsSoundNet,
+  Looked,
+  Popped,
+  Wants,
+  view,
+  empty,
+  with_cell,
+  with_step,
+  with_set,
+};
 
 use std::alloc::{AllocError, Global};
 use std::collections::VecDeque;

@@ -8,7 +8,7 @@ pub free_none : (taken : List (List ℕ)) (s : List ℕ) → free 0 taken s ≡ 
 unfolding free
 free_none taken s = refl
 
-deeper : (n : ℕ) (taken : List (List ℕ)) (s : List ℕ) → free (suc n) taken s ≡ or_else (untaken taken s) (free n taken (s ++ 95 ∷ []))
+pub deeper : (n : ℕ) (taken : List (List ℕ)) (s : List ℕ) → free (suc n) taken s ≡ or_else (untaken taken s) (free n taken (s ++ 95 ∷ []))
 unfolding free
 deeper n taken s = refl
 

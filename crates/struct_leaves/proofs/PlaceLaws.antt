@@ -7,7 +7,7 @@ use Rattle.wdl_value.specs.Fits.{Structs, members_of}
 use Rattle.leaf_image.specs.declared.leaf.Place.{Place}
 use Rattle.leaf_image.specs.Leaves.{places_at, some_places, struct_places}
 
-at_zero : (structs : Structs) (input : List ℕ) (path : List (List ℕ)) (t : Ty) → places_at structs 0 input path t ≡ []
+pub at_zero : (structs : Structs) (input : List ℕ) (path : List (List ℕ)) (t : Ty) → places_at structs 0 input path t ≡ []
 unfolding places_at
 at_zero structs input path t = refl
 

@@ -10,8 +10,8 @@ use wdl_names::Indexed;
 use wdl_typed::TInput;
 use wdl_value::{Member, StructDef, Ty};
 
-/// The most structs to which an input may lead, itself and each member of a struct type counted once for each path. An
-/// inputs file has at most 1,048,576 bytes, and no value of more structs.
+/// The most structs to which an input may lead, itself and each member of a struct type counted
+/// once for each path. An inputs file has at most 1,048,576 bytes, and no value of more structs.
 const MOST: u32 = 262_144;
 
 /// How many of so many structs are left beside those of a value of that type, if it has no more.

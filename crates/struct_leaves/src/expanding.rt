@@ -15,7 +15,8 @@ use wdl_swaps::{Swap, boxed_expr, kept_call, kept_decl, kept_if, kept_scatter};
 use wdl_typed::{FlowDef, Statement, TDecl, TInput, Target};
 use wdl_value::{Items, NoMemory};
 
-/// The workflows, the leaves of the struct inputs of each, and what a body sees of its own workflow.
+/// The workflows, the leaves of the struct inputs of each, and what a body sees of its own
+/// workflow.
 #[derive(Drop)]
 pub struct Setting<'a> {
     pub flows: &'a [FlowDef],

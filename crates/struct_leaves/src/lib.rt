@@ -1,4 +1,5 @@
-//! Struct inputs of workflows, replaced by their leaves: the members that are no structs themselves.
+//! Struct inputs of workflows, replaced by their leaves: the members that are no structs
+//! themselves.
 #![tactic(auto)]
 
 mod arguments;

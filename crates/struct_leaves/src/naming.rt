@@ -58,7 +58,8 @@ fn untaken(alloc: Global, text: &Text, taken: &Words) -> Result<Option<Name>, No
     }
 }
 
-/// The text with as many `_` behind it as make it a name that is not taken, with fewer than so many.
+/// The text with as many `_` behind it as make it a name that is not taken, with fewer than so
+/// many.
 #[tactic(auto, using(crate::proofs::NamingLaws::free_none, crate::proofs::NamingLaws::free_some))]
 fn free(alloc: Global, tries: u32, text: Text, taken: &Words) -> Result<Option<Name>, NoMemory>
     ensures { IfOk result (λ n. n ≡ spec.free tries taken.now text) }
@@ -114,8 +115,9 @@ fn named(alloc: Global, places: &[Place], mut taken: Words) -> Result<Option<Ite
     Ok(Some(leaves))
 }
 
-/// The leaves of a workflow's struct inputs, each with a name that no other of the workflow has. There are none where
-/// such a name would pass 128 bytes, and where an input leads to more than 262,144 structs.
+/// The leaves of a workflow's struct inputs, each with a name that no other of the workflow has.
+/// There are none where such a name would pass 128 bytes, and where an input leads to more than
+/// 262,144 structs.
 pub fn leaves_of(
     alloc: Global,
     structs: &Indexed<StructDef>,

@@ -4,12 +4,12 @@ use Rattle.std.specs.declared.alloc.Global.{Global}
 use denote.Ref.{MutBor}
 use Rattle.wdl_ast.specs.declared.type_tree.TypeTree.{TypeTree}
 use Rattle.wdl_ast.specs.Words.{Words}
-use Rattle.token_reading.specs.declared.fault.Stop.{Stop}
+use Rattle.token_reading.specs.declared.fault.RuleStop.{RuleStop}
 use Rattle.token_reading.specs.Outcome.{Reads}
 use Rattle.token_reading.specs.TypeReading.{type_at}
 
 pub record NestsTypes (depth : ℕ) (pre : Global → MutBor Words → ℕ → Type 0)
-    (post : Global → MutBor Words → ℕ → Result TypeTree Stop → MutBor Words → Type 0) : Type 0 where
+    (post : Global → MutBor Words → ℕ → Result TypeTree RuleStop → MutBor Words → Type 0) : Type 0 where
   pub callable : (alloc : Global) (old : MutBor Words) → pre alloc old depth
-  pub reads : (alloc : Global) (old new : MutBor Words) (r : Result TypeTree Stop) → post alloc old depth r new
+  pub reads : (alloc : Global) (old new : MutBor Words) (r : Result TypeTree RuleStop) → post alloc old depth r new
       → Reads (type_at depth old.now) r new.now

@@ -13,8 +13,8 @@ use Rattle.wdl_ast.specs.declared.expr.Expr.{Expr}
 use Rattle.wdl_ast.specs.Words.{Words}
 use Rattle.token_reading.specs.declared.fault.Refusal.{Refusal}
 use Rattle.token_reading.specs.declared.fault.Refusal.TheVariants.{Missing, Bad}
-use Rattle.token_reading.specs.declared.fault.Stop.{Stop}
-use Rattle.token_reading.specs.declared.fault.Stop.TheVariants.{NoMemory, Refused}
+use Rattle.token_reading.specs.declared.fault.RuleStop.{RuleStop}
+use Rattle.token_reading.specs.declared.fault.RuleStop.TheVariants.{NoMemory, Refused}
 use Rattle.token_reading.specs.declared.tall.Tall.{Tall}
 use Rattle.token_reading.specs.declared.tall.Chain.{Chain}
 
@@ -120,10 +120,10 @@ linked depth s links inside x ts = if nat_le (links + inside) depth then Ok (rec
 
 -- ---- what a function that reads ensures: what reading gives, unless memory runs out
 
-abbrev pub Fails : {A : Type 0} → Outcome A → Stop → Type 0
+abbrev pub Fails : {A : Type 0} → Outcome A → RuleStop → Type 0
 Fails outcome NoMemory = Unit {0}
 Fails outcome (Refused f) = outcome ≡ Err f
 
-abbrev pub Reads : {A : Type 0} → Outcome A → Result A Stop → Words → Type 0
+abbrev pub Reads : {A : Type 0} → Outcome A → Result A RuleStop → Words → Type 0
 Reads outcome (Ok a) new = outcome ≡ Ok (a, new)
 Reads outcome (Err s) new = Fails outcome s

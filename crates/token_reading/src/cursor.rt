@@ -11,8 +11,8 @@ use std::marker::Model;
 use wdl_ast::{BinaryOperator, Chars, Ident, Kind, Mark, Quote, Token, UnaryOperator};
 use wdl_value::{Name, NameFault, NoMemory, Span};
 
-/// The tokens that are left. It remembers how far reading came before it went back, and the first token that was
-/// blamed, so that a refusal can name the first token that fits nothing.
+/// The tokens that are left. It remembers how far reading came before it went back, and the first
+/// token that was blamed, so that a refusal can name the first token that fits nothing.
 #[derive(Drop)]
 pub struct Cursor<'a> {
     rest: &'a [Token],
@@ -129,8 +129,8 @@ impl<'a> Cursor<'a> {
         }
     }
 
-    /// How many tokens were left from the first one on that fits nothing: the one that was blamed, or else the one where
-    /// reading came farthest.
+    /// How many tokens were left from the first one on that fits nothing: the one that was blamed,
+    /// or else the one where reading came farthest.
     pub fn left_at_fault(&self) -> usize {
         match self.blamed {
             Some(left) => left,

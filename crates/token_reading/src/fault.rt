@@ -1,15 +1,16 @@
 //! Why reading stopped.
 
 ghost use Rattle.std.specs.Prelude.{◌≡◌};
-ghost use Rattle.token_reading.specs.declared.fault.Stop.TheVariants.{NoMemory as StopNoMemory};
+ghost use Rattle.token_reading.specs.declared.fault.RuleStop.TheVariants.{NoMemory as StopNoMemory};
 
 use std::alloc::AllocError;
 use thiserror::Error;
 use wdl_value::{NoMemory, Span};
 
-/// Why no tree was given. The codes are 110 (no such tree starts there), 111 (reading met the limit of depth), and those of
-/// forms that are left out: 120 (fractions, `Float`, and the functions that give one), 121 (`Object`, `object` and
-/// their functions), 122 (`sub`), 123 (`read_json`, `write_json`).
+/// Why no tree was given. The codes are 110 (no such tree starts there), 111 (reading met the limit
+/// of depth), and those of forms that are left out: 120 (fractions, `Float`, and the functions that
+/// give one), 121 (`Object`, `object` and their functions), 122 (`sub`), 123 (`read_json`,
+/// `write_json`).
 #[derive(Clone, Copy, Debug, PartialEq, Eq, Error)]
 pub enum ParseFault {
     #[error("error {code}")]
@@ -36,23 +37,23 @@ pub enum Refusal {
 
 /// Why a rule stopped.
 #[derive(Clone, Copy, Debug, PartialEq, Eq)]
-pub enum Stop {
+pub enum RuleStop {
     NoMemory,
     Refused(Refusal),
 }
 
-impl From<AllocError> for Stop {
+impl From<AllocError> for RuleStop {
     ghost from_gives = { λ _ s. s ≡ StopNoMemory };
 
-    fn from(_error: AllocError) -> Stop {
-        Stop::NoMemory
+    fn from(_error: AllocError) -> RuleStop {
+        RuleStop::NoMemory
     }
 }
 
-impl From<NoMemory> for Stop {
+impl From<NoMemory> for RuleStop {
     ghost from_gives = { λ _ s. s ≡ StopNoMemory };
 
-    fn from(_error: NoMemory) -> Stop {
-        Stop::NoMemory
+    fn from(_error: NoMemory) -> RuleStop {
+        RuleStop::NoMemory
     }
 }

@@ -1,4 +1,5 @@
-//! A cursor over tokens, what reading them answers, and the readers of operators, plain strings and types over it.
+//! A cursor over tokens, what reading them answers, and the readers of operators, plain strings and
+//! types over it.
 #![tactic(auto)]
 
 mod cursor;
@@ -10,7 +11,7 @@ mod tall;
 mod type_reader;
 
 pub use cursor::{Cursor, is_word};
-pub use fault::{Fault, ParseFault, Refusal, Stop};
+pub use fault::{Fault, ParseFault, Refusal, RuleStop};
 pub use operator::{OptionWord, left_out};
 pub use plain_string::{read_options, read_plain};
 pub use read::{bad, deeper, grown, linked, missing, too_deep};

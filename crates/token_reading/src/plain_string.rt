@@ -5,7 +5,7 @@ ghost use Rattle.token_reading.specs.Outcome.{Reads};
 ghost use Rattle.token_reading.specs.Strings as spec;
 
 use crate::cursor::Cursor;
-use crate::fault::Stop;
+use crate::fault::RuleStop;
 use crate::operator::{OptionWord, same_option};
 use crate::read::missing;
 use std::alloc::Global;
@@ -14,7 +14,7 @@ use wdl_value::{NoMemory, Span};
 
 /// Reads a string without a placeholder.
 #[tactic(auto, using(std::proofs::lemmas::Grind::common_steps), unfolding(crate::specs::Outcome::found, crate::specs::Strings::plain))]
-pub fn read_plain(alloc: Global, tokens: &mut Cursor<'_>) -> Result<PlainString, Stop>
+pub fn read_plain(alloc: Global, tokens: &mut Cursor<'_>) -> Result<PlainString, RuleStop>
     ensures { Reads (spec.plain tokens.old) result tokens.new }
 {
     let Some((quote, opening)) = tokens.quote() else {
@@ -37,7 +37,7 @@ fn option_end(
     alloc: Global,
     tokens: &mut Cursor<'_>,
     spans: (Span, Span),
-) -> Result<PlaceholderOption, Stop>
+) -> Result<PlaceholderOption, RuleStop>
     ensures { Reads (spec.option_end spans tokens.old) result tokens.new }
 {
     let value = read_plain(alloc, tokens)?;
@@ -63,7 +63,7 @@ fn other_option(
     alloc: Global,
     tokens: &mut Cursor<'_>,
     word: OptionWord,
-) -> Result<PlaceholderOption, Stop>
+) -> Result<PlaceholderOption, RuleStop>
     ensures { Reads (spec.other_option word tokens.old) result tokens.new }
 {
     let before = tokens.rest();
@@ -77,7 +77,8 @@ fn other_option(
     }
 }
 
-/// Goes past a word that is no option, where an expression may begin with it: then it is its `=` that fits nothing.
+/// Goes past a word that is no option, where an expression may begin with it: then it is its `=`
+/// that fits nothing.
 fn pass_start(alloc: Global, tokens: &mut Cursor<'_>) -> Result<(), NoMemory> {
     if tokens.ident(alloc)?.is_none() && tokens.eat_word("None").is_none() {
         tokens.eat_word("if");
@@ -92,7 +93,7 @@ fn options_by<'a>(
     before: &'a [Token],
     word: OptionWord,
     spans: (Span, Span),
-) -> Result<PlaceholderOptions, Stop>
+) -> Result<PlaceholderOptions, RuleStop>
     ensures { Reads (spec.options_by word spans tokens.old) result tokens.new }
 {
     match word {
@@ -118,7 +119,7 @@ fn options_by<'a>(
 
 /// Reads the options of a placeholder.
 #[tactic(auto, using(std::proofs::lemmas::Grind::common_steps), unfolding(crate::specs::Outcome::found, crate::specs::Strings::options_at))]
-pub fn read_options(alloc: Global, tokens: &mut Cursor<'_>) -> Result<PlaceholderOptions, Stop>
+pub fn read_options(alloc: Global, tokens: &mut Cursor<'_>) -> Result<PlaceholderOptions, RuleStop>
     ensures { Reads (spec.options_at tokens.old) result tokens.new }
 {
     let before = tokens.rest();

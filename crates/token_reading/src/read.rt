@@ -5,26 +5,26 @@ ghost use Rattle.wdl_ast.specs.declared.token.Token.{Token};
 ghost use Rattle.token_reading.specs.Outcome as outcome;
 ghost use Rattle.token_reading.specs.Outcome.{Reads};
 ghost use Rattle.token_reading.specs.declared.fault.Refusal.TheVariants.{Missing, Bad};
-ghost use Rattle.token_reading.specs.declared.fault.Stop.TheVariants.{Refused};
+ghost use Rattle.token_reading.specs.declared.fault.RuleStop.TheVariants.{Refused};
 
 use crate::cursor::Cursor;
-use crate::fault::{Fault, Refusal, Stop};
+use crate::fault::{Fault, Refusal, RuleStop};
 use crate::tall::{Chain, Tall};
 use wdl_ast::Expr;
 use wdl_value::Span;
 
 /// Nothing of the kind starts there.
-pub fn missing<T>() -> Result<T, Stop>
+pub fn missing<T>() -> Result<T, RuleStop>
     ensures { result ≡ Err (Refused Missing) }
 {
-    Err(Stop::Refused(Refusal::Missing))
+    Err(RuleStop::Refused(Refusal::Missing))
 }
 
 /// A code that is said of a token.
-pub fn bad<T>(code: u16, span: Span) -> Result<T, Stop>
+pub fn bad<T>(code: u16, span: Span) -> Result<T, RuleStop>
     ensures { result ≡ Err (Refused (Bad (record { code = code; span = span }))) }
 {
-    Err(Stop::Refused(Refusal::Bad(Fault { code, span })))
+    Err(RuleStop::Refused(Refusal::Bad(Fault { code, span })))
 }
 
 /// The larger of two depths.
@@ -48,7 +48,7 @@ pub fn grown<T>(
     links: usize,
     inside: usize,
     tree: T,
-) -> Result<Tall<T>, Stop>
+) -> Result<Tall<T>, RuleStop>
 where
     T: Drop,
     requires { depth < 18446744073709551615 }
@@ -71,7 +71,7 @@ pub fn linked(
     links: usize,
     inside: usize,
     tree: Expr,
-) -> Result<Chain, Stop>
+) -> Result<Chain, RuleStop>
     requires { depth < 18446744073709551615 }
     ensures { (ts : List Token) → Reads (outcome.linked depth span links inside tree ts) result ts }
 {
@@ -89,7 +89,7 @@ pub fn linked(
 }
 
 /// The limit of depth is met.
-pub fn too_deep<T>(tokens: &Cursor<'_>) -> Result<T, Stop>
+pub fn too_deep<T>(tokens: &Cursor<'_>) -> Result<T, RuleStop>
     ensures { Reads (outcome.too_deep tokens.now) result tokens.now }
 {
     match tokens.span() {

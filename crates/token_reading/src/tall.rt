@@ -12,7 +12,8 @@ pub struct Tall<T> {
     pub depth: usize,
 }
 
-/// One call wherever a tree is let go: the glue of a large enum stands here, and not at each early return.
+/// One call wherever a tree is let go: the glue of a large enum stands here, and not at each early
+/// return.
 impl<T: Drop> Drop for Tall<T> {
     fn drop(self) {
         let Tall {
@@ -44,8 +45,8 @@ pub struct Closed<T> {
     pub closing: Span,
 }
 
-/// What was read of a node with operators, members or indices: how many, and the depth of its deepest part. The
-/// depth of the tree is the sum of both.
+/// What was read of a node with operators, members or indices: how many, and the depth of its
+/// deepest part. The depth of the tree is the sum of both.
 #[derive(Drop)]
 pub struct Chain {
     pub left: Tall<Expr>,

@@ -1,4 +1,5 @@
-//! The rules of types take the reader of the types inside as a parameter, so that each is proved by itself.
+//! The rules of types take the reader of the types inside as a parameter, so that each is proved by
+//! itself.
 #![tactic(auto, using(std::proofs::lemmas::Grind::common_steps), unfolding(crate::specs::Outcome::then_, crate::specs::Outcome::found))]
 
 ghost use Rattle.std.specs.Prelude.{◌≡◌, [], length, IfOk, codes};
@@ -7,7 +8,7 @@ ghost use Rattle.token_reading.specs.Nests.{NestsTypes};
 ghost use Rattle.token_reading.specs.TypeReading as spec;
 
 use crate::cursor::Cursor;
-use crate::fault::Stop;
+use crate::fault::RuleStop;
 use crate::read::{bad, missing, too_deep};
 use sqlite_items::{Boxed, Items};
 use std::alloc::Global;
@@ -57,8 +58,8 @@ fn questions(alloc: Global, tokens: &mut Cursor<'_>) -> Result<Items<Span>, NoMe
     Ok(questions)
 }
 
-impl<F: Fn(Global, &mut Cursor<'_>, usize) -> Result<TypeTree, Stop>> TypeReader<F> {
-    fn inner(&self, tokens: &mut Cursor<'_>) -> Result<Boxed<TypeTree>, Stop>
+impl<F: Fn(Global, &mut Cursor<'_>, usize) -> Result<TypeTree, RuleStop>> TypeReader<F> {
+    fn inner(&self, tokens: &mut Cursor<'_>) -> Result<Boxed<TypeTree>, RuleStop>
         requires { NestsTypes self.now.depth (F.pre self.now.inner) (F.post self.now.inner) }
         ensures { Reads (spec.type_at self.now.depth tokens.old) result tokens.new }
     {
@@ -67,7 +68,7 @@ impl<F: Fn(Global, &mut Cursor<'_>, usize) -> Result<TypeTree, Stop>> TypeReader
     }
 
     #[tactic(auto, using(std::proofs::lemmas::Grind::common_steps), unfolding(crate::specs::Outcome::then_, crate::specs::Outcome::found, crate::specs::TypeReading::array))]
-    fn array(&self, tokens: &mut Cursor<'_>, word: Span) -> Result<BaseType<TypeTree>, Stop>
+    fn array(&self, tokens: &mut Cursor<'_>, word: Span) -> Result<BaseType<TypeTree>, RuleStop>
         requires { NestsTypes self.now.depth (F.pre self.now.inner) (F.post self.now.inner) }
         ensures { Reads (spec.array (spec.type_at self.now.depth) word tokens.old) result tokens.new }
     {
@@ -89,7 +90,7 @@ impl<F: Fn(Global, &mut Cursor<'_>, usize) -> Result<TypeTree, Stop>> TypeReader
     }
 
     #[tactic(auto, using(std::proofs::lemmas::Grind::common_steps), unfolding(crate::specs::Outcome::then_, crate::specs::Outcome::found, crate::specs::TypeReading::two))]
-    fn two(&self, tokens: &mut Cursor<'_>) -> Result<Two<TypeTree>, Stop>
+    fn two(&self, tokens: &mut Cursor<'_>) -> Result<Two<TypeTree>, RuleStop>
         requires { NestsTypes self.now.depth (F.pre self.now.inner) (F.post self.now.inner) }
         ensures { Reads (spec.two (spec.type_at self.now.depth) tokens.old) result tokens.new }
     {
@@ -113,7 +114,7 @@ impl<F: Fn(Global, &mut Cursor<'_>, usize) -> Result<TypeTree, Stop>> TypeReader
         })
     }
 
-    fn map(&self, tokens: &mut Cursor<'_>, word: Span) -> Result<BaseType<TypeTree>, Stop>
+    fn map(&self, tokens: &mut Cursor<'_>, word: Span) -> Result<BaseType<TypeTree>, RuleStop>
         requires { NestsTypes self.now.depth (F.pre self.now.inner) (F.post self.now.inner) }
         ensures { Reads (spec.map_type (spec.type_at self.now.depth) word tokens.old) result tokens.new }
     {
@@ -128,7 +129,7 @@ impl<F: Fn(Global, &mut Cursor<'_>, usize) -> Result<TypeTree, Stop>> TypeReader
         })
     }
 
-    fn pair(&self, tokens: &mut Cursor<'_>, word: Span) -> Result<BaseType<TypeTree>, Stop>
+    fn pair(&self, tokens: &mut Cursor<'_>, word: Span) -> Result<BaseType<TypeTree>, RuleStop>
         requires { NestsTypes self.now.depth (F.pre self.now.inner) (F.post self.now.inner) }
         ensures { Reads (spec.pair_type (spec.type_at self.now.depth) word tokens.old) result tokens.new }
     {
@@ -150,7 +151,7 @@ impl<F: Fn(Global, &mut Cursor<'_>, usize) -> Result<TypeTree, Stop>> TypeReader
         tokens: &mut Cursor<'_>,
         word: &Text,
         span: Span,
-    ) -> Result<BaseType<TypeTree>, Stop>
+    ) -> Result<BaseType<TypeTree>, RuleStop>
         requires { NestsTypes self.now.depth (F.pre self.now.inner) (F.post self.now.inner) }
         ensures { Reads (spec.reserved (spec.type_at self.now.depth) word.now span tokens.old) result tokens.new }
     {
@@ -191,19 +192,19 @@ impl<F: Fn(Global, &mut Cursor<'_>, usize) -> Result<TypeTree, Stop>> TypeReader
         tokens: &mut Cursor<'_>,
         word: &Text,
         span: Span,
-    ) -> Result<BaseType<TypeTree>, Stop>
+    ) -> Result<BaseType<TypeTree>, RuleStop>
         requires { NestsTypes self.now.depth (F.pre self.now.inner) (F.post self.now.inner) }
         ensures { Reads (spec.named_base (spec.type_at self.now.depth) word.now span tokens.old) result tokens.new }
     {
         match Name::new(self.alloc, word.as_str()) {
             Ok(name) => Ok(BaseType::Struct(Ident { name, span })),
             Err(NameFault::NotAName) => self.reserved(tokens, word, span),
-            Err(NameFault::NoMemory) => Err(Stop::NoMemory),
+            Err(NameFault::NoMemory) => Err(RuleStop::NoMemory),
         }
     }
 
     #[tactic(auto, using(std::proofs::lemmas::Grind::common_steps), unfolding(crate::specs::TypeReading::base_at))]
-    fn base(&self, tokens: &mut Cursor<'_>) -> Result<BaseType<TypeTree>, Stop>
+    fn base(&self, tokens: &mut Cursor<'_>) -> Result<BaseType<TypeTree>, RuleStop>
         requires { NestsTypes self.now.depth (F.pre self.now.inner) (F.post self.now.inner) }
         ensures { Reads (spec.base_at (spec.type_at self.now.depth) tokens.old) result tokens.new }
     {
@@ -218,7 +219,7 @@ impl<F: Fn(Global, &mut Cursor<'_>, usize) -> Result<TypeTree, Stop>> TypeReader
     }
 
     #[tactic(auto, using(std::proofs::lemmas::Grind::common_steps), unfolding(crate::specs::Outcome::then_, crate::specs::TypeReading::type_over))]
-    fn whole(&self, tokens: &mut Cursor<'_>) -> Result<TypeTree, Stop>
+    fn whole(&self, tokens: &mut Cursor<'_>) -> Result<TypeTree, RuleStop>
         requires { NestsTypes self.now.depth (F.pre self.now.inner) (F.post self.now.inner) }
         ensures { Reads (spec.type_over (spec.type_at self.now.depth) tokens.old) result tokens.new }
     {
@@ -229,7 +230,7 @@ impl<F: Fn(Global, &mut Cursor<'_>, usize) -> Result<TypeTree, Stop>> TypeReader
 }
 
 /// Reads a type of at most that depth.
-pub fn type_at(alloc: Global, tokens: &mut Cursor<'_>, depth: usize) -> Result<TypeTree, Stop>
+pub fn type_at(alloc: Global, tokens: &mut Cursor<'_>, depth: usize) -> Result<TypeTree, RuleStop>
     ensures { Reads (spec.type_at depth tokens.old) result tokens.new }
 {
     if depth == 0 {

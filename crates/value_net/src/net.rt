@@ -1,18 +1,39 @@
 //! A net of steps and cells, with the value of each cell and the rule of each step beside it.
 
-ghost use Rattle.std.specs.Prelude.{◌≡◌, ◌<◌, ℕ, IfOk, IfSome, OnOk, Some, length, slice_get, slice_index};
+ghost use Rattle.std.specs.Prelude.{
+  ◌≡◌,
+  ◌<◌,
+  ℕ,
+  IfOk,
+  IfSome,
+  OnOk,
+  Some,
+  length,
+  slice_get,
+  slice_index,
+};
 ghost use Rattle.std.specs.Option.{option_copied};
 ghost use Rattle.step_net.specs.Views.{Wants};
-ghost use Rattle.value_net.specs.Nets.{IsSound, Popped, empty, value_at, view, with_cells, with_step, with_value};
+ghost use Rattle.value_net.specs.Nets.{
+  IsSound,
+  Popped,
+  empty,
+  value_at,
+  view,
+  with_cells,
+  with_step,
+  with_value,
+};
 
 use std::alloc::{AllocError, Global};
 use step_net::StepNet;
 
-/// *Cells*, each of which is set at most once, to a value, and *steps*, each of which carries a rule and is handed out once, when
-/// all cells that it needs are set. Cells and steps are numbered from 0 on, in the order in which they are made.
+/// *Cells*, each of which is set at most once, to a value, and *steps*, each of which carries a
+///  rule and is handed out once, when all cells that it needs are set. Cells and steps are numbered
+///  from 0 on, in the order in which they are made.
 ///
-/// All looks at needs over the life of a net are at most its steps and twice its needs, as in `StepNet`. That is no clause.
-/// After want of memory nothing is said of a net.
+/// All looks at needs over the life of a net are at most its steps and twice its needs, as in
+/// `StepNet`. That is no clause. After want of memory nothing is said of a net.
 #[derive(Drop)]
 pub struct ValueNet<V: Drop, R: Drop> {
     net: StepNet,
@@ -66,7 +87,8 @@ impl<V: Drop, R: Drop> ValueNet<V, R> {
         Ok(first)
     }
 
-    /// Makes a step of this rule that needs these cells, in any order and any number of times each, and answers its number.
+    /// Makes a step of this rule that needs these cells, in any order and any number of times each,
+    /// and answers its number.
     pub fn add_step(&mut self, rule: R, needs: &[usize]) -> Result<usize, AllocError>
         requires there { (k : ℕ) → k < length needs.now → slice_index needs.now k < length (view self.old).values }
         requires sound { IsSound self.old }
@@ -91,8 +113,8 @@ impl<V: Drop, R: Drop> ValueNet<V, R> {
         Ok(())
     }
 
-    /// Takes a step that was not taken before and whose needs are all set, and answers its number. `None` comes exactly where
-    /// each step that is not taken has a need that is not set.
+    /// Takes a step that was not taken before and whose needs are all set, and answers its number.
+    /// `None` comes exactly where each step that is not taken has a need that is not set.
     pub fn pop(&mut self) -> Result<Option<usize>, AllocError>
         requires { IsSound self.old }
         ensures sound { IfOk result (λ o. IsSound self.new) }

@@ -6,7 +6,8 @@ use std::io::{ErrorKind, IsTerminal};
 use std::{env, io};
 use wdl_value::NoMemory;
 
-/// Returns the path of a file that is named from the folder in which the program was started, since jobs run in others.
+/// Returns the path of a file that is named from the folder in which the program was started, since
+/// jobs run in others.
 fn from_here<R: Env + AllocGlobal>(rt: &R, name: &str) -> io::Result<String> {
     let mut path = String::from_str(rt.alloc(), env::current_dir(rt)?.as_str())?;
     path.push('/')?;
@@ -18,8 +19,8 @@ fn is_relative_path(name: &str) -> bool {
     name.contains('/') && !name.starts_with('/')
 }
 
-/// Returns the program that runs commands: what `WDL_SHELL` names, and `sh` where it is unset or empty. `None` where the
-/// name, or the folder that it is relative to, is not UTF-8.
+/// Returns the program that runs commands: what `WDL_SHELL` names, and `sh` where it is unset or
+/// empty. `None` where the name, or the folder that it is relative to, is not UTF-8.
 pub(crate) fn shell<R: Env + AllocGlobal>(rt: &R) -> Result<Option<String>, NoMemory> {
     match env::var(rt, "WDL_SHELL") {
         Ok(name) if is_relative_path(name.as_str()) => match from_here(rt, name.as_str()) {
@@ -34,7 +35,8 @@ pub(crate) fn shell<R: Env + AllocGlobal>(rt: &R) -> Result<Option<String>, NoMe
     }
 }
 
-/// Returns whether a person reads the notes: where the stream is a terminal, or the environment has `WDL_NOTES=1`.
+/// Returns whether a person reads the notes: where the stream is a terminal, or the environment has
+/// `WDL_NOTES=1`.
 fn shows_notes<R: Env + AllocGlobal, W: IsTerminal + Drop>(rt: &R, stream: &W) -> bool {
     if stream.is_terminal() {
         return true;
@@ -45,7 +47,8 @@ fn shows_notes<R: Env + AllocGlobal, W: IsTerminal + Drop>(rt: &R, stream: &W) -
     }
 }
 
-/// Returns the stream of the notes: the given one, or where nobody reads them one that takes everything and keeps nothing.
+/// Returns the stream of the notes: the given one, or where nobody reads them one that takes
+/// everything and keeps nothing.
 pub(crate) fn note_stream<R: Env + AllocGlobal, W: IsTerminal + Drop>(
     rt: &R,
     stream: W,

@@ -5,7 +5,7 @@ use crate::workflow::{Renaming, Workflow};
 use sqlite_items::Items;
 use wdl_value::Span;
 
-/// A document of version 1.1, with its sections in the order of the text (OpenWDL 1.1, "WDL documents").
+/// A document of version 1.1: its sections, in order (OpenWDL 1.1, "WDL documents").
 #[derive(Drop)]
 pub struct Document {
     pub version: Span,

@@ -45,8 +45,8 @@ pub struct MemberEntry<E> {
     pub value: E,
 }
 
-/// An expression (OpenWDL 1.1, "Expressions"). Binary operators group to the left, so `a - b - c` is a `Binary` whose
-/// left part is a `Binary`. Each word and mark keeps its span, so that the tree determines its tokens.
+/// An expression (OpenWDL 1.1, "Expressions"). Binary operators group to the left: the left part of
+/// `a - b - c` is a `Binary`. Each word and mark keeps its span: the tree determines its tokens.
 #[derive(Drop)]
 pub enum Expr {
     If {

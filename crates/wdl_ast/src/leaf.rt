@@ -8,7 +8,7 @@ pub struct Ident {
     pub span: Span,
 }
 
-/// Any word where it stands, a reserved one too: the key of a `meta`, `parameter_meta` or `runtime` attribute.
+/// Any word where it stands, a reserved one too: the key of a metadata or `runtime` attribute.
 #[derive(Drop)]
 pub struct Word {
     pub text: Text,

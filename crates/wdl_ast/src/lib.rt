@@ -1,6 +1,6 @@
 //! Tokens and syntax trees of WDL 1.1 documents.
 //!
-//! A tree keeps each word and mark with its span, so that it determines its tokens. Comments are not kept.
+//! A tree keeps each word and mark with its span, and so determines its tokens. Comments are lost.
 #![tactic(auto)]
 
 mod document;

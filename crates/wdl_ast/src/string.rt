@@ -29,7 +29,7 @@ pub struct Placeholder<E> {
     pub closing: Span,
 }
 
-/// The options of a placeholder: none, `sep` alone, `default` alone, or `true` and `false` in either order.
+/// The options of a placeholder: none, `sep`, `default`, or `true` and `false` in either order.
 #[derive(Drop)]
 pub enum PlaceholderOptions {
     Plain,

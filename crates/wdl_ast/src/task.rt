@@ -7,7 +7,7 @@ use crate::token::Fence;
 use sqlite_items::Items;
 use wdl_value::Span;
 
-/// A task, with its sections and private declarations in the order of the text (OpenWDL 1.1, "Task definition").
+/// A task: its sections and private declarations, in order (OpenWDL 1.1, "Task definition").
 #[derive(Drop)]
 pub struct TaskSection {
     pub keyword: Span,

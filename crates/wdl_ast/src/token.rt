@@ -51,8 +51,8 @@ pub enum Fence {
     Angle,
 }
 
-/// What a token is. A word begins with an ASCII letter; a `Frac` keeps its spelling; `Chars` are the meant characters of
-/// a piece of a string, and of a command as they stand.
+/// What a token is. A word begins with an ASCII letter; a `Frac` keeps its spelling; `Chars` are
+/// the meant characters of a piece of a string, and of a command as they stand.
 #[derive(Debug, Drop)]
 pub enum Kind {
     Word(Text),

@@ -5,7 +5,7 @@ use crate::section::{Assigned, Declaration, InputSection, OutputSection};
 use sqlite_items::Items;
 use wdl_value::Span;
 
-/// A workflow, with its sections and statements in the order of the text (OpenWDL 1.1, "Workflow definition").
+/// A workflow: its sections and statements, in order (OpenWDL 1.1, "Workflow definition").
 #[derive(Drop)]
 pub struct Workflow {
     pub keyword: Span,
@@ -44,8 +44,9 @@ impl Statement {
     }
 }
 
-/// Goes down the widest block of each body in a loop, and lets the others go first: these have at most half of the text
-/// around them, so blocks in one another take no stack beyond the logarithm of their text.
+/// Goes down the widest block of each body in a loop, and lets the others go first: these have at
+/// most half of the text around them, so blocks in one another take no stack beyond the logarithm
+/// of their text.
 impl Drop for Statement {
     fn drop(mut self) {
         loop {

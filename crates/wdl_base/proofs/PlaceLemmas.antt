@@ -84,7 +84,7 @@ word_lacks c n (b ∷ bs) h =
     lacks_more c b bs (λ e. false≢true (sym n ∙ ap (λ x. is_ascii_alphanumeric x || x == 95) (sym e) ∙ p.0)) (word_lacks c n bs p.1)
 
 -- a name, whose first byte is a letter
-name_word : (bs : List ℕ) → is_name bs ≡ true → is_word bs ≡ true
+pub name_word : (bs : List ℕ) → is_name bs ≡ true → is_word bs ≡ true
 name_word bs h = (and_parts _ _ (and_parts _ _ h).0).1
 
 name_lacks : (c : ℕ) → is_ascii_alphabetic c ≡ false → (is_ascii_alphanumeric c || c == 95) ≡ false → (bs : List ℕ) → is_name bs ≡ true → lacks c bs ≡ true
@@ -151,7 +151,7 @@ numbered kind word s t (Ok g) only is e p =
 numbered kind word s t (Err NotAPlace) only is e p = λ g h k. let q = only g h t (k ∙ e) in p q.0 q.1 q.2
 numbered kind word s t (Err OutOfMemory) only is e p = tt
 
-stripped : (word s t : List ℕ) → StripsPrefix (FindsTextPrefix word) s t → s ≡ word ++ t
+pub stripped : (word s t : List ℕ) → StripsPrefix (FindsTextPrefix word) s t → s ≡ word ++ t
 stripped word s t p = p.1.1 ∙ ap (λ x. word ++ x) (sym p.2)
 
 pub scatter_reads : (s t : List ℕ) (r : Result Segment PlaceFault) → StripsPrefix (FindsTextPrefix (codes "scatter-")) s t → NumberedReads Scatter t r → SegmentReads s r

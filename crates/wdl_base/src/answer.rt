@@ -1,5 +1,14 @@
 ghost use Rattle.std.specs.Prelude.{◌≡◌, ◌∷◌, ◌+◌, ◌<◌, min, true, false, IfOk, OnErr, OnOk};
-ghost use Rattle.wdl_base.specs.Answers.{is_answer, is_file_name, is_file, are_files, is_below, ascend, body_size, files_size};
+ghost use Rattle.wdl_base.specs.Answers.{
+  is_answer,
+  is_file_name,
+  is_file,
+  are_files,
+  is_below,
+  ascend,
+  body_size,
+  files_size,
+};
 
 use crate::body::{BODY_LIMIT, Body, Seen};
 use crate::error::{AnswerFault, NoMemory};
@@ -24,9 +33,9 @@ pub const FILE_BYTES: usize = 262_144;
 
 /// How a job ended: its status, what it wrote to its standard streams, and the files that it left.
 ///
-/// At most 65,536 bytes of standard output and 4,096 of standard error are kept; the files are at most 4,096, with
-/// names of 1 to 1,024 bytes that are relative, in byte order, distinct and neither `_stdout` nor `_stderr`, and with
-/// at most 262,144 bytes of names and bodies together.
+/// At most 65,536 bytes of standard output and 4,096 of standard error are kept; the files are at
+/// most 4,096, with names of 1 to 1,024 bytes that are relative, in byte order, distinct and
+/// neither `_stdout` nor `_stderr`, and with at most 262,144 bytes of names and bodies together.
 #[derive(Debug, Drop)]
 pub struct Answer {
     pub status: u8,
@@ -136,7 +145,8 @@ fn copy_all(alloc: Global, files: &[Seen]) -> Result<Items<Seen>, NoMemory>
 }
 
 impl Answer {
-    /// The answer of these parts. It is refused as `NotAnAnswer` exactly where a limit or a rule of `Answer` is broken.
+    /// The answer of these parts. It is refused as `NotAnAnswer` exactly where a limit or a rule of
+    /// `Answer` is broken.
     pub fn new(status: u8, out: Body, err: Body, files: Items<Seen>) -> Result<Answer, AnswerFault>
         ensures status { IfOk result (λ a. a.status ≡ status) }
         ensures out { IfOk result (λ a. a.out ≡ out) }

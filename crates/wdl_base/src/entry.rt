@@ -12,7 +12,8 @@ pub enum Source {
     Kept,
 }
 
-/// A request with its answer. A list of them, in the order in which they were settled, is a journal.
+/// A request with its answer. A list of them, in the order in which they were settled, is a
+/// journal.
 #[derive(Debug, Drop)]
 pub struct Entry {
     pub request: Request,

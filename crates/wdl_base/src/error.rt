@@ -74,8 +74,8 @@ impl From<NoMemory> for NameFault {
     }
 }
 
-/// Why a status, two outputs and a list of files are no `Answer`: a limit is passed, or the names of the files are
-/// not relative, distinct and in byte order.
+/// Why a status, two outputs and a list of files are no `Answer`: a limit is passed, or the names
+/// of the files are not relative, distinct and in byte order.
 #[derive(Clone, Copy, Debug, PartialEq, Eq, Error)]
 pub enum AnswerFault {
     #[error("the answer passes a limit, or its files are not relative, distinct and in byte order")]

@@ -5,7 +5,8 @@ use crate::place::{Place, copy_place};
 use crate::text::Text;
 use std::alloc::Global;
 
-/// Why an expression has no value. The numbers 501 to 516 are those of these variants, in this order.
+/// Why an expression has no value. The numbers 501 to 516 are those of these variants, in this
+/// order.
 #[derive(Clone, Copy, Debug, PartialEq, Eq)]
 pub enum EvalCode {
     Overflow,
@@ -26,7 +27,8 @@ pub enum EvalCode {
     BodyLong,
 }
 
-/// Why a declaration or a call failed: an expression without a value, or a status that is no success.
+/// Why a declaration or a call failed: an expression without a value, or a status that is no
+/// success.
 #[derive(Clone, Copy, Debug, PartialEq, Eq)]
 pub enum Why {
     Code(EvalCode),

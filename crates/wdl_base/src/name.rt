@@ -10,8 +10,8 @@ use crate::text::Text;
 use std::alloc::Global;
 use std::marker::Model;
 
-/// An identifier: an ASCII letter followed by ASCII letters, digits and `_`, at most 128 bytes and no reserved
-/// word. It is seen as its bytes.
+/// An identifier: an ASCII letter followed by ASCII letters, digits and `_`, at most 128 bytes and
+/// no reserved word. It is seen as its bytes.
 #[derive(Debug, Drop)]
 pub struct Name {
     text: String,
@@ -50,8 +50,8 @@ pub fn is_identifier(bytes: &[u8]) -> bool
 }
 
 impl Name {
-    /// The name of that spelling. It is refused as `NotAName` exactly where the string is no identifier of at most
-    /// 128 bytes, or is a reserved word.
+    /// The name of that spelling. It is refused as `NotAName` exactly where the string is no
+    /// identifier of at most 128 bytes, or is a reserved word.
     pub fn new(alloc: Global, s: &str) -> Result<Name, NameFault>
         ensures value { IfOk result (λ n. n ≡ s.now) }
         ensures named { OnOk result (is_name s.now ≡ true) }

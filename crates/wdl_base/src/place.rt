@@ -8,8 +8,9 @@ use crate::text::Text;
 use sqlite_items::Items;
 use std::alloc::Global;
 
-/// A step of the path to an instance of a statement: a call, a scatter or a condition by the number that it has among
-/// the blocks of its kind in its body, or an item of a scatter. All are counted from 0.
+/// A step of the path to an instance of a statement: a call, a scatter or a condition by the number
+/// that it has among the blocks of its kind in its body, or an item of a scatter. All are counted
+/// from 0.
 #[derive(Debug, Drop)]
 pub enum Segment {
     Call(Name),

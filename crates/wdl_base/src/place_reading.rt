@@ -3,7 +3,9 @@
 ghost use Rattle.std.specs.Prelude.{◌≡◌};
 ghost use Rattle.wdl_base.specs.PlaceReading as spec;
 ghost use Rattle.wdl_base.specs.declared.place.Segment.TheVariants.{Scatter, If};
-ghost use Rattle.wdl_base.specs.declared.place_reading.PlaceFault.TheVariants.{NoMemory as OutOfMemory};
+ghost use Rattle.wdl_base.specs.declared.place_reading.PlaceFault.TheVariants.{
+  NoMemory as OutOfMemory,
+};
 
 use crate::error::{NameFault, NoMemory};
 use crate::name::Name;
@@ -102,7 +104,8 @@ fn segment_of(alloc: Global, s: &str) -> Result<Segment, PlaceFault>
     call_of(alloc, s)
 }
 
-/// The place of that text, as `place_text` writes it. It is `NotAPlace` exactly where the string is no place's text.
+/// The place of that text, as `place_text` writes it. It is `NotAPlace` exactly where the string is
+/// no place's text.
 pub fn place_of(alloc: Global, s: &str) -> Result<Place, PlaceFault>
     ensures value { spec.PlaceReads s.now result }
 {

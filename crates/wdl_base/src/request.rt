@@ -7,8 +7,8 @@ use crate::text::Text;
 use sqlite_items::Items;
 use std::alloc::Global;
 
-/// What a task call asks to be run: a command in a directory of its own, before which files are laid down there.
-/// Attempts are counted from 0.
+/// What a task call asks to be run: a command in a directory of its own, before which files are
+/// laid down there. Attempts are counted from 0.
 #[derive(Debug, Drop)]
 pub struct Request {
     pub place: Place,

@@ -1,4 +1,5 @@
-/// A part of one document of a library: the number of the document, and the bytes from `start` up to `end`.
+/// A part of one document of a library: the number of the document, and the bytes from `start` up
+/// to `end`.
 #[derive(Clone, Copy, Debug, PartialEq, Eq)]
 pub struct Span {
     pub doc: u32,

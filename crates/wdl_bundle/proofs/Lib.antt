@@ -1,4 +1,3 @@
-mod KnownLaws
 mod FreeNames
 mod MarkLaws
 mod FindLaws

@@ -4,11 +4,11 @@ use Rattle.wdl_value.specs.Fits.{Structs}
 use Rattle.wdl_ast.specs.declared.document.Document.{Document}
 use Rattle.wdl_library.specs.declared.doc.Doc.{Doc}
 use Rattle.wdl_bundle.specs.declared.fault.BundleFault.{BundleFault}
-use Rattle.wdl_bundle.specs.declared.known.Indices.{Indices}
+use Rattle.struct_names.specs.declared.known.DocNames.{DocNames as Indices}
 use Rattle.wdl_bundle.specs.declared.reach.Offer.{Offer as Held}
 use Rattle.wdl_bundle.specs.Bundled.{Answers, bundled, document_from, document_in, reach_with, refused_from, refused_in, workflow_call}
 use Rattle.wdl_bundle.specs.Called.{Offer, all_offers, offer_of}
-use Rattle.wdl_bundle.specs.Documents.{Known, known, known_of}
+use Rattle.struct_names.specs.Known.{Known, known, known_of}
 
 abbrev pub Right : Structs → List Known → List (List Offer) → Result Document BundleFault → Type 0
 Right structs ks all r = Answers (refused_in ks all) (document_in ks structs all) r

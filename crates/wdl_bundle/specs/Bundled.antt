@@ -16,7 +16,7 @@ use Rattle.wdl_bundle.specs.declared.fault.BundleFault.TheVariants.{Bad, NoMemor
 use Rattle.wdl_bundle.specs.Bodies.{workflow_with}
 use Rattle.wdl_bundle.specs.Called.{Offer, Reach, Task, all_offers, all_tasks, calls_of, first_workflow, is_set, marked, spaces}
 use Rattle.wdl_bundle.specs.StructSections.{all_declared, struct_sections}
-use Rattle.wdl_bundle.specs.Documents.{Known, known}
+use Rattle.struct_names.specs.Known.{Known, known}
 use Rattle.wdl_bundle.specs.TaskNames.{Name, name_at, name_of, names_from, own_names}
 use Rattle.wdl_copies.specs.Renamed.{task_with}
 

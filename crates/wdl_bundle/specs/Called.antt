@@ -24,7 +24,7 @@ use Rattle.wdl_bundle.specs.declared.reach.Offer.{Offer as HeldOffer}
 use Rattle.wdl_bundle.specs.declared.reach.Reach.{Reach as HeldReach}
 use Rattle.wdl_bundle.specs.declared.reach.Space.{Space as HeldSpace}
 use Rattle.wdl_bundle.specs.declared.tasks.Task.{Task as HeldTask}
-use Rattle.wdl_bundle.specs.Documents.{Known}
+use Rattle.struct_names.specs.Known.{Known}
 
 -- ---- the tasks of all documents, by document number and order of the text
 

@@ -1,4 +1,3 @@
-pub mod Documents
 pub mod Called
 pub mod TaskNames
 pub mod Bodies

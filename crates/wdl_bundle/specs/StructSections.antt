@@ -9,7 +9,7 @@ use Rattle.wdl_ast.specs.declared.document.StructSection.{StructSection}
 use Rattle.wdl_library.specs.Sections.{structs_in}
 use Rattle.wdl_check_rules.specs.Locals.{Naming, stands_for}
 use Rattle.wdl_bundle.specs.declared.structs.Declared.{Declared as HeldDeclared}
-use Rattle.wdl_bundle.specs.Documents.{Known}
+use Rattle.struct_names.specs.Known.{Known}
 use Rattle.wdl_copies.specs.Renamed.{struct_with}
 
 -- a struct section, with the name of the library that stands for its struct, and the names of its document

@@ -6,7 +6,7 @@ ghost use Rattle.wdl_bundle.specs.Bodies as spec;
 ghost use Rattle.wdl_bundle.specs.Called.{reach_of};
 ghost use Rattle.wdl_bundle.specs.TaskNames.{name_of};
 
-use crate::names::Names;
+use crate::names::TaskNames;
 use sqlite_items::Items;
 use std::alloc::Global;
 use wdl_ast::{Conditional, Scatter, Statement};
@@ -61,7 +61,7 @@ fn conditional_with(
 pub fn copy_statement(
     alloc: Global,
     statement: &Statement,
-    names: &Names,
+    names: &TaskNames,
     locals: &Indexed<Local>,
 ) -> Result<Statement, NoMemory>
     ensures { IfOk result (λ s. s ≡ spec.statement_with (local.stands_for locals.now) (name_of (reach_of names.now.reach) names.now.names.now) statement.now) }
@@ -93,7 +93,7 @@ pub fn copy_statement(
 fn copy_body(
     alloc: Global,
     body: &[Statement],
-    names: &Names,
+    names: &TaskNames,
     locals: &Indexed<Local>,
 ) -> Result<Items<Statement>, NoMemory>
     ensures { IfOk result (λ ss. ss ≡ map (spec.statement_with (local.stands_for locals.now) (name_of (reach_of names.now.reach) names.now.names.now)) body.now) }

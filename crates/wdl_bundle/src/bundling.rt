@@ -5,19 +5,19 @@ ghost use Rattle.std.specs.Option.{option_copied};
 ghost use Rattle.wdl_check_rules.specs.Locals as local;
 ghost use Rattle.wdl_bundle.specs.Bundled as spec;
 ghost use Rattle.wdl_bundle.specs.Called.{all_offers as all_offered, offer_of, reach_of, task_of};
-ghost use Rattle.wdl_bundle.specs.Documents.{known_of};
+ghost use Rattle.struct_names.specs.Known.{known_of};
 ghost use Rattle.wdl_bundle.specs.TaskNames.{name_of};
 
 use crate::calls::{Met, calls_of, first_workflow};
 use crate::fault::BundleFault;
-use crate::known::{Indices, all_indexed, all_listed};
-use crate::names::{Names, name_at, names_for};
+use crate::names::{TaskNames, name_at, names_for};
 use crate::reach::{Offer, Reach, spaces_of};
 use crate::structs::push_structs;
 use crate::tasks::{Task, all_offers, all_tasks, indexed_offers};
 use crate::workflow::copy_workflow;
 use sqlite_items::Items;
 use std::alloc::Global;
+use struct_names::{DocNames, knowns_of, namings_of};
 use wdl_ast::{Document, Section, Workflow};
 use wdl_copies::{copy_task, put};
 use wdl_library::Library;
@@ -37,7 +37,7 @@ fn workflow_in(sections: &[Section]) -> Option<&Workflow>
 }
 
 /// The calls of the main workflow of a document.
-fn main_calls(alloc: Global, first: &Indices, reach: &Reach) -> Result<Vec<Met>, NoMemory>
+fn main_calls(alloc: Global, first: &DocNames, reach: &Reach) -> Result<Vec<Met>, NoMemory>
     ensures { IfOk result (λ cs. cs.items ≡ spec.calls_from (known_of first.now) (reach_of reach.now)) }
 {
     match workflow_in(first.doc.document.sections.as_slice()) {
@@ -80,8 +80,8 @@ fn push_tasks(
 fn push_main(
     alloc: Global,
     sections: &mut Items<Section>,
-    first: &Indices,
-    names: &Names,
+    first: &DocNames,
+    names: &TaskNames,
 ) -> Result<(), NoMemory>
     ensures { OnOk result (sections.new ≡ sections.old ++ spec.main_section (local.stands_for first.now.locals) (name_of (reach_of names.now.reach) names.now.names.now) (spec.main_of (known_of first.now))) }
 {
@@ -94,11 +94,11 @@ fn push_main(
 
 fn sections_with<'a>(
     alloc: Global,
-    first: &Indices,
-    knowns: &'a [Indices<'a, 'a>],
+    first: &DocNames,
+    knowns: &'a [DocNames<'a, 'a>],
     structs: &[StructDef],
     tasks: &[Task],
-    names: &Names,
+    names: &TaskNames,
 ) -> Result<Items<Section>, NoMemory>
     ensures { IfOk result (λ ss. ss ≡ spec.sections_with (known_of first.now) (map known_of knowns.now) structs.now (reach_of names.now.reach) (map task_of tasks.now) names.now.names.now) }
 {
@@ -112,8 +112,8 @@ fn sections_with<'a>(
 /// The sections of the bundle, where the main workflow has these calls.
 fn sections_for<'a>(
     alloc: Global,
-    first: &Indices,
-    knowns: &'a [Indices<'a, 'a>],
+    first: &DocNames,
+    knowns: &'a [DocNames<'a, 'a>],
     structs: &[StructDef],
     reach: &Reach,
     calls: &[Met],
@@ -123,7 +123,7 @@ fn sections_for<'a>(
 {
     let tasks = all_tasks(alloc, knowns)?;
     let list = names_for(alloc, reach.own.as_slice(), tasks.as_slice(), calls)?;
-    let names = Names {
+    let names = TaskNames {
         reach: *reach,
         names: list.as_slice(),
     };
@@ -148,8 +148,8 @@ fn document_of(sections: Items<Section>) -> Document
 /// The bundle of documents whose first is this one, with what its calls may name.
 fn bundled<'a>(
     alloc: Global,
-    first: &Indices,
-    knowns: &'a [Indices<'a, 'a>],
+    first: &DocNames,
+    knowns: &'a [DocNames<'a, 'a>],
     structs: &[StructDef],
     reach: &Reach,
 ) -> Result<Document, BundleFault>
@@ -165,8 +165,8 @@ fn bundled<'a>(
 
 fn bundled_with<'a>(
     alloc: Global,
-    first: &'a Indices<'a, 'a>,
-    knowns: &'a [Indices<'a, 'a>],
+    first: &'a DocNames<'a, 'a>,
+    knowns: &'a [DocNames<'a, 'a>],
     structs: &[StructDef],
     own: &'a Indexed<'a, Offer<'a>>,
     offers: &'a [Indexed<'a, Offer<'a>>],
@@ -185,7 +185,7 @@ fn bundled_with<'a>(
 /// The bundle of documents of which the first has the main workflow, with what each of them offers.
 fn bundled_over(
     alloc: Global,
-    knowns: &[Indices],
+    knowns: &[DocNames],
     structs: &[StructDef],
     offers: &[Indexed<Offer>],
 ) -> Result<Document, BundleFault>
@@ -202,7 +202,7 @@ fn bundled_over(
 
 fn bundled_of(
     alloc: Global,
-    knowns: &[Indices],
+    knowns: &[DocNames],
     structs: &[StructDef],
 ) -> Result<Document, BundleFault>
     ensures { spec.Answers (spec.refused_in (map known_of knowns.now) (all_offered 0 (map known_of knowns.now))) (spec.document_in (map known_of knowns.now) structs.now (all_offered 0 (map known_of knowns.now))) result }
@@ -212,15 +212,16 @@ fn bundled_of(
     bundled_over(alloc, knowns, structs, offers.as_slice())
 }
 
-/// One document without imports that has the structs of a library, the tasks that its main workflow calls, and that workflow; all
-/// names of structs are those of the library, and a task of another document than the first has a name of its own. `Bad`
-/// comes with 620 exactly where the main workflow calls a workflow, at the first such call in the text.
+/// One document without imports that has the structs of a library, the tasks that its main workflow
+/// calls, and that workflow; all names of structs are those of the library, and a task of another
+/// document than the first has a name of its own. `Bad` comes with 620 exactly where the main
+/// workflow calls a workflow, at the first such call in the text.
 ///
 /// Without a main workflow the document has the structs alone.
 pub fn bundle(alloc: Global, lib: &Library) -> Result<Document, BundleFault>
     ensures { spec.Answers (spec.workflow_call lib.now.docs) (spec.bundled lib.now.docs lib.now.structs) result }
 {
-    let listed = all_listed(alloc, lib.docs.as_slice())?;
-    let knowns = all_indexed(alloc, listed.as_slice())?;
+    let namings = namings_of(alloc, lib.docs.as_slice())?;
+    let knowns = knowns_of(alloc, namings.as_slice())?;
     bundled_of(alloc, knowns.as_slice(), lib.structs.as_slice())
 }

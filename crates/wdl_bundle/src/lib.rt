@@ -1,11 +1,11 @@
-//! One document that has the main workflow of a library, the tasks that it calls and the structs, without imports.
+//! One document that has the main workflow of a library, the tasks that it calls and the structs,
+//! without imports.
 #![tactic(auto)]
 
 mod body;
 mod bundling;
 mod calls;
 mod fault;
-mod known;
 mod marks;
 mod names;
 mod naming;

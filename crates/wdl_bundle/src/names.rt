@@ -72,7 +72,8 @@ fn own_names(alloc: Global, offers: &[Offer]) -> Result<Words, NoMemory>
     Ok(words)
 }
 
-/// For each task its name in the bundle, if one of the calls names it. Those of document 0 keep their names.
+/// For each task its name in the bundle, if one of the calls names it. Those of document 0 keep
+/// their names.
 pub fn names_for(
     alloc: Global,
     own: &[Offer],
@@ -98,12 +99,12 @@ pub fn name_at(names: &[Option<Name>], at: usize) -> Option<&Name>
 
 /// What calls of a workflow are renamed by.
 #[derive(Clone, Copy)]
-pub struct Names<'a> {
+pub struct TaskNames<'a> {
     pub reach: Reach<'a>,
     pub names: &'a [Option<Name>],
 }
 
-impl<'a> Names<'a> {
+impl<'a> TaskNames<'a> {
     ghost use Rattle.std.specs.Prelude.{◌≡◌};
     ghost use Rattle.std.specs.Option.{option_copied};
     ghost use Rattle.wdl_bundle.specs.Called.{reach_of};

@@ -47,7 +47,8 @@ impl Named for Space<'_> {
     }
 }
 
-/// What the calls of a document may name: what it offers itself, and what its imports offer (OpenWDL 1.1, "Call Statement").
+/// What the calls of a document may name: what it offers itself, and what its imports offer
+/// (OpenWDL 1.1, "Call Statement").
 #[derive(Clone, Copy)]
 pub struct Reach<'a> {
     pub own: &'a Indexed<'a, Offer<'a>>,

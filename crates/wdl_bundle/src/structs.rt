@@ -5,18 +5,19 @@ ghost use Rattle.std.specs.Option.{option_copied};
 ghost use Rattle.wdl_library.specs.Sections.{structs_in};
 ghost use Rattle.wdl_check_rules.specs.Locals as local;
 ghost use Rattle.wdl_bundle.specs.StructSections as spec;
-ghost use Rattle.wdl_bundle.specs.Documents.{known_of};
+ghost use Rattle.struct_names.specs.Known.{known_of};
 
-use crate::known::Indices;
 use sqlite_items::Items;
 use std::alloc::Global;
+use struct_names::DocNames;
 use wdl_ast::{Section, StructSection};
 use wdl_check_rules::{Local, stands_for};
 use wdl_copies::{copy_struct, put};
 use wdl_names::{Indexed, Named};
 use wdl_value::{Name, NoMemory, StructDef};
 
-/// A struct section under the name of the library that stands for its struct, with the names of structs in its document.
+/// A struct section under the name of the library that stands for its struct, with the names of
+/// structs in its document.
 #[derive(Clone, Copy)]
 pub struct Declared<'a> {
     pub name: &'a Name,
@@ -34,7 +35,7 @@ impl Named for Declared<'_> {
 
 fn push_declared<'a>(
     declared: &mut Vec<Declared<'a>>,
-    known: &'a Indices<'a, 'a>,
+    known: &'a DocNames<'a, 'a>,
 ) -> Result<(), NoMemory>
     ensures { OnOk result (map spec.declared_of declared.new.items ≡ map spec.declared_of declared.old.items ++ spec.declared_in (local.stands_for known.now.locals) (structs_in known.now.doc.now.document.sections)) }
 {
@@ -55,7 +56,7 @@ fn push_declared<'a>(
 /// The struct sections of all documents, in their order.
 fn all_declared<'a>(
     alloc: Global,
-    knowns: &'a [Indices<'a, 'a>],
+    knowns: &'a [DocNames<'a, 'a>],
 ) -> Result<Vec<Declared<'a>>, NoMemory>
     ensures { IfOk result (λ ds. map spec.declared_of ds.items ≡ spec.all_declared (map known_of knowns.now)) }
 {
@@ -119,7 +120,7 @@ pub fn push_structs<'a>(
     sections: &mut Items<Section>,
     structs: &[StructDef],
     own: &Indexed<Local>,
-    knowns: &'a [Indices<'a, 'a>],
+    knowns: &'a [DocNames<'a, 'a>],
 ) -> Result<(), NoMemory>
     ensures { OnOk result (sections.new ≡ sections.old ++ spec.struct_sections (local.stands_for own.now) (spec.all_declared (map known_of knowns.now)) structs.now) }
 {

@@ -2,17 +2,18 @@
 
 ghost use Rattle.std.specs.Prelude.{◌≡◌, ◌++◌, length, map, IfOk, OnOk};
 ghost use Rattle.wdl_bundle.specs.Called as spec;
-ghost use Rattle.wdl_bundle.specs.Documents.{known_of};
+ghost use Rattle.struct_names.specs.Known.{known_of};
 
-use crate::known::Indices;
 use crate::reach::{Callee, Offer};
 use std::alloc::Global;
+use struct_names::DocNames;
 use wdl_ast::{Section, TaskSection};
 use wdl_check_rules::Local;
 use wdl_names::Indexed;
 use wdl_value::NoMemory;
 
-/// The task of that number of the document of that number, both counted from 0, with the names of structs there.
+/// The task of that number of the document of that number, both counted from 0, with the names of
+/// structs there.
 #[derive(Clone, Copy)]
 pub struct Task<'a> {
     pub doc: usize,
@@ -25,7 +26,7 @@ pub struct Task<'a> {
 fn push_tasks<'a>(
     tasks: &mut Vec<Task<'a>>,
     doc: usize,
-    known: &'a Indices<'a, 'a>,
+    known: &'a DocNames<'a, 'a>,
 ) -> Result<(), NoMemory>
     ensures { OnOk result (map spec.task_of tasks.new.items ≡ map spec.task_of tasks.old.items ++ spec.tasks_of doc (known_of known.now)) }
 {
@@ -47,7 +48,7 @@ fn push_tasks<'a>(
 /// The tasks of all documents, by document number and order of the text.
 pub fn all_tasks<'a>(
     alloc: Global,
-    knowns: &'a [Indices<'a, 'a>],
+    knowns: &'a [DocNames<'a, 'a>],
 ) -> Result<Vec<Task<'a>>, NoMemory>
     ensures { IfOk result (λ ts. map spec.task_of ts.items ≡ spec.all_tasks 0 (map known_of knowns.now)) }
 {
@@ -103,7 +104,7 @@ fn offers_of<'a>(
 /// What each document offers.
 pub fn all_offers<'d, 'n>(
     alloc: Global,
-    knowns: &[Indices<'d, 'n>],
+    knowns: &[DocNames<'d, 'n>],
 ) -> Result<Vec<Vec<Offer<'d>>>, NoMemory>
     ensures { IfOk result (λ all. map (λ os. map spec.offer_of os.items) all.items ≡ spec.all_offers 0 (map known_of knowns.now)) }
 {

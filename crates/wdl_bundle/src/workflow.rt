@@ -7,7 +7,7 @@ ghost use Rattle.wdl_bundle.specs.Called.{reach_of};
 ghost use Rattle.wdl_bundle.specs.TaskNames.{name_of};
 
 use crate::body::copy_statement;
-use crate::names::Names;
+use crate::names::TaskNames;
 use sqlite_items::Items;
 use std::alloc::Global;
 use wdl_ast::{Workflow, WorkflowElement};
@@ -21,7 +21,7 @@ fn push_element(
     alloc: Global,
     copies: &mut Items<WorkflowElement>,
     element: &WorkflowElement,
-    names: &Names,
+    names: &TaskNames,
     locals: &Indexed<Local>,
 ) -> Result<(), NoMemory>
     ensures { OnOk result (copies.new ≡ copies.old ++ spec.element_with (local.stands_for locals.now) (name_of (reach_of names.now.reach) names.now.names.now) element.now) }
@@ -47,12 +47,12 @@ fn push_element(
     }
 }
 
-/// A copy of the workflow, whose calls name the tasks of the bundle, with the names of structs as the library has them and without
-/// metadata.
+/// A copy of the workflow, whose calls name the tasks of the bundle, with the names of structs as
+/// the library has them and without metadata.
 pub fn copy_workflow(
     alloc: Global,
     workflow: &Workflow,
-    names: &Names,
+    names: &TaskNames,
     locals: &Indexed<Local>,
 ) -> Result<Workflow, NoMemory>
     ensures { IfOk result (λ w. w ≡ spec.workflow_with (local.stands_for locals.now) (name_of (reach_of names.now.reach) names.now.names.now) workflow.now) }

@@ -4,7 +4,8 @@ use crate::notation::answer;
 use std::alloc::Global;
 use std::test::Fail;
 
-/// A workflow that calls each task of three imports in one scatter, and the imports, each with so many tasks and one struct.
+/// A workflow that calls each task of three imports in one scatter, and the imports, each with so
+/// many tasks and one struct.
 fn library(alloc: Global, tasks: u32) -> Result<String, Fail> {
     let mut main = String::from_str(alloc, "import \"a.wdl\" import \"b.wdl\" import \"c.wdl\" ")?;
     main.push_str("workflow w { scatter (i in [1, 2]) { ")?;

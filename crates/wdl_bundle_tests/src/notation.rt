@@ -1,5 +1,6 @@
-//! Rows of bundles: documents between `===`, then `=>`, then the text of their bundle. A row tells a document without its version,
-//! and each double quote as a single one. The first document stands at `w.wdl`, the others at `a.wdl`, `b.wdl` and `c.wdl`.
+//! Rows of bundles: documents between `===`, then `=>`, then the text of their bundle. A row tells
+//! a document without its version, and each double quote as a single one. The first document stands
+//! at `w.wdl`, the others at `a.wdl`, `b.wdl` and `c.wdl`.
 
 use sqlite_items::Items;
 use std::alloc::Global;
@@ -65,7 +66,8 @@ pub fn answer(alloc: Global, documents: &str) -> Result<String, Fail> {
     }
 }
 
-/// The first row whose answer is another one, with that answer; empty where all are right. Rows are separated by `@@`.
+/// The first row whose answer is another one, with that answer; empty where all are right. Rows are
+/// separated by `@@`.
 pub fn first_mistake(alloc: Global, rows: &str) -> Result<String, Fail> {
     for row in rows.split("@@") {
         let (documents, wanted) = row.split_once(" => ").unwrap_or((row, ""));

@@ -3,6 +3,7 @@ use Rattle.std.proofs.Common.{◌≡◌, ℕ, Bool, true, false, ◌&&◌, List,
 use Rattle.std.proofs.lemmas.Bool.{and_from}
 use Rattle.std.proofs.lemmas.List.{append-nil, append_assoc}
 use Rattle.std.specs.Str.{bytes_eq}
+use Rattle.std.proofs.lemmas.Option.{same_Some}
 use Rattle.wdl_base.specs.declared.span.Span.{Span}
 use Rattle.wdl_value.specs.declared.operator.Func.{Func}
 use Rattle.wdl_value.specs.declared.operator.Func.TheVariants as func
@@ -47,23 +48,17 @@ use Rattle.wdl_check_decls.specs.Laws.{CastTypes, DeclTypes, DeclsTypes, ExprTyp
 use Rattle.wdl_check_decls.specs.Writes.{WholeCall, applied, arguments_typed, placed, placed_typed, whole_call, write_among, write_func}
 use Rattle.wdl_check_decls.proofs.ListLaws.{decls_after, inputs_after}
 use Rattle.wdl_check_decls.proofs.Placed.{cast_placed, plain_placed, write_placed}
-
-some_is : {A : Type 0} (a b : A) → Some a ≡ Some b → a ≡ b
-some_is a b h = cc
+use Rattle.wdl_base.proofs.Options.{map_parts}
 
 -- what two parts give, the first has given something
-then_some : {A B : Type 0} (o : Outcome A) (f : A → Outcome B) (b : B) → (then_ o f).typed ≡ Some b → (a : A) × (o.typed ≡ Some a) × ((f a).typed ≡ Some b)
+pub then_some : {A B : Type 0} (o : Outcome A) (f : A → Outcome B) (b : B) → (then_ o f).typed ≡ Some b → (a : A) × (o.typed ≡ Some a) × ((f a).typed ≡ Some b)
 then_some {A} o f b h = by_first o.typed refl h
   where
     by_first : (t : Option A) → o.typed ≡ t → option_and_then (λ a. (f a).typed) t ≡ Some b → (a : A) × (o.typed ≡ Some a) × ((f a).typed ≡ Some b)
     by_first None e h = cc
     by_first (Some a) e h = (a, e, h)
 
-map_some : {A B : Type 0} (f : A → B) (o : Option A) (b : B) → option_map f o ≡ Some b → (a : A) × (o ≡ Some a) × (f a ≡ b)
-map_some f None b h = cc
-map_some f (Some a) b h = (a, refl, some_is (f a) b h)
-
-refused_some : {A : Type 0} (code : ℕ) (span : Span) (o : Option A) (a : A) → (or_refused code span o).typed ≡ Some a → o ≡ Some a
+pub refused_some : {A : Type 0} (code : ℕ) (span : Span) (o : Option A) (a : A) → (or_refused code span o).typed ≡ Some a → o ≡ Some a
 refused_some code span None a h = cc
 refused_some code span (Some x) a h = h
 
@@ -81,9 +76,9 @@ write_func_writes : (name : List ℕ) (f : Func) → write_func name ≡ Some f 
 write_func_writes name f h = by_name (bytes_eq name (codes "write_lines")) (bytes_eq name (codes "write_tsv")) (bytes_eq name (codes "write_map")) h
   where
     by_name : (a b c : Bool) → (if a then Some func.WriteLines else (if b then Some func.WriteTsv else (if c then Some func.WriteMap else None))) ≡ Some f → writes f ≡ true
-    by_name true b c h = subst (λ (g : Func). writes g ≡ true) (some_is func.WriteLines f h) refl
-    by_name false true c h = subst (λ (g : Func). writes g ≡ true) (some_is func.WriteTsv f h) refl
-    by_name false false true h = subst (λ (g : Func). writes g ≡ true) (some_is func.WriteMap f h) refl
+    by_name true b c h = subst (λ (g : Func). writes g ≡ true) (same_Some func.WriteLines f h) refl
+    by_name false true c h = subst (λ (g : Func). writes g ≡ true) (same_Some func.WriteTsv f h) refl
+    by_name false false true h = subst (λ (g : Func). writes g ≡ true) (same_Some func.WriteMap f h) refl
     by_name false false false h = cc
 
 one_args : (f : Func) (x : Typed) (row : FuncTyping) (w : World) (names : List Bound) (p : Bool) → writes f ≡ true
@@ -105,7 +100,7 @@ call_types w names p f span [] y is h = cc
 call_types w names p f span (a ∷ []) y is h =
     let q = then_some (expr_typed w names false p a.item) (applied f span) y h in
     let x = q.0 in
-    let r = map_some (applied_row f (x ∷ [])) (function_type f (x.ty ∷ [])) y (refused_some 305 span (apply_of f (x ∷ [])) y q.2) in
+    let r = map_parts (applied_row f (x ∷ [])) (function_type f (x.ty ∷ [])) y (refused_some 305 span (apply_of f (x ∷ [])) y q.2) in
     let c = called f (x.ty ∷ []) r.0 r.1 in
     subst (λ (z : Typed). type_in_place (context w names false) z.expr p ≡ Some z.ty) r.2
     (one_args f x r.0 w names p is (expr_types w names false p a.item x q.1) c.0 c.1)
@@ -135,7 +130,7 @@ private_types w names x t e h is = by_test (coerces x.ty t) refl is
     by_same false i c k = subst (λ (z : TExpr). type_in_place (context w names false) z false ≡ Some t) k (cast_placed (context w names false) x.expr false x.ty t h c)
 
     by_test : (b : Bool) → coerces x.ty t ≡ b → (if b then Some (cast_to x t) else None) ≡ Some e → type_in_place (context w names false) e false ≡ Some t
-    by_test true c k = by_same (same_type x.ty t) refl c (some_is (cast_to x t) e k)
+    by_test true c k = by_same (same_type x.ty t) refl c (same_Some (cast_to x t) e k)
     by_test false c k = cc
 
 value_types : (standing : Standing) (w : World) (names : List Bound) (e : Expr) (t : Ty) (x : TExpr)
@@ -146,14 +141,14 @@ value_types Private w names e t x h =
 value_types Output w names e t x h = cast_types w names true e t x h
 value_types Body w names e t x h = cast_types w names false e t x h
 
-has_type : (o : Option Ty) (t : Ty) → o ≡ Some t → is_type o t ≡ true
+pub has_type : (o : Option Ty) (t : Ty) → o ≡ Some t → is_type o t ≡ true
 has_type o t h = ap (λ (q : Option Ty). is_type q t) h ∙ same_type-refl t
 
 pub decl_types : DeclTypes
 decl_types standing w names d t are h =
     let q = then_some (written w.locals d.ty) (decl_as standing w names d) t h in
     let r = then_some (value_typed standing w names d.value q.0) (λ e. done (declared d q.0 e)) t q.2 in
-    subst (λ (z : TDecl). is_declared standing w.structs names z ≡ true) (some_is (declared d q.0 r.0) t r.2)
+    subst (λ (z : TDecl). is_declared standing w.structs names z ≡ true) (same_Some (declared d q.0 r.0) t r.2)
     (and_from _ _ (known w.structs w.locals d.ty q.0 are q.1) (has_type _ q.0 (value_types standing w names d.value q.0 r.0 r.1)))
 
 -- ---- lists
@@ -163,7 +158,7 @@ abbrev Behind : {T : Type 0} → (List T → Bool) → List T → List T → Typ
 Behind {T} fine before all = (more : List T) × (all ≡ before ++ more) × (fine more ≡ true)
 
 nothing_behind : {T : Type 0} (fine : List T → Bool) (before all : List T) → fine [] ≡ true → Some before ≡ Some all → Behind fine before all
-nothing_behind {T} fine before all f h = ([], sym (some_is before all h) ∙ sym (append-nil before), f)
+nothing_behind {T} fine before all f h = ([], sym (same_Some before all h) ∙ sym (append-nil before), f)
 
 abbrev decls_fine : Standing → World → List Bound → List TDecl → Bool
 decls_fine standing w names = well.decls_typed (typing_at standing w.structs) w.structs names
@@ -189,10 +184,10 @@ decls_types standing w names ds ts are h =
 
 preset_types : (w : World) (names : List Bound) (t : Ty) (o : Option Assigned) (v : Option TExpr)
     → (preset_typed w names t o).typed ≡ Some v → default_typed w.structs names t v ≡ true
-preset_types w names t None v h = subst (λ (u : Option TExpr). default_typed w.structs names t u ≡ true) (some_is None v h) refl
+preset_types w names t None v h = subst (λ (u : Option TExpr). default_typed w.structs names t u ≡ true) (same_Some None v h) refl
 preset_types w names t (Some a) v h =
     let q = then_some (expr_as w names false a.value t) (λ e. done (Some e)) v h in
-    subst (λ (u : Option TExpr). default_typed w.structs names t u ≡ true) (some_is (Some q.0) v q.2)
+    subst (λ (u : Option TExpr). default_typed w.structs names t u ≡ true) (same_Some (Some q.0) v q.2)
     (has_type _ t (cast_types w names false a.value t q.0 q.1))
 
 abbrev is_input : World → List Bound → TInput → Bool
@@ -202,7 +197,7 @@ input_types : (w : World) (names : List Bound) (i : InputDeclaration) (t : TInpu
 input_types w names i t are h =
     let q = then_some (written w.locals i.ty) (input_as w names i) t h in
     let r = then_some (preset_typed w names q.0 i.preset) (λ v. done (input i q.0 v)) t q.2 in
-    subst (λ (z : TInput). is_input w names z ≡ true) (some_is (input i q.0 r.0) t r.2)
+    subst (λ (z : TInput). is_input w names z ≡ true) (same_Some (input i q.0 r.0) t r.2)
     (and_from _ _ (known w.structs w.locals i.ty q.0 are q.1) (preset_types w names q.0 i.preset r.0 r.1))
 
 inputs_behind_types : (w : World) → IsKnown w → (before : List TInput) (is : List InputDeclaration) (ts : List TInput)

@@ -77,7 +77,8 @@ fn declared(
     })
 }
 
-/// A declaration with its typed expression, which is cast to the declared type (OpenWDL 1.1, "Declarations").
+/// A declaration with its typed expression, which is cast to the declared type (OpenWDL 1.1,
+/// "Declarations").
 pub fn check_declaration(
     alloc: Global,
     standing: Standing,
@@ -127,8 +128,9 @@ fn declare(
     }
 }
 
-/// Declarations, or outputs, in their dependency order. Each sees the names and those declarations that stand before it in
-/// this order, and its own name is added to the names. `Bad` comes with 320 at a declaration where there is no such order.
+/// Declarations, or outputs, in their dependency order. Each sees the names and those declarations
+/// that stand before it in this order, and its own name is added to the names. `Bad` comes with 320
+/// at a declaration where there is no such order.
 pub fn check_declarations(
     alloc: Global,
     standing: Standing,

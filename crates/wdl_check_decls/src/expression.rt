@@ -12,7 +12,8 @@ use wdl_names::Names;
 use wdl_typed::TExpr;
 use wdl_value::Ty;
 
-/// The typing of an expression: `outputs` where it may read what a command left, `placeholder` inside a placeholder.
+/// The typing of an expression: `outputs` where it may read what a command left, `placeholder`
+/// inside a placeholder.
 pub fn check_in(
     alloc: Global,
     seeing: &Seeing,

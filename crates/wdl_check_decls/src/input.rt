@@ -89,9 +89,9 @@ fn declare(
     }
 }
 
-/// Inputs in their dependency order (OpenWDL 1.1, "Task Inputs"). The default of each sees the inputs that stand before
-/// it in this order, and these are the names that are given back. `Bad` comes with 320 at an input where there is no such
-/// order.
+/// Inputs in their dependency order (OpenWDL 1.1, "Task Inputs"). The default of each sees the
+/// inputs that stand before it in this order, and these are the names that are given back. `Bad`
+/// comes with 320 at an input where there is no such order.
 pub fn check_inputs(
     alloc: Global,
     seeing: &Seeing,

@@ -1,4 +1,5 @@
-//! Inputs, declarations and outputs: their types, their dependency order, and their typed expressions.
+//! Inputs, declarations and outputs: their types, their dependency order, and their typed
+//! expressions.
 #![tactic(auto)]
 
 mod declaration;

@@ -4,7 +4,8 @@ use wdl_check_rules::Local;
 use wdl_names::{Indexed, Words};
 use wdl_value::StructDef;
 
-/// The structs of the library, the names under which a document knows them, and the calls that are seen.
+/// The structs of the library, the names under which a document knows them, and the calls that are
+/// seen.
 #[derive(Clone, Copy)]
 pub struct Seeing<'a> {
     pub structs: &'a Indexed<'a, StructDef>,

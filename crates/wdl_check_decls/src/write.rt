@@ -83,8 +83,8 @@ fn check_write(
     apply_to(alloc, call.func, typed, call.span)
 }
 
-/// The typing of an expression that may be, as a whole, a call of a function that writes a file (OpenWDL 1.1, "Standard
-/// Library"). `placeholder` inside a placeholder.
+/// The typing of an expression that may be, as a whole, a call of a function that writes a file
+/// (OpenWDL 1.1, "Standard Library"). `placeholder` inside a placeholder.
 pub fn check_in_place(
     alloc: Global,
     seeing: &Seeing,

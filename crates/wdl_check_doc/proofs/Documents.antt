@@ -6,7 +6,7 @@ use Rattle.wdl_library.specs.declared.doc.Doc.{Doc}
 use Rattle.wdl_check_rules.specs.declared.fault.CheckFault.{CheckFault}
 use Rattle.wdl_check_types.specs.Outcome.{Answers, Outcome}
 use Rattle.wdl_check_doc.specs.Checked.{parts_typed, typed}
-use Rattle.wdl_check_doc.specs.Known.{known}
+use Rattle.struct_names.specs.Known.{Known, known}
 use Rattle.wdl_check_doc.specs.Known as held
 use Rattle.wdl_check_doc.specs.Parts.{Part, parts_from}
 
@@ -19,7 +19,7 @@ unfolding typed
 typed_is docs structs = refl
 
 -- what answers for the parts of the documents answers for the documents
-pub answers_typed : (docs : List Doc) (structs given : Structs) (ks : List held.Known) (ps : List Part) (r : Result CheckedParts CheckFault)
+pub answers_typed : (docs : List Doc) (structs given : Structs) (ks : List Known) (ps : List Part) (r : Result CheckedParts CheckFault)
     → given ≡ structs → ks ≡ map known docs → ps ≡ held.parts_from 0 ks → Answers (parts_typed given ps) r → Answers (typed docs structs) r
 answers_typed docs structs given ks ps r same names are h =
     let is : ps ≡ parts_from 0 docs = are ∙ ap (held.parts_from 0) names ∙ known_parts 0 docs in

@@ -21,12 +21,15 @@ use Rattle.wdl_check_types.specs.Written.{written}
 use Rattle.wdl_check_decls.specs.Names.{first_repeated}
 use Rattle.wdl_check_task.specs.Tasks.{unless_repeated}
 use Rattle.wdl_check_doc.specs.Outcomes.{all}
-use Rattle.wdl_check_doc.specs.Parts.{Part, naming, part, parts_from}
+use Rattle.struct_names.specs.Known.{naming}
+use Rattle.wdl_check_doc.specs.Parts.{Part, part, parts_from}
 use Rattle.wdl_check_doc.specs.Structs.{member_typed, section_nests, section_typed, sections_nest, sections_typed, struct_name, structs_typed}
-use Rattle.wdl_check_doc.proofs.Origins.{In, is_same}
+use Rattle.wdl_check_doc.proofs.Origins.{In}
 use Rattle.wdl_check_doc.proofs.StructLaws.{AreFine, names_known, naming_stands}
-use Rattle.wdl_check_doc.proofs.Typed.{Have, then_some}
+use Rattle.wdl_check_doc.proofs.Typed.{Have}
 use Rattle.wdl_check_doc.proofs.Types.{type_is}
+use Rattle.wdl_base.proofs.Options.{then_parts}
+use Rattle.wdl_check_task.proofs.Distinct.{is_same}
 
 -- ---- names of a list
 
@@ -75,7 +78,7 @@ differ before (n ∷ ns) h =
 pub all_have : {A : Type 0} (f : A → Outcome (Unit {0})) (as_ : List A) → (all f as_).typed ≡ Some tt → Have (λ (a : A). (f a).typed ≡ Some tt) as_
 all_have f [] h = tt
 all_have f (a ∷ as_) h =
-    let s = then_some (λ (u : Unit {0}). (all f as_).typed) (f a).typed tt h in
+    let s = then_parts (λ (u : Unit {0}). (all f as_).typed) (f a).typed tt h in
     (s.1, all_have f as_ s.2)
 
 pub have_in : {A : Type 0} (P : A → Type 0) (as_ : List A) (a : A) → Have P as_ → In a as_ → P a
@@ -117,7 +120,7 @@ module _ (written_types : WrittenTypes) (docs : List Doc) (structs : Structs) (h
       → are_written structs (map (member_of (stand_in d.structs)) ms) ≡ true
   members_written k d e [] h = refl
   members_written k d e (m ∷ ms) h =
-      let s = then_some (λ (t : Ty). Some tt) (written (naming d.structs) m.ty).typed tt h.0 in
+      let s = then_parts (λ (t : Ty). Some tt) (written (naming d.structs) m.ty).typed tt h.0 in
       let is = type_is (stand_in d.structs) (naming d.structs) (λ n x g. (naming_stands d.structs n x g).0) m.ty s.0 s.1 in
       and_from _ _ (ap (is_written structs) (sym is) ∙ written_types structs (naming d.structs) m.ty s.0 (known k d e) s.1) (members_written k d e ms h.1)
 
@@ -130,7 +133,7 @@ module _ (written_types : WrittenTypes) (docs : List Doc) (structs : Structs) (h
 
   pub sections_fine : (structs_typed structs (parts_from 0 docs)).typed ≡ Some tt → AreFine structs docs
   sections_fine h k d s e i =
-      let p = then_some (λ (u : Unit {0}). (all (sections_nest structs) (parts_from 0 docs)).typed) (all sections_typed (parts_from 0 docs)).typed tt h in
+      let p = then_parts (λ (u : Unit {0}). (all (sections_nest structs) (parts_from 0 docs)).typed) (all sections_typed (parts_from 0 docs)).typed tt h in
       let a = part_at _ 0 docs k d (all_have sections_typed (parts_from 0 docs) p.1) e in
       let b = part_at _ 0 docs k d (all_have (sections_nest structs) (parts_from 0 docs) p.2) e in
       let one = have_in _ (sections_of d.document) s (all_have (section_typed (naming d.structs)) (sections_of d.document) a) i in

@@ -4,7 +4,6 @@ pub mod Kept
 pub mod Lists
 pub mod Made
 pub mod Main
-pub mod Naming
 pub mod Offering
 pub mod Origins
 pub mod Runs

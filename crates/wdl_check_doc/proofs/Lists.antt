@@ -1,5 +1,5 @@
 -- Checks of lists, one member after the other, and faults in a document.
-use Rattle.std.proofs.Common.{◌≡◌, ℕ, zero, suc, ◌+◌, ◌<◌, ◌≤◌, List, [], ◌∷◌, ◌++◌, Some, Result, Ok, Err, drop, drop-cons, add-one, get_or, length, map, refl, ap, sym, subst, ◌∙◌, inl, inr, arith}
+use Rattle.std.proofs.Common.{◌≡◌, ℕ, zero, suc, ◌+◌, ◌≤◌, List, [], ◌∷◌, ◌++◌, Some, Result, Ok, Err, drop, length, map, refl, ap, sym, subst, inl, inr, arith}
 use Rattle.wdl_check_rules.specs.declared.fault.CheckFault.{CheckFault}
 use Rattle.wdl_check_rules.specs.declared.fault.CheckFault.TheVariants.{Bad, NoMemory}
 use Rattle.wdl_check_rules.specs.Conditions as condition
@@ -19,9 +19,6 @@ answers_placed number o (Err NoMemory) h = tt
 answers_placed number o (Err (Bad code s)) h = (h.0, among_placed number (Bad code s) o.conditions h.1)
 
 -- ---- one member after the other
-
-pub drop_at : {A : Type 0} (xs : List A) (i : ℕ) (x : A) → i < length xs → x ≡ get_or xs i x → drop i xs ≡ x ∷ drop (i + 1) xs
-drop_at xs i x within is = drop-cons xs i x within ∙ ap (λ y. y ∷ drop (suc i) xs) (sym is) ∙ ap (λ (k : ℕ). x ∷ drop k xs) (sym (add-one i))
 
 pub drop_end : {A : Type 0} (xs : List A) (i : ℕ) → length xs ≤ i → drop i xs ≡ []
 drop_end [] zero h = refl

@@ -2,6 +2,7 @@
 use Rattle.std.proofs.Common.{◌≡◌, ℕ, zero, suc, ◌+◌, Bool, true, false, cond, List, [], ◌∷◌, ◌++◌, Option, Some, None, option_and_then, append_assoc, drop, length, length-append, map, slice_get, take, refl, sym, ap, subst, ◌∙◌}
 use Rattle.std.specs.List.{find}
 use Rattle.std.specs.Str.{bytes_eq}
+use Rattle.std.proofs.lemmas.Option.{same_Some}
 use Rattle.wdl_value.specs.Fits.{Structs}
 use Rattle.wdl_ast.specs.declared.leaf.Ident.{Ident}
 use Rattle.wdl_ast.specs.declared.workflow.CallTarget.{CallTarget}
@@ -17,7 +18,7 @@ use Rattle.wdl_check_doc.specs.Flows.{flow_def, flow_defs}
 use Rattle.wdl_check_doc.specs.Offers.{Table, flow_offers, own_at, space_at, spaces, tables, task_offers}
 use Rattle.wdl_check_doc.specs.Parts.{Part}
 use Rattle.wdl_check_doc.specs.Runnables.{Headed, tasks_in, workflows_in}
-use Rattle.wdl_check_doc.proofs.Typed.{Have, some_is}
+use Rattle.wdl_check_doc.proofs.Typed.{Have}
 
 pub have_take : {A : Type 0} (P : A → Type 0) (n : ℕ) (xs : List A) → Have P xs → Have P (take n xs)
 have_take P zero [] h = tt
@@ -45,7 +46,7 @@ have_found P test [] x h e = cc
 have_found {A} P test (y ∷ ys) x h e = by_test (λ g. have_found P test ys x h.1 g) (test y) e
   where
     by_test : (find test ys ≡ Some x → P x) → (b : Bool) → cond b (Some y) (find test ys) ≡ Some x → P x
-    by_test more true e = subst P (some_is y x e) h.0
+    by_test more true e = subst P (same_Some y x e) h.0
     by_test more false e = more e
 
 at_end : {A : Type 0} (before : List A) (x : A) (more : List A) → slice_get (before ++ x ∷ more) (length before) ≡ Some x

@@ -4,7 +4,6 @@ use Rattle.std.specs.Prelude.{filter}
 use Rattle.std.specs.List.{list_all}
 use Rattle.std.specs.Str.{bytes_eq}
 use Rattle.std.proofs.lemmas.Bool.{and_parts, cases_lt, false≢true}
-use Rattle.std.proofs.lemmas.Slice.Eq.{bytes_eq-Decides}
 use Rattle.wdl_ast.specs.declared.document.Alias.{Alias}
 use Rattle.wdl_ast.specs.declared.document.Import.{Import}
 use Rattle.wdl_ast.specs.declared.document.StructSection.{StructSection}
@@ -14,13 +13,12 @@ use Rattle.wdl_library.specs.Links.{each_ends, ends_within, has_no_circle, links
 use Rattle.wdl_library.specs.Names.{given, given_for, has_names, imported, names_at, names_eq, names_in, once, own_names, seen, structs_of}
 use Rattle.wdl_library.specs.Sections.{imports_of, sections_of}
 use Rattle.wdl_library.specs.Structs.{Labels, agrees, agrees_along, agrees_from, agrees_on, all_have, stand_at, stand_in}
+use Rattle.wdl_base.proofs.Options.{all_at}
+use Rattle.wdl_check_task.proofs.Distinct.{is_same}
 
 abbrev pub In : {A : Type 0} → A → List A → Type 0
 In x [] = ⊥
 In x (y ∷ ys) = (x ≡ y) ⊎ In x ys
-
-pub is_same : (a b : List ℕ) → bytes_eq a b ≡ true → a ≡ b
-is_same a b h = (bytes_eq-Decides a b).0 h
 
 -- ---- lists
 
@@ -60,11 +58,6 @@ pub in_all_true : {A : Type 0} (test : A → Bool) (xs : List A) (x : A) → lis
 in_all_true test [] x h k = absurd k
 in_all_true test (y ∷ ys) x h (inl e) = ap test e ∙ (and_parts (test y) (list_all test ys) h).0
 in_all_true test (y ∷ ys) x h (inr k) = in_all_true test ys x (and_parts (test y) (list_all test ys) h).1 k
-
-pub all_true_at : {A : Type 0} (test : A → Bool) (xs : List A) (k : ℕ) (x : A) → list_all test xs ≡ true → slice_get xs k ≡ Some x → test x ≡ true
-all_true_at test [] k x h e = cc
-all_true_at test (y ∷ ys) zero x h e = let same : y ≡ x = cc in ap test (sym same) ∙ (and_parts (test y) (list_all test ys) h).0
-all_true_at test (y ∷ ys) (suc k) x h e = all_true_at test ys k x (and_parts (test y) (list_all test ys) h).1 e
 
 -- ---- imports
 
@@ -162,7 +155,7 @@ module _ (docs : List Doc) where
         by_doc before None g = absurd (subst (λ (o : Option Doc). In name (names_in (structs_of o))) g h)
         by_doc before (Some d) g =
             let sees = subst (λ (o : Option Doc). In name (names_in (structs_of o))) g h in
-            let all = subst (In name) (same_names (names_in d.structs) (seen docs d) (all_true_at (has_names docs) docs k d named g)) sees in
+            let all = subst (In name) (same_names (names_in d.structs) (seen docs d) (all_at (has_names docs) docs k d named g)) sees in
             let ends = subst (λ (o : Option Doc). list_all (λ (l : Link). ends_within n docs l.doc) (links_in o) ≡ true) g e in
             elim (in_either name (own_names d) (imported docs (imports_of d.document) d.imports) (in_once name _ all)) [
               | inl i ↦ own_origin k d name g i

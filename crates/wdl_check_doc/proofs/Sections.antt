@@ -7,7 +7,8 @@ use Rattle.wdl_library.specs.Sections.{structs_in}
 use Rattle.wdl_check_types.specs.Outcome.{Outcome}
 use Rattle.wdl_check_decls.proofs.ListLaws.{Leads}
 use Rattle.wdl_check_doc.specs.Outcomes.{all}
-use Rattle.wdl_check_doc.proofs.Lists.{drop_at, drop_end}
+use Rattle.wdl_check_doc.proofs.Lists.{drop_end}
+use Rattle.wdl_check_rules.proofs.MemberLaws.{at_front as drop_at}
 
 pub structs_next : (xs : List Section) (i : ℕ) (x : Section) (d : StructSection) → i < length xs → x ≡ get_or xs i x → x ≡ section.Struct d
     → structs_in (drop i xs) ≡ d ∷ structs_in (drop (i + 1) xs)

@@ -5,6 +5,7 @@ use Rattle.std.specs.List.{find, list_all}
 use Rattle.std.specs.Str.{bytes_eq}
 use Rattle.std.proofs.lemmas.Bool.{and_from, and_parts, false≢true, not-true, not_from_false, or_from, or_parts}
 use Rattle.std.proofs.lemmas.Slice.Eq.{bytes_eq-Decides}
+use Rattle.std.proofs.lemmas.Option.{same_Some}
 use Rattle.wdl_value.specs.declared.ty.Member.{Member}
 use Rattle.wdl_value.specs.declared.ty.StructDef.{StructDef}
 use Rattle.wdl_value.specs.Fits.{Structs, members_of}
@@ -20,10 +21,11 @@ use Rattle.wdl_library.specs.Sections.{imports_of, sections_of}
 use Rattle.wdl_library.specs.Structs as library
 use Rattle.wdl_library.specs.Structs.{AreAlike, AreSections, HaveSections, agrees, member_of, members_at, stand_at, stand_in}
 use Rattle.wdl_check_types.specs.Laws.{AreKnown}
-use Rattle.wdl_check_doc.specs.Parts.{naming}
+use Rattle.struct_names.specs.Known.{naming}
 use Rattle.wdl_check_doc.specs.Structs.{or_itself}
-use Rattle.wdl_check_doc.proofs.Typed.{some_is}
-use Rattle.wdl_check_doc.proofs.Origins.{In, Origin, all_true_at, is_same, origin_at, same_names}
+use Rattle.wdl_check_doc.proofs.Origins.{In, Origin, origin_at, same_names}
+use Rattle.wdl_base.proofs.Options.{all_at}
+use Rattle.wdl_check_task.proofs.Distinct.{is_same}
 
 -- ---- members by names
 
@@ -194,7 +196,7 @@ module _ (docs : List Doc) (structs : Structs) (circle : has_no_circle docs ≡ 
 
     distinct_names : are_distinct (struct_names structs) ≡ true
     distinct_names =
-        ap are_distinct (seen_first ∙ same_names (names_in first.structs) (seen docs first) (all_true_at (has_names docs) docs 0 first named at_first)) ∙ once_distinct (own_names first ++ imported docs (imports_of first.document) first.imports)
+        ap are_distinct (seen_first ∙ same_names (names_in first.structs) (seen docs first) (all_at (has_names docs) docs 0 first named at_first)) ∙ once_distinct (own_names first ++ imported docs (imports_of first.document) first.imports)
 
     struct_is : (d : StructDef) → In d structs → is_struct structs d ≡ true
     struct_is d i =
@@ -209,7 +211,7 @@ module _ (docs : List Doc) (structs : Structs) (circle : has_no_circle docs ≡ 
         let f = fine o.number o.doc o.section o.at o.own in
         let own = own_members structs d distinct_names i in
         let members : Some d.members ≡ Some (library.members_of (stand_in o.doc.structs) o.section) = sym own ∙ both ∙ origin_members 0 d.name o in
-        let same : d.members ≡ library.members_of (stand_in o.doc.structs) o.section = some_is _ _ members in
+        let same : d.members ≡ library.members_of (stand_in o.doc.structs) o.section = same_Some _ _ members in
         let deep : is_shallow 32 structs d.name ≡ is_shallow 32 structs (or_itself o.section.name.name (naming o.doc.structs o.section.name.name)) =
         shallow_same 31 structs d.name _ (both ∙ ap (members_of structs) (o.same ∙ sym (naming_or_itself o.doc.structs o.section.name.name))) in
         and_from _ _ (and_from _ _

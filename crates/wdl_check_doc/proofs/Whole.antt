@@ -2,6 +2,7 @@
 use Rattle.std.proofs.Common.{◌≡◌, ℕ, suc, ◌+◌, ◌≤◌, ◌^◌, Bool, true, false, ◌&&◌, cond, List, [], ◌∷◌, ◌++◌, Some, append-nil, append_assoc, length, length-append, map, nat_lt, slice_get, refl, sym, ap, subst, ◌∙◌, arith}
 use Rattle.std.specs.List.{list_all}
 use Rattle.std.proofs.lemmas.Bool.{and_from, and_parts, false≢true, lt-ltb}
+use Rattle.std.proofs.lemmas.Option.{same_Some}
 use Rattle.wdl_value.specs.Fits.{Structs}
 use Rattle.wdl_ast.specs.declared.document.Section.{Section}
 use Rattle.wdl_ast.specs.declared.document.Section.TheVariants as section
@@ -39,7 +40,8 @@ use Rattle.wdl_check_doc.specs.Structs.{structs_typed}
 use Rattle.wdl_check_doc.proofs.Kept.{all_have, have_parts, sections_fine}
 use Rattle.wdl_check_doc.proofs.Offering.{FitAll, flows_offered, targets_are, tasks_offered}
 use Rattle.wdl_check_doc.proofs.StructLaws.{names_known, structs_kept}
-use Rattle.wdl_check_doc.proofs.Typed.{Have, each_have, some_is, then_some}
+use Rattle.wdl_check_doc.proofs.Typed.{Have, each_have}
+use Rattle.wdl_base.proofs.Options.{then_parts}
 
 -- ---- lists and what was made of their members
 
@@ -51,9 +53,9 @@ Both R (a ∷ as_) (b ∷ bs) = R a b × Both R as_ bs
 
 each_behind : {A B : Type 0} (f : A → Outcome B) (before : List B) (as_ : List A) (bs : List B) → (each f before as_).typed ≡ Some bs
     → (made : List B) × (bs ≡ before ++ made) × Both (λ (a : A) (b : B). (f a).typed ≡ Some b) as_ made
-each_behind f before [] bs h = ([], sym (some_is before bs h) ∙ sym (append-nil before), tt)
+each_behind f before [] bs h = ([], sym (same_Some before bs h) ∙ sym (append-nil before), tt)
 each_behind {A} {B} f before (a ∷ as_) bs h =
-    let s = then_some (λ (b : B). (each f (before ++ b ∷ []) as_).typed) (f a).typed bs h in
+    let s = then_parts (λ (b : B). (each f (before ++ b ∷ []) as_).typed) (f a).typed bs h in
     let r = each_behind f (before ++ s.0 ∷ []) as_ bs s.2 in
     (s.0 ∷ r.0, r.1 ∙ append_assoc before (s.0 ∷ []) r.0, (s.1, r.2))
 
@@ -175,8 +177,8 @@ module _ (structs : Structs) where
 
   head_is : (f : FlowPart) (h : Headed) → (head_in structs f).typed ≡ Some h → ((head_of structs f).typed ≡ Some h.head) × (f ≡ h.flow)
   head_is f h e =
-      let s = then_some (λ (g : FlowHead). Some (headed f g)) (head_of structs f).typed h e in
-      let same : headed f s.0 ≡ h = some_is (headed f s.0) h s.2 in
+      let s = then_parts (λ (g : FlowHead). Some (headed f g)) (head_of structs f).typed h e in
+      let same : headed f s.0 ≡ h = same_Some (headed f s.0) h s.2 in
       (s.1 ∙ ap (λ (x : Headed). Some x.head) same, ap (λ (x : Headed). x.flow) same)
 
   head_has : (f : FlowPart) (h : Headed) → KnownFlow f → (head_in structs f).typed ≡ Some h → HeadOf h
@@ -347,16 +349,16 @@ module _ (written_types : WrittenTypes) (task_types : TaskTypes) (tasks_counted 
   unfolding typed
   checked_is docs structs c linked has h =
       let ps = parts_from 0 docs in
-      let s1 = then_some (λ (u : Unit {0}). (then_ (all names_typed ps) (λ v. runnables_typed structs ps)).typed) (structs_typed structs ps).typed c h in
-      let s2 = then_some (λ (v : Unit {0}). (runnables_typed structs ps).typed) (all names_typed ps).typed c s1.2 in
-      let s3 = then_some (λ (ts : List TaskDef). (then_ (flows_typed structs ps ts) (λ fs. then_ (flows_nest fs) (λ u. done (checked_parts structs ts fs (main_of ps))))).typed)
+      let s1 = then_parts (λ (u : Unit {0}). (then_ (all names_typed ps) (λ v. runnables_typed structs ps)).typed) (structs_typed structs ps).typed c h in
+      let s2 = then_parts (λ (v : Unit {0}). (runnables_typed structs ps).typed) (all names_typed ps).typed c s1.2 in
+      let s3 = then_parts (λ (ts : List TaskDef). (then_ (flows_typed structs ps ts) (λ fs. then_ (flows_nest fs) (λ u. done (checked_parts structs ts fs (main_of ps))))).typed)
       (each (task_in structs) [] (tasks_of ps)).typed c s2.2 in
-      let s4 = then_some (λ (fs : List FlowDef). (then_ (flows_nest fs) (λ u. done (checked_parts structs s3.0 fs (main_of ps)))).typed) (flows_typed structs ps s3.0).typed c s3.2 in
-      let s5 = then_some (λ (u : Unit {0}). Some (checked_parts structs s3.0 s4.0 (main_of ps))) (flows_nest s4.0).typed c s4.2 in
-      let s6 = then_some (λ (hs : List Headed). (then_ (rests_typed structs ps s3.0 hs) (λ rs. done (flow_defs hs rs))).typed) (each (head_in structs) [] (flows_of ps)).typed s4.0 s4.1 in
-      let s7 = then_some (λ (rs : List FlowRest). Some (flow_defs s6.0 rs)) (rests_typed structs ps s3.0 s6.0).typed s4.0 s6.2 in
-      let same : flow_defs s6.0 s7.0 ≡ s4.0 = some_is (flow_defs s6.0 s7.0) s4.0 s7.2 in
+      let s4 = then_parts (λ (fs : List FlowDef). (then_ (flows_nest fs) (λ u. done (checked_parts structs s3.0 fs (main_of ps)))).typed) (flows_typed structs ps s3.0).typed c s3.2 in
+      let s5 = then_parts (λ (u : Unit {0}). Some (checked_parts structs s3.0 s4.0 (main_of ps))) (flows_nest s4.0).typed c s4.2 in
+      let s6 = then_parts (λ (hs : List Headed). (then_ (rests_typed structs ps s3.0 hs) (λ rs. done (flow_defs hs rs))).typed) (each (head_in structs) [] (flows_of ps)).typed s4.0 s4.1 in
+      let s7 = then_parts (λ (rs : List FlowRest). Some (flow_defs s6.0 rs)) (rests_typed structs ps s3.0 s6.0).typed s4.0 s6.2 in
+      let same : flow_defs s6.0 s7.0 ≡ s4.0 = same_Some (flow_defs s6.0 s7.0) s4.0 s7.2 in
       let deep = subst (λ (fs : List FlowDef). (flows_nest fs).typed ≡ Some tt) (sym same) s5.1 in
-      subst (λ (x : CheckedParts). is_checked (library x.structs x.tasks x.flows) x.main ≡ true) (some_is (checked_parts structs s3.0 s4.0 (main_of ps)) c s5.2)
+      subst (λ (x : CheckedParts). is_checked (library x.structs x.tasks x.flows) x.main ≡ true) (same_Some (checked_parts structs s3.0 s4.0 (main_of ps)) c s5.2)
       (subst (λ (fs : List FlowDef). is_checked (library structs s3.0 fs) (main_of ps) ≡ true) same
       (parts_are docs structs linked has s3.0 s6.0 s7.0 s1.1 s3.1 s6.1 s7.1 deep))

@@ -1,5 +1,6 @@
 -- Faults of a library stand in its documents.
 use Rattle.std.proofs.Common.{◌≡◌, ℕ, ◌+◌, ◌<◌, List, [], ◌∷◌, ◌++◌, Option, Some, None, Err, length, map, refl, sym, subst, inl, inr, arith}
+use Rattle.std.proofs.lemmas.Option.{same_Some}
 use Rattle.wdl_value.specs.Fits.{Structs}
 use Rattle.wdl_ast.specs.declared.task.TaskSection.{TaskSection}
 use Rattle.wdl_ast.specs.declared.workflow.Workflow.{Workflow}
@@ -19,7 +20,8 @@ use Rattle.wdl_check_doc.specs.Outcomes.{all, each, placed_fault}
 use Rattle.wdl_check_doc.specs.Parts.{Part, parts_from}
 use Rattle.wdl_check_doc.specs.Runnables.{FlowPart, Headed, TaskPart, flow_part, flows_at, flows_of, head_in, head_of, headed, names_typed, task_in, task_part, tasks_at, tasks_of, tasks_in, workflows_in}
 use Rattle.wdl_check_doc.specs.Structs.{sections_nest, sections_typed, structs_typed}
-use Rattle.wdl_check_doc.proofs.Typed.{Have, each_have, some_is, then_some}
+use Rattle.wdl_check_doc.proofs.Typed.{Have, each_have}
+use Rattle.wdl_base.proofs.Options.{then_parts}
 
 module _ (n : ℕ) where
   abbrev pub FaultIn : CheckFault → Type 0
@@ -110,8 +112,8 @@ module _ (n : ℕ) where
 
   head_has : (structs : Structs) (f : FlowPart) (h : Headed) → FlowIn f → (head_in structs f).typed ≡ Some h → HeadIn h
   head_has structs f h k e =
-      let s = then_some (λ (g : FlowHead). Some (headed f g)) (head_of structs f).typed h e in
-      subst HeadIn (some_is (headed f s.0) h s.2) k
+      let s = then_parts (λ (g : FlowHead). Some (headed f g)) (head_of structs f).typed h e in
+      subst HeadIn (same_Some (headed f s.0) h s.2) k
 
   module _ (structs : Structs) (ps : List Part) (at : Have PartIn ps) where
     heads_have : (hs : List Headed) → (each (head_in structs) [] (flows_of ps)).typed ≡ Some hs → Have HeadIn hs
@@ -147,9 +149,9 @@ module _ (n : ℕ) where
 
     flows_here_in : (tasks : List TaskDef) (flows : List FlowDef) → (flows_typed structs ps tasks).typed ≡ Some flows → Have DefIn flows
     flows_here_in tasks flows e =
-        let s = then_some (λ (hs : List Headed). (then_ (rests_typed structs ps tasks hs) (λ rs. done (flow_defs hs rs))).typed) (each (head_in structs) [] (flows_of ps)).typed flows e in
-        let t = then_some (λ (rs : List FlowRest). Some (flow_defs s.0 rs)) (rests_typed structs ps tasks s.0).typed flows s.2 in
-        subst (Have DefIn) (some_is _ flows t.2) (defs_have s.0 t.0 (heads_have s.0 s.1))
+        let s = then_parts (λ (hs : List Headed). (then_ (rests_typed structs ps tasks hs) (λ rs. done (flow_defs hs rs))).typed) (each (head_in structs) [] (flows_of ps)).typed flows e in
+        let t = then_parts (λ (rs : List FlowRest). Some (flow_defs s.0 rs)) (rests_typed structs ps tasks s.0).typed flows s.2 in
+        subst (Have DefIn) (same_Some _ flows t.2) (defs_have s.0 t.0 (heads_have s.0 s.1))
 
     runnables_within : Within (runnables_typed structs ps).conditions
     runnables_within =

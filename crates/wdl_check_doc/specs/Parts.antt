@@ -1,13 +1,11 @@
 -- The documents of a library, each with its number, and the names under which it knows structs.
-use Rattle.std.specs.Prelude.{ℕ, ◌+◌, List, [], ◌∷◌, option_map}
-use Rattle.std.specs.List.{find}
-use Rattle.std.specs.Str.{bytes_eq}
+use Rattle.std.specs.Prelude.{ℕ, ◌+◌, List, [], ◌∷◌}
 use Rattle.wdl_value.specs.Fits.{Structs}
 use Rattle.wdl_ast.specs.declared.document.Section.{Section}
 use Rattle.wdl_library.specs.declared.doc.Doc.{Doc}
 use Rattle.wdl_library.specs.declared.doc.Link.{Link}
-use Rattle.wdl_library.specs.declared.doc.StructName.{StructName}
 use Rattle.wdl_check_rules.specs.Locals.{Naming, stands_for}
+use Rattle.struct_names.specs.Known.{naming}
 use Rattle.wdl_check_decls.specs.Expressions.{World}
 use Rattle.wdl_check_doc.specs.declared.numbered_doc.Part.{Part as Held}
 
@@ -16,10 +14,6 @@ pub record Part : Type 0 where
   pub sections : List Section
   pub imports : List Link
   pub locals : Naming
-
--- the name of the library that each name of a document stands for
-abbrev pub naming : List StructName → Naming
-naming structs name = option_map (λ (s : StructName). s.stands_for) (find (λ (s : StructName). bytes_eq s.name name) structs)
 
 abbrev pub part : ℕ → Doc → Part
 part number d = record { number = number; sections = d.document.sections; imports = d.imports; locals = naming d.structs }

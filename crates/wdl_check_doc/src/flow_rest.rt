@@ -156,7 +156,8 @@ fn check_rests_of(
     check_rests(alloc, structs, tables.as_slice(), heads)
 }
 
-/// The statements and outputs of the workflows, whose calls name tasks and workflows of all documents.
+/// The statements and outputs of the workflows, whose calls name tasks and workflows of all
+/// documents.
 pub fn check_all_rests(
     alloc: Global,
     structs: &Indexed<StructDef>,

@@ -6,7 +6,6 @@ mod fault;
 mod flow;
 mod flow_rest;
 mod library;
-mod local;
 mod nesting;
 mod numbered_doc;
 mod offer;

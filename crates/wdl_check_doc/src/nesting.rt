@@ -64,7 +64,8 @@ fn check_each(flows: &[FlowDef], levels: &Levels) -> Result<(), CheckFault>
     Ok(())
 }
 
-/// 328 at a statement through which more than 24 blocks and calls stand on a path, those of called workflows counted.
+/// 328 at a statement through which more than 24 blocks and calls stand on a path, those of called
+/// workflows counted.
 pub fn check_nesting(alloc: Global, flows: &[FlowDef]) -> Result<(), CheckFault>
     ensures { Answers (spec.flows_nest flows.now) result }
 {

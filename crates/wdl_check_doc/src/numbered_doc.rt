@@ -1,11 +1,12 @@
 //! The documents of a library with their numbers.
 
 ghost use Rattle.std.specs.Prelude.{◌≡◌, map, IfOk};
-ghost use Rattle.wdl_check_doc.specs.Known as known;
+ghost use Rattle.struct_names.specs.Known.{known_of};
+ghost use Rattle.wdl_check_doc.specs.Known.{parts_from};
 ghost use Rattle.wdl_check_doc.specs.Parts as spec;
 
-use crate::local::Known;
 use std::alloc::Global;
+use struct_names::DocNames;
 use wdl_check_rules::Local;
 use wdl_library::Doc;
 use wdl_names::Indexed;
@@ -22,9 +23,9 @@ pub struct Part<'d, 'n, 'k> {
 /// The documents with numbers from 0 on.
 pub fn parts_of<'d, 'n, 'k>(
     alloc: Global,
-    docs: &'k [Known<'d, 'n>],
+    docs: &'k [DocNames<'d, 'n>],
 ) -> Result<Vec<Part<'d, 'n, 'k>>, NoMemory>
-    ensures { IfOk result (λ ps. map spec.part_of ps.items ≡ known.parts_from 0 (map known.known_of docs.now)) }
+    ensures { IfOk result (λ ps. map spec.part_of ps.items ≡ parts_from 0 (map known_of docs.now)) }
 {
     let mut parts = Vec::new(alloc);
     let mut number: u32 = 0;

@@ -89,7 +89,8 @@ fn check_names_of(alloc: Global, part: &Part) -> Result<(), CheckFault>
     )
 }
 
-/// The names of the tasks and workflows of each document: 321 where one stands twice, and at the name of a second workflow.
+/// The names of the tasks and workflows of each document: 321 where one stands twice, and at the
+/// name of a second workflow.
 pub fn check_names(alloc: Global, parts: &[Part]) -> Result<(), CheckFault>
     ensures { Answers (all spec.names_typed (map part_of parts.now)) result }
 {

@@ -89,8 +89,8 @@ fn check_part(alloc: Global, part: &Part) -> Result<(), CheckFault>
     placed(part.number, check_sections(alloc, sections, part.locals))
 }
 
-/// The struct sections of all documents (OpenWDL 1.1, "Struct Definition"): 321 at a member whose name stands before, 329
-/// at a type that cannot be written.
+/// The struct sections of all documents (OpenWDL 1.1, "Struct Definition"): 321 at a member whose
+/// name stands before, 329 at a type that cannot be written.
 pub fn check_all_sections(alloc: Global, parts: &[Part]) -> Result<(), CheckFault>
     ensures { Answers (all spec.sections_typed (map part_of parts.now)) result }
 {

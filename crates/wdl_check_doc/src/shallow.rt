@@ -88,8 +88,8 @@ fn check_parts(
     Ok(())
 }
 
-/// 330 at the section of a struct whose members form a circle or lead through more than 32 structs (OpenWDL 1.1, "Struct
-/// Definition").
+/// 330 at the section of a struct whose members form a circle or lead through more than 32 structs
+/// (OpenWDL 1.1, "Struct Definition").
 pub fn check_depths(
     alloc: Global,
     parts: &[Part],

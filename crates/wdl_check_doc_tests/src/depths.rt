@@ -17,7 +17,8 @@ fn blocks(alloc: Global, count: u32, inner: &str) -> Result<String, Fail> {
     Ok(format!(in alloc; "{}{inner} {}", open.as_str(), close.as_str())?)
 }
 
-/// What the check of a workflow with a call in so many blocks answers, where the called workflow has so many blocks itself.
+/// What the check of a workflow with a call in so many blocks answers, where the called workflow
+/// has so many blocks itself.
 fn through_a_call(alloc: Global, outer: u32, inner: u32) -> Result<String, Fail> {
     let outer = blocks(alloc, outer, "call a.v")?;
     let inner = blocks(alloc, inner, "")?;

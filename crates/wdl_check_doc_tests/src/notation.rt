@@ -1,6 +1,6 @@
-//! Rows of libraries: documents between `===`, then `=>`, then what the check of the library answers. A row tells a document without
-//! its version, and each double quote as a single one. The first document stands at `w.wdl`, the others at `a.wdl`, `b.wdl` and
-//! `c.wdl`.
+//! Rows of libraries: documents between `===`, then `=>`, then what the check of the library
+//! answers. A row tells a document without its version, and each double quote as a single one. The
+//! first document stands at `w.wdl`, the others at `a.wdl`, `b.wdl` and `c.wdl`.
 
 use sqlite_items::Items;
 use std::alloc::Global;
@@ -119,8 +119,8 @@ fn mistake(alloc: Global, before: &str, row: &str, behind: &str) -> Result<Strin
     Ok(format!(in alloc; "{told} => {}", found.as_str())?)
 }
 
-/// The first row that says another answer, with its answer; nothing where there is none. Rows have semicolons between them, and
-/// stand between two texts.
+/// The first row that says another answer, with its answer; nothing where there is none. Rows have
+/// semicolons between them, and stand between two texts.
 pub fn first_mistake(
     alloc: Global,
     before: &str,

@@ -108,7 +108,8 @@ pub fn check(alloc: Global, e: &Expr, scope: &Scope, placeholder: bool) -> Resul
     }
 }
 
-/// The branch of an `if` that is refused, after its condition and the accepted branch: 310 where the two have no join.
+/// The branch of an `if` that is refused, after its condition and the accepted branch: 310 where
+/// the two have no join.
 #[cycle(check)]
 fn after_accepted(
     alloc: Global,
@@ -125,7 +126,8 @@ fn after_accepted(
     choose_at(alloc, condition, accepted, refused, span)
 }
 
-/// The right operand of an operator, after the left one: 304 where the table has no row for the two.
+/// The right operand of an operator, after the left one: 304 where the table has no row for the
+/// two.
 #[cycle(check)]
 fn after_left(
     alloc: Global,
@@ -237,7 +239,8 @@ fn check_member(
     }
 }
 
-/// A member of an expression: 301 where the base is the name of a call alone, 306 where it has no such member.
+/// A member of an expression: 301 where the base is the name of a call alone, 306 where it has no
+/// such member.
 #[cycle(check)]
 fn check_part(
     alloc: Global,
@@ -295,7 +298,8 @@ fn check_entries(
     Ok(done)
 }
 
-/// The parts of a string with their placeholders: 308 where one does not take the type of its expression.
+/// The parts of a string with their placeholders: 308 where one does not take the type of its
+/// expression.
 #[cycle(check)]
 fn check_parts(
     alloc: Global,
@@ -330,7 +334,8 @@ fn check_hole(
     hole_at(alloc, options, typed, span_of(e))
 }
 
-/// A struct literal: 329 where there is no such struct, 310 at a name that it lacks or that stands before.
+/// A struct literal: 329 where there is no such struct, 310 at a name that it lacks or that stands
+/// before.
 #[cycle(check)]
 fn check_struct(
     alloc: Global,

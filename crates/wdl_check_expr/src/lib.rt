@@ -1,4 +1,5 @@
-//! The checker of expressions: the type of an expression in a scope, and its typed tree with each coercion written out.
+//! The checker of expressions: the type of an expression in a scope, and its typed tree with each
+//! coercion written out.
 #![tactic(auto)]
 
 mod check;

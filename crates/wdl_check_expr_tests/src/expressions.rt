@@ -30,8 +30,8 @@ c.n Int";
 
 const STRUCTS: &str = "P a Int,b Int?;Q p P,names Array[String];T a Int";
 
-/// The document knows two structs by their own names, and one by another name; it has no name for `T`. `Z` stands for
-/// no struct.
+/// The document knows two structs by their own names, and one by another name; it has no name for
+/// `T`. `Z` stands for no struct.
 const LOCALS: &str = "P P;Q Q;B P;Z Y";
 
 /// Expressions, each with its type, or with its code and the text where that holds.

@@ -11,7 +11,8 @@ use wdl_parse_expr::{parse_expr, parse_type};
 use wdl_typed::Bound;
 use wdl_value::{Key, Member, Name, NoMemory, StructDef, Ty};
 
-/// The type of a name: `Empty` is that of the items of `[]`, `Absent` that of `None`, and any other name that of a struct.
+/// The type of a name: `Empty` is that of the items of `[]`, `Absent` that of `None`, and any other
+/// name that of a struct.
 fn named_type(alloc: Global, name: &Name) -> Result<Ty, NoMemory> {
     match name.as_str() {
         "Empty" => Ok(Ty::Empty),

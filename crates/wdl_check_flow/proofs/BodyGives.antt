@@ -1,6 +1,7 @@
 -- A body that is typed is well typed over the library, and gives out what it is said to give.
 use Rattle.std.proofs.Common.{◌≡◌, ℕ, Bool, true, false, ◌&&◌, List, [], ◌∷◌, ◌++◌, Option, Some, None, map, option_and_then, if◌then◌else◌, slice_get, zero, suc, refl, sym, ap, ◌∙◌, subst}
 use Rattle.std.proofs.lemmas.List.Concat.{flat_map-cons}
+use Rattle.std.proofs.lemmas.Option.{same_Some}
 use Rattle.wdl_value.specs.declared.ty.Ty.{Ty, Ty-F, out-Ty}
 use Rattle.wdl_value.specs.declared.ty.Ty.TheOpen as type
 use Rattle.wdl_value.specs.declared.ty.Ty.TheVariants as ty
@@ -38,7 +39,7 @@ use Rattle.wdl_check_flow.specs.Targets.{Place, world_at}
 use Rattle.wdl_check_flow.proofs.CallGives.{call_well}
 use Rattle.wdl_check_flow.proofs.Forms.{typed_roll}
 use Rattle.wdl_check_flow.proofs.Gives.{gives_decl, gives_if, gives_pushed, gives_scatter}
-use Rattle.wdl_check_flow.proofs.OutcomeParts.{refused_some, some_is, then_some}
+use Rattle.wdl_check_decls.proofs.WellTyped.{then_some, refused_some}
 
 module _ (exprs : ExprTypes) (casts : CastTypes) (decls : DeclTypes) (lib : Library) (p : Place) (of : IsOf lib p) where
   abbrev GivesAt : (ℕ → Seen → Outcome Stated) → Type 0
@@ -66,7 +67,7 @@ module _ (exprs : ExprTypes) (casts : CastTypes) (decls : DeclTypes) (lib : Libr
 
   each_got : (ns : List Numbered) (i : ℕ) (n : Numbered) → Each ns → slice_get ns i ≡ Some n → GivesAt n.check
   each_got [] i n all e = cc
-  each_got (m ∷ ns) zero n all e = subst (λ (x : Numbered). GivesAt x.check) (some_is m n e) all.0
+  each_got (m ∷ ns) zero n all e = subst (λ (x : Numbered). GivesAt x.check) (same_Some m n e) all.0
   each_got (m ∷ ns) (suc i) n all e = each_got ns i n all.1 e
 
   each_picked : (ns : List Numbered) (ps : List ℕ) → Each ns → Each (picked ns ps)
@@ -80,7 +81,7 @@ module _ (exprs : ExprTypes) (casts : CastTypes) (decls : DeclTypes) (lib : Libr
 
   behind_gives : (seen : Seen) (before : List Statement) (given : Seen) (ns : List Numbered) (b : Typed_body) → Each ns
       → body_gives lib before seen ≡ Some given → (behind seen before given ns).typed ≡ Some b → body_gives lib b.statements seen ≡ Some b.given
-  behind_gives seen before given [] b all g h = subst (λ (z : Typed_body). body_gives lib z.statements seen ≡ Some z.given) (some_is _ b h) g
+  behind_gives seen before given [] b all g h = subst (λ (z : Typed_body). body_gives lib z.statements seen ≡ Some z.given) (same_Some _ b h) g
   behind_gives seen before given (n ∷ ns) b all g h =
       let q = then_some (n.check n.number (joined seen given)) (λ (s : Stated). behind seen (before ++ s.statement ∷ []) (joined given s.given) ns) b h in
       behind_gives seen (before ++ q.0.statement ∷ []) (joined given q.0.given) ns b all.1
@@ -99,14 +100,14 @@ module _ (exprs : ExprTypes) (casts : CastTypes) (decls : DeclTypes) (lib : Libr
   decl_gives_well : (d : Declaration) (seen : Seen) (x : Stated) → (decl_statement p seen d).typed ≡ Some x → gives lib x.statement seen ≡ Some x.given
   decl_gives_well d seen x h =
       let q = then_some (decl_typed Body (world_at p seen) seen.names d) (λ t. done (decl_stated t)) x h in
-      subst (λ (z : Stated). gives lib z.statement seen ≡ Some z.given) (some_is (decl_stated q.0) x q.2)
+      subst (λ (z : Stated). gives lib z.statement seen ≡ Some z.given) (same_Some (decl_stated q.0) x q.2)
       (gives_decl lib q.0 seen
       ∙ ap (λ (b : Bool). if b then Some (decl_stated q.0).given else None)
       (ap (λ structs. is_written structs q.0.ty && is_type (in_body structs seen.names q.0.value) q.0.ty) (sym of.structs) ∙ decls Body (world_at p seen) seen.names d q.0 of.known q.1))
 
   -- an array that is gone over
   array_at : (e : TExpr) (y : Ty-F Ty) (c : Collection) → items_at e y ≡ Some c → (e ≡ c.expr) × (y ≡ type.Array c.item c.some)
-  array_at e (type.Array t some) c h = let k = some_is (record { expr = e; item = t; some = some }) c h in (ap (λ (z : Collection). z.expr) k, ap (λ (z : Collection). type.Array z.item z.some) k)
+  array_at e (type.Array t some) c h = let k = same_Some (record { expr = e; item = t; some = some }) c h in (ap (λ (z : Collection). z.expr) k, ap (λ (z : Collection). type.Array z.item z.some) k)
   array_at e y c h = cc
 
   collection_is : (seen : Seen) (e : Expr) (c : Collection) → (collection_typed p seen e).typed ≡ Some c
@@ -128,7 +129,7 @@ module _ (exprs : ExprTypes) (casts : CastTypes) (decls : DeclTypes) (lib : Libr
     where
       by_test : (b : Bool) (x : Typed) → is_bool x.ty ≡ b → (if b then Some x.expr else None) ≡ Some c → in_body lib.structs seen.names x.expr ≡ Some x.ty
           → (t : Ty) × (in_body lib.structs seen.names c ≡ Some t) × (is_bool t ≡ true)
-      by_test true x k e is = (x.ty, ap (in_body lib.structs seen.names) (sym (some_is x.expr c e)) ∙ is, k)
+      by_test true x k e is = (x.ty, ap (in_body lib.structs seen.names) (sym (same_Some x.expr c e)) ∙ is, k)
       by_test false x k e is = cc
 
   layer_holds : (y : Statement-F Known) (number : ℕ) (seen : Seen) (x : Stated)
@@ -140,7 +141,7 @@ module _ (exprs : ExprTypes) (casts : CastTypes) (decls : DeclTypes) (lib : Libr
       let q = then_some (collection_typed p seen s.over) (λ (c : Collection). then_ (body_typed body (with_item seen s.item.name c.item)) (λ b. done (scatter_stated number s.item.name (joined_span s.keyword s.closing) c b))) x h in
       let r = then_some (body_typed body (with_item seen s.item.name q.0.item)) (λ b. done (scatter_stated number s.item.name (joined_span s.keyword s.closing) q.0 b)) x q.2 in
       let k = collection_is seen s.over q.0 q.1 in
-      subst (λ (z : Stated). gives lib z.statement seen ≡ Some z.given) (some_is (scatter_stated number s.item.name (joined_span s.keyword s.closing) q.0 r.0) x r.2)
+      subst (λ (z : Stated). gives lib z.statement seen ≡ Some z.given) (same_Some (scatter_stated number s.item.name (joined_span s.keyword s.closing) q.0 r.0) x r.2)
       (gives_scatter lib _ seen
       ∙ ap (option_and_then (λ (t : Ty). scatter_over s.item.name (body_gives lib r.0.statements) seen (out-Ty t))) k.1
       ∙ ap (scatter_over s.item.name (body_gives lib r.0.statements) seen) k.2
@@ -150,7 +151,7 @@ module _ (exprs : ExprTypes) (casts : CastTypes) (decls : DeclTypes) (lib : Libr
       let q = then_some (condition_typed p seen i.condition) (λ (e : TExpr). then_ (body_typed body seen) (λ b. done (condition_stated number (joined_span i.keyword i.closing) e b))) x h in
       let r = then_some (body_typed body seen) (λ b. done (condition_stated number (joined_span i.keyword i.closing) q.0 b)) x q.2 in
       let k = condition_is seen i.condition q.0 q.1 in
-      subst (λ (z : Stated). gives lib z.statement seen ≡ Some z.given) (some_is (condition_stated number (joined_span i.keyword i.closing) q.0 r.0) x r.2)
+      subst (λ (z : Stated). gives lib z.statement seen ≡ Some z.given) (same_Some (condition_stated number (joined_span i.keyword i.closing) q.0 r.0) x r.2)
       (gives_if lib _ seen
       ∙ ap (option_and_then (if_over (body_gives lib r.0.statements) seen)) k.1
       ∙ ap (λ (b : Bool). if b then option_and_then (λ (g : Seen). Some (retyped optional g)) (body_gives lib r.0.statements seen) else None) k.2

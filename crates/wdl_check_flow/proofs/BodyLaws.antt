@@ -18,8 +18,9 @@ use Rattle.wdl_check_flow.specs.Given.{nothing}
 use Rattle.wdl_check_flow.specs.Numbers.{numbers_of}
 use Rattle.wdl_check_flow.specs.Stating.{States, StatesBody}
 use Rattle.wdl_check_flow.specs.Targets.{Place}
-use Rattle.wdl_check_flow.proofs.ListLaws.{drop_item, map-map}
+use Rattle.wdl_check_flow.proofs.ListLaws.{map-map}
 use Rattle.wdl_check_flow.proofs.SeenLaws.{joined-assoc, joined_nothing}
+use Rattle.wdl_check_rules.proofs.MemberLaws.{at_front as drop_item}
 
 pub written_parts : (p : Place) (ss : List Written) → writtens (map (with_typing p) ss) ≡ ss
 written_parts p [] = refl

@@ -3,6 +3,7 @@ use Rattle.std.proofs.Common.{◌≡◌, ℕ, Bool, true, false, not, ◌&&◌, 
 use Rattle.std.specs.Prelude.{cond}
 use Rattle.std.specs.Str.{bytes_eq}
 use Rattle.std.proofs.lemmas.Bool.{and_from, and_parts}
+use Rattle.std.proofs.lemmas.Option.{same_Some}
 use Rattle.wdl_base.specs.declared.span.Span.{Span}
 use Rattle.wdl_value.specs.declared.ty.Ty.{Ty}
 use Rattle.wdl_value.specs.Fits.{Structs}
@@ -35,7 +36,7 @@ use Rattle.wdl_check_flow.specs.Laws.{IsOf, member_of}
 use Rattle.wdl_check_flow.specs.Targets.{Offer, Place, target_of, world_at}
 use Rattle.wdl_check_flow.proofs.CallLaws.{names_pushed}
 use Rattle.wdl_check_flow.proofs.Gives.{gives_call}
-use Rattle.wdl_check_flow.proofs.OutcomeParts.{refused_some, some_is, then_some}
+use Rattle.wdl_check_decls.proofs.WellTyped.{then_some, refused_some}
 
 -- ---- lists of arguments
 
@@ -80,7 +81,7 @@ module _ (casts : CastTypes) (p : Place) (seen : Seen) (o : Offer) where
   argument_fits a f h =
       let q = then_some (or_refused 324 a.name.span (input_named o.inputs a.name.name)) (λ (i : TInput). then_ (expr_as (world_at p seen) seen.names false (value_of a.name a.value) i.ty) (λ e. done (field a.name.name e))) f h in
       let r = then_some (expr_as (world_at p seen) seen.names false (value_of a.name a.value) q.0.ty) (λ e. done (field a.name.name e)) f q.2 in
-      subst (λ (z : TField TExpr). (z.name ≡ a.name.name) × (arg_typed (input_type o.inputs z.name) (in_body p.world.structs seen.names z.value) ≡ true)) (some_is (field a.name.name r.0) f r.2) (
+      subst (λ (z : TField TExpr). (z.name ≡ a.name.name) × (arg_typed (input_type o.inputs z.name) (in_body p.world.structs seen.names z.value) ≡ true)) (same_Some (field a.name.name r.0) f r.2) (
         refl,
         ap (λ (t : Option Ty). arg_typed t (in_body p.world.structs seen.names r.0)) (input_found o.inputs a.name.name ∙ ap (option_map (λ (i : TInput). i.ty)) (refused_some 324 a.name.span (input_named o.inputs a.name.name) q.0 q.1))
             ∙ ap (λ (t : Option Ty). is_type t q.0.ty) (casts (world_at p seen) seen.names false (value_of a.name a.value) q.0.ty r.0 r.1)
@@ -104,7 +105,7 @@ module _ (casts : CastTypes) (p : Place) (seen : Seen) (o : Offer) where
 
   arguments_fit : (before : List (TField TExpr)) (as_ : List (ListItem Argument)) (all : List (TField TExpr)) → Fine before
       → (arguments_behind p seen o before as_).typed ≡ Some all → Fine all
-  arguments_fit before [] all fine h = subst Fine (some_is before all h) fine
+  arguments_fit before [] all fine h = subst Fine (same_Some before all h) fine
   arguments_fit before (a ∷ as_) all fine h =
       let q = then_some (next_argument p seen o (arg_names before) a.item) (λ f. arguments_behind p seen o (before ++ f ∷ []) as_) all h in
       let r = next_fits (arg_names before) a.item q.0 q.1 in
@@ -126,7 +127,7 @@ module _ (casts : CastTypes) (p : Place) (seen : Seen) (o : Offer) where
     where
       by_span : (s : Option Span) → first_unseen seen.calls as_ ≡ s → (after_unless s as_).typed ≡ Some ns → all_seen seen.calls ns ≡ true
       by_span (Some span) e h = cc
-      by_span None e h = subst (λ ns. all_seen seen.calls ns ≡ true) (some_is (after_names as_) ns h) (seen_all seen.calls as_ e)
+      by_span None e h = subst (λ ns. all_seen seen.calls ns ≡ true) (same_Some (after_names as_) ns h) (seen_all seen.calls as_ e)
 
   -- the call that was typed, over what the library has
   call_fits : (c : Call) (t : TCall) → (call_to p seen o c).typed ≡ Some t
@@ -139,7 +140,7 @@ module _ (casts : CastTypes) (p : Place) (seen : Seen) (o : Offer) where
       let given : all_given o.inputs (arg_names q.0) ≡ true = required_fits (call_span c) (arg_names q.0) r.0 r.1 in
       let seen_too : all_seen seen.calls s.0 ≡ true = after_fits c.after s.0 s.1 in
       subst (λ (z : TCall). (z.target ≡ o.target) × ((has : Signature) → has.inputs ≡ o.inputs → map member_of has.outputs ≡ o.outputs → call_by p.world.structs z seen has ≡ Some (call_gives z.name o.outputs)))
-      (some_is (call_with c o q.0 s.0) t s.2)
+      (same_Some (call_with c o q.0 s.0) t s.2)
       (refl, λ has inputs outputs. by_parts (call_with c o q.0 s.0) has inputs outputs fine.0 fine.1 given seen_too)
     where
       by_parts : (t : TCall) (has : Signature) → has.inputs ≡ o.inputs → map member_of has.outputs ≡ o.outputs
@@ -157,7 +158,7 @@ call_well casts lib p seen c x of h =
     let r = then_some (call_to p seen q.0 c) (λ (t : TCall). done (stated_call q.0 t)) x q.2 in
     let off = of.offered c.target q.0 (refused_some 322 (target_span c.target) (target_of p.reach c.target) q.0 q.1) in
     let fits = call_fits casts p seen q.0 c r.0 r.1 in
-    subst (λ (z : Stated). gives lib z.statement seen ≡ Some z.given) (some_is (stated_call q.0 r.0) x r.2)
+    subst (λ (z : Stated). gives lib z.statement seen ≡ Some z.given) (same_Some (stated_call q.0 r.0) x r.2)
     (gives_call lib r.0 seen
     ∙ ap (λ (t : Target). option_and_then (call_by lib.structs r.0 seen) (signature lib t)) fits.0
     ∙ ap (option_and_then (call_by lib.structs r.0 seen)) off.found

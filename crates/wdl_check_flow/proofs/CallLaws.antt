@@ -16,7 +16,7 @@ use Rattle.wdl_check_order.specs.Needs.{call_arguments}
 use Rattle.wdl_check_decls.proofs.ListLaws.{Leads, leads_done, leads_on}
 use Rattle.wdl_check_flow.specs.Calls.{after_typed, arguments_behind, call_to, call_typed, call_with, next_argument, required_given, stated_call, target_span}
 use Rattle.wdl_check_flow.specs.Targets.{Offer, Place, target_of}
-use Rattle.wdl_check_flow.proofs.ListLaws.{drop_item}
+use Rattle.wdl_check_rules.proofs.MemberLaws.{at_front as drop_item}
 
 pub names_pushed : (as_ : List (TField TExpr)) (a : TField TExpr) → arg_names (as_ ++ a ∷ []) ≡ arg_names as_ ++ a.name ∷ []
 names_pushed [] a = refl

@@ -1,11 +1,11 @@
 -- How much a statement has inside: more than each statement of a body in it.
 use Rattle.std.proofs.Common.{◌≡◌, ℕ, zero, suc, ◌+◌, ◌≤◌, List, [], ◌∷◌, Some, map, slice_get, sym, ap, ◌∙◌, arith}
+use Rattle.std.proofs.lemmas.Option.{same_Some}
 use Rattle.wdl_ast.specs.declared.workflow.Conditional.{Conditional}
 use Rattle.wdl_ast.specs.declared.workflow.Scatter.{Scatter}
 use Rattle.wdl_ast.specs.declared.workflow.Statement.{Statement, Statement-F, fold-Statement, fold-roll-Statement}
 use Rattle.wdl_ast.specs.declared.workflow.Statement.TheOpen as layer
 use Rattle.wdl_ast.specs.declared.workflow.Statement.TheVariants as form
-use Rattle.wdl_check_flow.proofs.OutcomeParts.{some_is}
 
 abbrev pub total : List ℕ → ℕ
 total [] = 0
@@ -33,5 +33,5 @@ inside_conditional i = ap inside (sym (form.rolls-Conditional i)) ∙ fold-roll-
 
 pub inside_one : (ss : List Statement) (i : ℕ) (s : Statement) → slice_get ss i ≡ Some s → inside s ≤ inside_all ss
 inside_one [] i s e = cc
-inside_one (x ∷ ss) zero s e = let k : inside x ≡ inside s = ap inside (some_is x s e) in omega (arith, k)
+inside_one (x ∷ ss) zero s e = let k : inside x ≡ inside s = ap inside (same_Some x s e) in omega (arith, k)
 inside_one (x ∷ ss) (suc i) s e = let k = inside_one ss i s e in omega (arith, k)

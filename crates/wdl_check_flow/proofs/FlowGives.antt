@@ -1,6 +1,7 @@
 -- A workflow that is typed is well typed over the library, and what calls see of it is what it has.
 use Rattle.std.proofs.Common.{◌≡◌, ℕ, List, [], ◌∷◌, ◌++◌, Some, map, refl, sym, ap, ◌∙◌, subst}
 use Rattle.std.proofs.lemmas.List.{map-append}
+use Rattle.std.proofs.lemmas.Option.{same_Some}
 use Rattle.wdl_value.specs.declared.ty.Member.{Member}
 use Rattle.wdl_value.specs.declared.ty.Ty.{Ty}
 use Rattle.wdl_ast.specs.declared.section.Declaration.{Declaration}
@@ -30,7 +31,7 @@ use Rattle.wdl_check_flow.specs.Laws.{FlowsTyped, HeadsFit, flow_of, member_of}
 use Rattle.wdl_check_flow.specs.Sections.{inputs_of, outputs_of, statements_of}
 use Rattle.wdl_check_flow.specs.Targets.{Place, world_at}
 use Rattle.wdl_check_flow.proofs.BodyGives.{body_well}
-use Rattle.wdl_check_flow.proofs.OutcomeParts.{some_is, then_some}
+use Rattle.wdl_check_decls.proofs.WellTyped.{then_some}
 
 -- ---- what was typed of a head and of the rest
 
@@ -44,7 +45,7 @@ headed w f h e =
     let q = then_some (shape_typed (inputs_of f.elements) (statements_of f.elements) (outputs_of f.elements)) (λ _. then_ (inputs_typed w (inputs_of f.elements)) (λ is. then_ (results_typed w (outputs_of f.elements)) (λ os. done (head is os)))) h e in
     let r = then_some (inputs_typed w (inputs_of f.elements)) (λ is. then_ (results_typed w (outputs_of f.elements)) (λ os. done (head is os))) h q.2 in
     let s = then_some (results_typed w (outputs_of f.elements)) (λ os. done (head r.0 os)) h r.2 in
-    subst (Headed w f) (some_is (head r.0 s.0) h s.2) (record { shape = q.1; inputs = r.1; outputs = s.1 })
+    subst (Headed w f) (same_Some (head r.0 s.0) h s.2) (record { shape = q.1; inputs = r.1; outputs = s.1 })
 
 pub record Rested (p : Place) (inputs : List TInput) (f : Workflow) (r : FlowRest) : Type 0 where
   pub given : Seen
@@ -55,13 +56,13 @@ pub rested : (p : Place) (inputs : List TInput) (f : Workflow) (r : FlowRest) �
 rested p inputs f r e =
     let q = then_some (statements_typed p (statements_of f.elements) (inputs_seen inputs)) (λ (b : Typed_body). then_ (decls_typed Body (world_at p b.given) (inputs_bound inputs ++ b.given.names) (outputs_of f.elements)) (λ os. done (record { body = b.statements; outputs = os }))) r e in
     let s = then_some (decls_typed Body (world_at p q.0.given) (inputs_bound inputs ++ q.0.given.names) (outputs_of f.elements)) (λ os. done (record { body = q.0.statements; outputs = os })) r q.2 in
-    subst (Rested p inputs f) (some_is (record { body = q.0.statements; outputs = s.0 }) r s.2) (record { given = q.0.given; body = q.1; outputs = s.1 })
+    subst (Rested p inputs f) (same_Some (record { body = q.0.statements; outputs = s.0 }) r s.2) (record { given = q.0.given; body = q.1; outputs = s.1 })
 
 -- ---- outputs as calls see them
 
 same_results : (w : World) (calls : List (List ℕ)) (names : List Bound) (ds : List Declaration) (befores : List TDecl) (before : List Member) (ts : List TDecl) (ms : List Member)
     → map member_of befores ≡ before → (decls_behind Body (with_calls w calls) names befores ds).typed ≡ Some ts → (results_behind w before ds).typed ≡ Some ms → map member_of ts ≡ ms
-same_results w calls names [] befores before ts ms is d r = ap (map member_of) (sym (some_is befores ts d)) ∙ is ∙ some_is before ms r
+same_results w calls names [] befores before ts ms is d r = ap (map member_of) (sym (same_Some befores ts d)) ∙ is ∙ same_Some before ms r
 same_results w calls names (x ∷ ds) befores before ts ms is d r =
     let seen = names ++ well.decls_bound befores in
     let q = then_some (decl_typed Body (with_calls w calls) seen x) (λ t. decls_behind Body (with_calls w calls) names (befores ++ t ∷ []) ds) ts d in
@@ -70,9 +71,9 @@ same_results w calls names (x ∷ ds) befores before ts ms is d r =
     let s = then_some (result_typed w x) (λ m. results_behind w (before ++ m ∷ []) ds) ms r in
     let t = then_some (written w.locals x.ty) (λ t. done (record { name = x.name.name; ty = t })) s.0 s.1 in
     let same : member_of q.0 ≡ s.0 =
-    ap member_of (sym (some_is (declared x u.0 v.0) q.0 v.2))
-    ∙ ap (λ (z : Ty). record { name = x.name.name; ty = z }) (some_is u.0 t.0 (sym u.1 ∙ t.1))
-    ∙ some_is (record { name = x.name.name; ty = t.0 }) s.0 t.2 in
+    ap member_of (sym (same_Some (declared x u.0 v.0) q.0 v.2))
+    ∙ ap (λ (z : Ty). record { name = x.name.name; ty = z }) (same_Some u.0 t.0 (sym u.1 ∙ t.1))
+    ∙ same_Some (record { name = x.name.name; ty = t.0 }) s.0 t.2 in
     same_results w calls names ds (befores ++ q.0 ∷ []) (before ++ s.0 ∷ []) ts ms
     (map-append member_of befores (q.0 ∷ []) ∙ ap (λ (zs : List Member). zs ++ member_of q.0 ∷ []) is ∙ ap (λ (z : Member). before ++ z ∷ []) same) q.2 s.2
 
@@ -83,7 +84,7 @@ outputs_fit w calls names ds ts ms d r =
     let q = then_some o (λ ps. decls_behind Body (with_calls w calls) names [] (picked ds ps)) ts d in
     let s = then_some o (λ ps. results_behind w [] (picked ds ps)) ms r in
     same_results w calls names (picked ds q.0) [] [] ts ms refl q.2
-    (subst (λ (ps : List ℕ). (results_behind w [] (picked ds ps)).typed ≡ Some ms) (some_is s.0 q.0 (sym s.1 ∙ q.1)) s.2)
+    (subst (λ (ps : List ℕ). (results_behind w [] (picked ds ps)).typed ≡ Some ms) (same_Some s.0 q.0 (sym s.1 ∙ q.1)) s.2)
 
 pub heads_fit : HeadsFit
 heads_fit p f h r e g =

@@ -4,6 +4,7 @@ use Rattle.std.specs.Prelude.{if◌then◌else◌}
 use Rattle.std.specs.List.{AllByRecursion}
 use Rattle.std.specs.Str.{bytes_eq}
 use Rattle.std.proofs.lemmas.Bool.{and_from, not_from_false, or_from, or_parts}
+use Rattle.std.proofs.lemmas.Option.{same_Some}
 use Rattle.wdl_base.specs.declared.span.Span.{Span}
 use Rattle.wdl_ast.specs.declared.leaf.Ident.{Ident}
 use Rattle.wdl_ast.specs.declared.workflow.Statement.{Statement as Written, Statement-F, fold-roll-Statement, map-Statement, roll-Statement}
@@ -29,7 +30,6 @@ use Rattle.wdl_check_flow.proofs.FlowGives.{rested}
 use Rattle.wdl_check_flow.proofs.FlowNames.{flow_fewer, next_none, unrepeated}
 use Rattle.wdl_check_flow.proofs.FlowShape.{BodyOf, Fits, Forms, Pairs, labelled, statements_fit}
 use Rattle.wdl_check_flow.proofs.Occurrences.{fewer_none}
-use Rattle.wdl_check_flow.proofs.OutcomeParts.{some_is}
 
 -- ---- names
 
@@ -70,7 +70,7 @@ all_free (n ∷ ns) (w ∷ ws) words h =
 
 each_at : {A : Type 0} (P : A → Type 0) (xs : List A) (i : ℕ) (x : A) → AllByRecursion P xs → slice_get xs i ≡ Some x → P x
 each_at P [] i x all e = cc
-each_at P (y ∷ xs) zero x all e = subst P (some_is y x e) all.0
+each_at P (y ∷ xs) zero x all e = subst P (same_Some y x e) all.0
 each_at P (y ∷ xs) (suc i) x all e = each_at P xs i x all.1 e
 
 all_picked : {A : Type 0} (P : A → Type 0) (xs : List A) (ps : List ℕ) → AllByRecursion P xs → AllByRecursion P (picked xs ps)

@@ -3,6 +3,7 @@ use Rattle.std.proofs.Common.{◌≡◌, ℕ, Bool, true, false, not, ◌+◌, L
 use Rattle.std.specs.Prelude.{if◌then◌else◌}
 use Rattle.std.proofs.lemmas.Bool.{and_from, not_from_false}
 use Rattle.std.proofs.lemmas.List.{length-map, map-append}
+use Rattle.std.proofs.lemmas.Option.{same_Some}
 use Rattle.wdl_base.specs.declared.span.Span.{Span}
 use Rattle.wdl_ast.specs.declared.leaf.Ident.{Ident}
 use Rattle.wdl_ast.specs.declared.section.Declaration.{Declaration}
@@ -45,8 +46,8 @@ use Rattle.wdl_check_flow.proofs.FlowShape.{Forms, decl_name, statements_fit}
 use Rattle.wdl_check_flow.proofs.ListLaws.{map-map}
 use Rattle.wdl_check_flow.proofs.Occurrences.{Fewer, fewer_distinct, occurs, occurs-append, once}
 use Rattle.wdl_check_flow.proofs.Orders.{order_sum, sum-append}
-use Rattle.wdl_check_flow.proofs.OutcomeParts.{some_is, then_some}
 use Rattle.wdl_check_flow.proofs.Weights.{Weighs, body_weighs}
+use Rattle.wdl_check_decls.proofs.WellTyped.{then_some}
 
 -- ---- written names
 
@@ -119,7 +120,7 @@ module _ {D T : Type 0} (step : List T → D → Outcome T) (behind : List T →
     (f : D → ℕ) (g : T → ℕ) (same : (before : List T) (d : D) (t : T) → (step before d).typed ≡ Some t → f d ≡ g t) where
   behind_sum : (ds : List D) (before ts : List T) → (behind before ds).typed ≡ Some ts → sum_of (map g ts) ≡ sum_of (map g before) + sum_of (map f ds)
   behind_sum [] before ts h =
-      let e : before ≡ ts = some_is before ts (ap (λ (o : Outcome (List T)). o.typed) (sym (nothing before)) ∙ h) in
+      let e : before ≡ ts = same_Some before ts (ap (λ (o : Outcome (List T)). o.typed) (sym (nothing before)) ∙ h) in
       omega (arith, ap (λ (xs : List T). sum_of (map g xs)) e)
   behind_sum (d ∷ ds) before ts h =
       let q = then_some (step before d) (λ t. behind (before ++ t ∷ []) ds) ts (ap (λ (o : Outcome (List T)). o.typed) (sym (more before d ds)) ∙ h) in
@@ -135,7 +136,7 @@ input_name : (w : World) (names : List Bound) (i : InputDeclaration) (t : TInput
 input_name w names i t h =
     let q = then_some (written w.locals i.ty) (input_as w names i) t h in
     let r = then_some (preset_typed w names q.0 i.preset) (λ v. done (input i q.0 v)) t q.2 in
-    ap (λ (z : TInput). z.name) (some_is (input i q.0 r.0) t r.2)
+    ap (λ (z : TInput). z.name) (same_Some (input i q.0 r.0) t r.2)
 
 inputs_same : (name : List ℕ) (w : World) (is : List InputDeclaration) (ts : List TInput) → (inputs_typed w is).typed ≡ Some ts
     → occurs name (input_names ts) ≡ occurs name (words_of (map (λ (i : InputDeclaration). i.name) is))

@@ -1,7 +1,7 @@
 -- What is typed of a statement has its form, and what is typed of a body has its statements in an order: a relation that goes
 -- from the statements of a body to the block round it holds of each written statement and what is typed of it.
 use Rattle.std.proofs.Common.{◌≡◌, ℕ, suc, List, [], ◌∷◌, ◌++◌, Option, Some, None, option_map, length, map, slice_get, append_assoc, append-nil, refl, ap, sym, ◌∙◌, subst}
-use Rattle.std.proofs.lemmas.Option.{slice_get-map}
+use Rattle.std.proofs.lemmas.Option.{slice_get-map, same_Some}
 use Rattle.wdl_base.specs.declared.span.Span.{Span}
 use Rattle.wdl_ast.specs.declared.section.Declaration.{Declaration}
 use Rattle.wdl_ast.specs.declared.workflow.Call.{Call}
@@ -39,7 +39,7 @@ use Rattle.wdl_check_flow.specs.Numbers.{counted, numbers_after, numbers_of}
 use Rattle.wdl_check_flow.specs.Targets.{Offer, Place, target_of, world_at}
 use Rattle.wdl_check_flow.proofs.Forms.{typed_roll}
 use Rattle.wdl_check_flow.proofs.Orders.{order_sum}
-use Rattle.wdl_check_flow.proofs.OutcomeParts.{some_is, then_some}
+use Rattle.wdl_check_decls.proofs.WellTyped.{then_some}
 
 -- ---- lists
 
@@ -115,14 +115,14 @@ pub decl_name : (w : World) (names : List Bound) (d : Declaration) (t : TDecl) �
 decl_name w names d t h =
     let q = then_some (written w.locals d.ty) (λ u. then_ (value_typed Body w names d.value u) (λ e. done (declared d u e))) t h in
     let r = then_some (value_typed Body w names d.value q.0) (λ e. done (declared d q.0 e)) t q.2 in
-    ap (λ (z : TDecl). z.name) (some_is (declared d q.0 r.0) t r.2)
+    ap (λ (z : TDecl). z.name) (same_Some (declared d q.0 r.0) t r.2)
 
 call_name : (p : Place) (seen : Seen) (o : Offer) (c : Call) (t : TCall) → (call_to p seen o c).typed ≡ Some t → (call_ident c).name ≡ t.name
 call_name p seen o c t h =
     let q = then_some (arguments_behind p seen o [] (call_arguments c)) (λ args. then_ (required_given (call_span c) o (arg_names args)) (λ _. then_ (after_typed seen c.after) (λ after. done (call_with c o args after)))) t h in
     let r = then_some (required_given (call_span c) o (arg_names q.0)) (λ _. then_ (after_typed seen c.after) (λ after. done (call_with c o q.0 after))) t q.2 in
     let s = then_some (after_typed seen c.after) (λ after. done (call_with c o q.0 after)) t r.2 in
-    ap (λ (z : TCall). z.name) (some_is (call_with c o q.0 s.0) t s.2)
+    ap (λ (z : TCall). z.name) (same_Some (call_with c o q.0 s.0) t s.2)
 
 -- ---- statements
 
@@ -154,7 +154,7 @@ module _ (p : Place) (R : Relation) (forms : Forms R) where
   behind_fits : (ls : List (ℕ × Known)) (seen : Seen) (front : List (ℕ × Written)) (before : List Statement) (given : Seen) (b : Typed_body)
       → Pairs (Fits R) front before → (behind seen before given (map checked ls)).typed ≡ Some b → Pairs (Fits R) (front ++ map plain ls) b.statements
   behind_fits [] seen front before given b fits h =
-      subst (λ (z : Typed_body). Pairs (Fits R) (front ++ []) z.statements) (some_is (record { statements = before; given = given }) b h)
+      subst (λ (z : Typed_body). Pairs (Fits R) (front ++ []) z.statements) (same_Some (record { statements = before; given = given }) b h)
       (subst (λ (ws : List (ℕ × Written)). Pairs (Fits R) ws before) (sym (append-nil front)) fits)
   behind_fits (l ∷ ls) seen front before given b fits h =
       let q = then_some (statement_typed p (bare l.1) l.0 (with_more seen given)) (λ (s : Stated). behind seen (before ++ s.statement ∷ []) (with_more given s.given) (map checked ls)) b h in
@@ -186,26 +186,26 @@ module _ (p : Place) (R : Relation) (forms : Forms R) where
       → R (roll-Statement (map-Statement Known Written bare y)) number x.statement
   layer_fits (layer.Declaration d) number seen x h =
       let q = then_some (decl_typed Body (world_at p seen) seen.names d) (λ t. done (decl_stated t)) x h in
-      subst (λ (z : Stated). R (roll-Statement (layer.Declaration d)) number z.statement) (some_is (decl_stated q.0) x q.2)
+      subst (λ (z : Stated). R (roll-Statement (layer.Declaration d)) number z.statement) (same_Some (decl_stated q.0) x q.2)
       (forms.declaration d number q.0 (decl_name (world_at p seen) seen.names d q.0 q.1))
   layer_fits (layer.Call c) number seen x h =
       let q = then_some (or_refused 322 (target_span c.target) (target_of p.reach c.target)) (λ (o : Offer). then_ (call_to p seen o c) (λ (t : TCall). done (stated_call o t))) x h in
       let r = then_some (call_to p seen q.0 c) (λ (t : TCall). done (stated_call q.0 t)) x q.2 in
-      subst (λ (z : Stated). R (roll-Statement (layer.Call c)) number z.statement) (some_is (stated_call q.0 r.0) x r.2)
+      subst (λ (z : Stated). R (roll-Statement (layer.Call c)) number z.statement) (same_Some (stated_call q.0 r.0) x r.2)
       (forms.call c number r.0 (call_name p seen q.0 c r.0 r.1))
   layer_fits (layer.Scatter s) number seen x h =
       let body : List Part = map (with_typing p) (map bare s.body) in
       let span = joined s.keyword s.closing in
       let q = then_some (collection_typed p seen s.over) (λ (c : Collection). then_ (body_typed body (with_item seen s.item.name c.item)) (λ b. done (scatter_stated number s.item.name span c b))) x h in
       let r = then_some (body_typed body (with_item seen s.item.name q.0.item)) (λ b. done (scatter_stated number s.item.name span q.0 b)) x q.2 in
-      subst (λ (z : Stated). R (roll-Statement (map-Statement Known Written bare (layer.Scatter s))) number z.statement) (some_is (scatter_stated number s.item.name span q.0 r.0) x r.2)
+      subst (λ (z : Stated). R (roll-Statement (map-Statement Known Written bare (layer.Scatter s))) number z.statement) (same_Some (scatter_stated number s.item.name span q.0 r.0) x r.2)
       (forms.scatter _ number span q.0.expr r.0.statements (body_fits s.body (with_item seen s.item.name q.0.item) r.0 r.1))
   layer_fits (layer.Conditional i) number seen x h =
       let body : List Part = map (with_typing p) (map bare i.body) in
       let span = joined i.keyword i.closing in
       let q = then_some (condition_typed p seen i.condition) (λ e. then_ (body_typed body seen) (λ b. done (condition_stated number span e b))) x h in
       let r = then_some (body_typed body seen) (λ b. done (condition_stated number span q.0 b)) x q.2 in
-      subst (λ (z : Stated). R (roll-Statement (map-Statement Known Written bare (layer.Conditional i))) number z.statement) (some_is (condition_stated number span q.0 r.0) x r.2)
+      subst (λ (z : Stated). R (roll-Statement (map-Statement Known Written bare (layer.Conditional i))) number z.statement) (same_Some (condition_stated number span q.0 r.0) x r.2)
       (forms.conditional _ number span q.0 r.0.statements (body_fits i.body seen r.0 r.1))
 
   statement_fits : (s : Written) → Holds s

@@ -1,5 +1,6 @@
 -- What typed statements give out, form by form and one behind the other.
 use Rattle.std.proofs.Common.{◌≡◌, List, [], ◌∷◌, ◌++◌, Some, option_and_then, sym, ap, ◌∙◌}
+use Rattle.std.proofs.lemmas.Option.{same_Some}
 use Rattle.wdl_value.specs.declared.ty.Ty.{Ty, out-Ty}
 use Rattle.wdl_typed.specs.declared.flow.Statement.{Statement, Statement-F, fold-roll-Statement, map-Statement, roll-Statement}
 use Rattle.wdl_typed.specs.declared.flow.Statement.TheVariants as form
@@ -10,8 +11,8 @@ use Rattle.wdl_typed.specs.declared.task.TDecl.{TDecl}
 use Rattle.wdl_typed.specs.Bodies.{Giving, Library, Seen, body_gives, call_step, decl_step, gives, if_over, joined, scatter_over, statement_step}
 use Rattle.wdl_typed.specs.Declarations.{in_body}
 use Rattle.wdl_check_flow.specs.Given.{nothing}
-use Rattle.wdl_check_flow.proofs.OutcomeParts.{and_some, some_is}
 use Rattle.wdl_check_flow.proofs.SeenLaws.{joined-assoc, joined_nothing}
+use Rattle.wdl_base.proofs.Options.{then_parts}
 
 gives_at : (lib : Library) (s : Statement) (y : Statement-F Statement) (seen : Seen) → roll-Statement y ≡ s → gives lib s seen ≡ statement_step lib (map-Statement Statement Giving (gives lib) y) seen
 gives_at lib s y seen is =
@@ -34,13 +35,13 @@ gives_if lib i seen = gives_at lib _ _ seen (form.rolls-If i)
 pub gives_pushed : (lib : Library) (xs : List Statement) (s : Statement) (seen given more : Seen)
     → body_gives lib xs seen ≡ Some given → gives lib s (joined seen given) ≡ Some more → body_gives lib (xs ++ s ∷ []) seen ≡ Some (joined given more)
 gives_pushed lib [] s seen given more h g =
-    let e : nothing ≡ given = some_is nothing given h in
+    let e : nothing ≡ given = same_Some nothing given h in
     ap (option_and_then (λ (f : Seen). Some (joined f nothing))) (ap (gives lib s) (sym (joined_nothing seen) ∙ ap (joined seen) e) ∙ g)
     ∙ ap Some (joined_nothing more ∙ ap (λ z. joined z more) e)
 gives_pushed lib (x ∷ xs) s seen given more h g =
-    let q = and_some (λ (first : Seen). option_and_then (λ (rest : Seen). Some (joined first rest)) (body_gives lib xs (joined seen first))) (gives lib x seen) given h in
-    let r = and_some (λ (rest : Seen). Some (joined q.0 rest)) (body_gives lib xs (joined seen q.0)) given q.2 in
-    let e : joined q.0 r.0 ≡ given = some_is (joined q.0 r.0) given r.2 in
+    let q = then_parts (λ (first : Seen). option_and_then (λ (rest : Seen). Some (joined first rest)) (body_gives lib xs (joined seen first))) (gives lib x seen) given h in
+    let r = then_parts (λ (rest : Seen). Some (joined q.0 rest)) (body_gives lib xs (joined seen q.0)) given q.2 in
+    let e : joined q.0 r.0 ≡ given = same_Some (joined q.0 r.0) given r.2 in
     let later = gives_pushed lib xs s (joined seen q.0) r.0 more r.1 (ap (gives lib s) (joined-assoc seen q.0 r.0 ∙ ap (joined seen) e) ∙ g) in
     ap (option_and_then (λ (first : Seen). option_and_then (λ (rest : Seen). Some (joined first rest)) (body_gives lib (xs ++ s ∷ []) (joined seen first)))) q.1
     ∙ ap (option_and_then (λ (rest : Seen). Some (joined q.0 rest))) later

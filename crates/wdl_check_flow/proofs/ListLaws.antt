@@ -1,16 +1,10 @@
 -- Lists that are gone through from the front or the back.
-use Rattle.std.proofs.Common.{◌≡◌, ℕ, suc, ◌+◌, ◌<◌, List, [], ◌∷◌, ◌++◌, Some, None, option_map, Bor, length, get_or, slice_get, take, drop, map, refl, sym, ap, ◌∙◌, arith, append_assoc, drop-cons}
+use Rattle.std.proofs.Common.{◌≡◌, ℕ, ◌+◌, ◌<◌, List, [], ◌∷◌, ◌++◌, Some, None, option_map, Bor, length, get_or, slice_get, take, drop, map, refl, sym, ap, ◌∙◌, append_assoc}
 use Rattle.std.specs.Prelude.{reverse}
 use Rattle.std.specs.Slice.{IsItemAt}
 use Rattle.std.proofs.lemmas.Option.{slice_get-map, slice_get_past, slice_get_read}
 use Rattle.std.proofs.lemmas.List.{get_or_default, reverse-append}
 use Rattle.std.proofs.Math.Seq.{drop-append_seam, take-append_seam}
-
--- the first one is where the list goes on
-pub drop_item : {A : Type 0} (xs : List A) (i : ℕ) (x : A) → i < length xs → x ≡ get_or xs i x → drop i xs ≡ x ∷ drop (i + 1) xs
-drop_item {A} xs i x within is =
-    let next : suc i ≡ i + 1 = omega arith in
-    drop-cons xs i x within ∙ ap (λ (y : A). y ∷ drop (suc i) xs) (sym is) ∙ ap (λ j. x ∷ drop j xs) next
 
 pub map-map : {A B C : Type 0} (f : A → B) (g : B → C) (xs : List A) → map g (map f xs) ≡ map (λ (a : A). g (f a)) xs
 map-map f g [] = refl
@@ -45,9 +39,6 @@ there xs i x h = slice_get_read xs (length xs) i x.now refl h.3.0 h.1
 
 pub mapped_none : {X Y : Type 0} (f : X → Y) (xs : List X) (i : ℕ) → slice_get xs i ≡ None → slice_get (map f xs) i ≡ None
 mapped_none f xs i e = slice_get-map f xs i ∙ ap (option_map f) e
-
-pub mapped_some : {X Y : Type 0} (f : X → Y) (xs : List X) (i : ℕ) (x : X) → slice_get xs i ≡ Some x → slice_get (map f xs) i ≡ Some (f x)
-mapped_some f xs i x e = slice_get-map f xs i ∙ ap (option_map f) e
 
 pub position_read : (ps : List ℕ) (i : ℕ) → i < length ps → get_or ps i 0 ≡ get_or ps i (get_or ps i 0)
 position_read ps i within = get_or_default ps i 0 (get_or ps i 0) within

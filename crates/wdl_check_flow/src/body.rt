@@ -172,7 +172,8 @@ fn check_statement(
     }
 }
 
-/// The body of a block: statements in their dependency order, each of which sees what those give that stand before it.
+/// The body of a block: statements in their dependency order, each of which sees what those give
+/// that stand before it.
 #[cycle(bodies)]
 fn check_block(
     alloc: Global,
@@ -198,8 +199,9 @@ fn check_block(
     Ok(done)
 }
 
-/// The statements of a workflow in their dependency order. Each sees what those give that stand before it in this order;
-/// what all give is added to what is seen (OpenWDL 1.1, "Workflow Definition").
+/// The statements of a workflow in their dependency order. Each sees what those give that stand
+/// before it in this order; what all give is added to what is seen (OpenWDL 1.1, "Workflow
+/// Definition").
 pub fn check_body(
     alloc: Global,
     context: &Context,

@@ -4,7 +4,8 @@ use wdl_names::{Indexed, Named};
 use wdl_typed::{TInput, Target};
 use wdl_value::{Member, Name};
 
-/// A task or a workflow that a call may name, with its inputs, and the names and types of its outputs in their order.
+/// A task or a workflow that a call may name, with its inputs, and the names and types of its
+/// outputs in their order.
 #[derive(Clone, Copy)]
 pub struct Callable<'a> {
     pub name: &'a Name,
@@ -36,8 +37,8 @@ impl Named for Namespace<'_> {
     }
 }
 
-/// What the calls of a document may name: its own tasks, and those of its imports with their workflows (OpenWDL 1.1,
-/// "Call Statement").
+/// What the calls of a document may name: its own tasks, and those of its imports with their
+/// workflows (OpenWDL 1.1, "Call Statement").
 #[derive(Clone, Copy)]
 pub struct Targets<'a> {
     pub own: &'a Indexed<'a, Callable<'a>>,

@@ -11,7 +11,8 @@ use wdl_check_types::call_ident;
 use wdl_names::Words;
 use wdl_value::{NoMemory, Span};
 
-/// Puts the names of the declarations and calls of a statement, and of the bodies in it, behind the others.
+/// Puts the names of the declarations and calls of a statement, and of the bodies in it, behind the
+/// others.
 #[cycle(declared)]
 fn push_declared<'a>(statement: &'a Statement, idents: &mut Vec<&'a Ident>) -> Result<(), NoMemory>
     ensures { OnOk result (map (λ n. n.now) idents.new.items ≡ map (λ n. n.now) idents.old.items ++ spec.declared statement.now) }

@@ -24,7 +24,8 @@ use wdl_names::{Names, Words};
 use wdl_typed::{Statement, TDecl, TInput};
 use wdl_value::{Items, Member, NoMemory};
 
-/// What calls of a workflow see: its inputs, and the names and types of its outputs, in their dependency order.
+/// What calls of a workflow see: its inputs, and the names and types of its outputs, in their
+/// dependency order.
 #[derive(Drop)]
 pub struct FlowHead {
     pub inputs: Items<TInput>,
@@ -90,8 +91,9 @@ fn check_head_inputs(
     check_inputs(alloc, seeing, &mut names, list)
 }
 
-/// What calls of a workflow see (OpenWDL 1.1, "Workflow Definition"). `Bad` comes with 328 where more than 24 blocks and
-/// calls stand in one another, with 321 where a name stands twice, and with the codes of inputs and of written types.
+/// What calls of a workflow see (OpenWDL 1.1, "Workflow Definition"). `Bad` comes with 328 where
+/// more than 24 blocks and calls stand in one another, with 321 where a name stands twice, and with
+/// the codes of inputs and of written types.
 pub fn check_head(
     alloc: Global,
     seeing: &Seeing,
@@ -120,7 +122,8 @@ fn inputs_seen(alloc: Global, inputs: &[TInput]) -> Result<Visible, NoMemory>
     Ok(visible)
 }
 
-/// The statements of a workflow, and its outputs, which see the inputs and what the statements give out.
+/// The statements of a workflow, and its outputs, which see the inputs and what the statements give
+/// out.
 pub fn check_rest(
     alloc: Global,
     context: &Context,

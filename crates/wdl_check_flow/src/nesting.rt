@@ -8,8 +8,8 @@ use wdl_check_types::statement_span;
 use wdl_depths::MOST_BLOCKS;
 use wdl_value::Span;
 
-/// Where a block or a call stands with more than `most` blocks and calls on the way to it, itself counted. The calls of
-/// workflows count as one here.
+/// Where a block or a call stands with more than `most` blocks and calls on the way to it, itself
+/// counted. The calls of workflows count as one here.
 #[cycle(nesting)]
 fn first_too_deep(body: &[Statement], most: usize) -> Option<Span>
     ensures { result ≡ spec.first_deep (map spec.too_deep body.now) most }
@@ -40,7 +40,8 @@ fn too_deep(statement: &Statement, most: usize) -> Option<Span>
     }
 }
 
-/// Where the first block or call of a workflow stands with too many blocks and calls on the way to it.
+/// Where the first block or call of a workflow stands with too many blocks and calls on the way to
+/// it.
 pub fn deepest(statements: &[&Statement]) -> Option<Span>
     ensures { result ≡ spec.first_deep (map spec.too_deep (map (λ s. s.now) statements.now)) 24 }
 {

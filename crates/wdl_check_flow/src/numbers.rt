@@ -37,7 +37,8 @@ impl Counts {
     }
 }
 
-/// The numbers of the statements of a body: blocks of one kind are counted from 0 in the order of the text.
+/// The numbers of the statements of a body: blocks of one kind are counted from 0 in the order of
+/// the text.
 pub fn numbers_of(alloc: Global, body: &[&Statement]) -> Result<Items<u32>, NoMemory>
     ensures { IfOk result (λ ns. ns ≡ spec.numbers_of (map (λ s. s.now) body.now)) }
 {

@@ -155,7 +155,8 @@ impl Visible {
         Ok(())
     }
 
-    /// What a block gives out: the first `kept` names stay, and those behind the first `from` ones are gathered.
+    /// What a block gives out: the first `kept` names stay, and those behind the first `from` ones
+    /// are gathered.
     pub fn gather(
         &mut self,
         alloc: Global,

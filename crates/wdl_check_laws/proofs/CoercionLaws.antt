@@ -2,6 +2,7 @@
 use Rattle.std.proofs.Common.{◌≡◌, Bool, true, false, ◌&&◌, ◌||◌, Option, Some, None, option_map, option_and_then, refl, ap, sym, ◌∙◌, subst, if◌then◌else◌}
 use Rattle.std.proofs.lemmas.Bool.{false≢true, and_parts, and_from}
 use Rattle.std.proofs.lemmas.Slice.Eq.{bytes_eq-Decides}
+use Rattle.std.proofs.lemmas.Option.{same_Some}
 use Rattle.wdl_value.specs.declared.ty.Ty.{Ty, Ty-F, out-Ty, roll-Ty, roll-out-Ty, out-roll-Ty, map-Ty, ind-Ty, fold_out-Ty}
 use Rattle.wdl_value.specs.declared.ty.Ty.TheVariants as ty
 use Rattle.wdl_value.specs.declared.ty.Ty.TheOpen as type
@@ -11,6 +12,7 @@ use Rattle.wdl_value.specs.Join.{Joiner, join, join_at, join_out, opt_join, mark
 use Rattle.wdl_value.specs.Kinds.{absent_at, empty_at, is_text, str_at, file_at}
 use Rattle.wdl_value.specs.SameType.{TypeTest, same_type}
 use Rattle.wdl_value.proofs.SameTypeLemmas.{same_type-true, same_type-refl}
+use Rattle.wdl_base.proofs.Options.{map_parts}
 
 -- ---- induction by one layer
 
@@ -46,17 +48,10 @@ plain_layer type.Absent = false
 plain_layer type.Empty = false
 plain_layer x = true
 
-some_is : {A : Type 0} (a b : A) → Some a ≡ Some b → a ≡ b
-some_is a b h = cc
-
-pub map_some : {A B : Type 0} (f : A → B) (o : Option A) (b : B) → option_map f o ≡ Some b → (a : A) × (o ≡ Some a) × (f a ≡ b)
-map_some f None b h = cc
-map_some f (Some a) b h = (a, refl, some_is (f a) b h)
-
 two_some : {A B C : Type 0} (f : A → B → C) (o : Option A) (u : Option B) (c : C) → option_and_then (λ a. option_map (f a) u) o ≡ Some c → (a : A) × (b : B) × (o ≡ Some a) × (u ≡ Some b) × (f a b ≡ c)
 two_some f None u c h = cc
 two_some f (Some a) None c h = cc
-two_some f (Some a) (Some b) c h = (a, b, refl, refl, some_is (f a b) c h)
+two_some f (Some a) (Some b) c h = (a, b, refl, refl, same_Some (f a b) c h)
 
 -- ---- coercions by layers
 
@@ -160,22 +155,22 @@ right_other : (t b m : Ty) → other_join t b ≡ Some m → coerces b m ≡ tru
 right_other t b m h = by_same (same_type t b) refl h
   where
     by_text : (c d : Bool) → is_text b ≡ d → (if c && d then Some ty.Str else None) ≡ Some m → coerces b m ≡ true
-    by_text true true e h = subst (λ (i : Ty). coerces b i ≡ true) (some_is ty.Str m h) (text_to_str b (out-Ty b) refl e)
+    by_text true true e h = subst (λ (i : Ty). coerces b i ≡ true) (same_Some ty.Str m h) (text_to_str b (out-Ty b) refl e)
     by_text true false e h = cc
     by_text false d e h = cc
 
     by_same : (c : Bool) → same_type t b ≡ c → (if c then Some t else (if is_text t && is_text b then Some ty.Str else None)) ≡ Some m → coerces b m ≡ true
-    by_same true e h = subst (λ (i : Ty). coerces b i ≡ true) (sym (same_type-true t b e) ∙ some_is t m h) (coerces-refl b)
+    by_same true e h = subst (λ (i : Ty). coerces b i ≡ true) (sym (same_type-true t b e) ∙ same_Some t m h) (coerces-refl b)
     by_same false e h = by_text (is_text t) (is_text b) refl h
 
 right_rest : (t b m : Ty) (z : Ty-F Ty) → out-Ty b ≡ z → (if empty_at z then Some t else (if absent_at z then Some (ty.Opt t) else other_join t b)) ≡ Some m → coerces b m ≡ true
 right_rest t b m type.Empty is h = co_empty b m is
-right_rest t b m type.Absent is h = subst (λ (i : Ty). coerces b i ≡ true) (some_is (ty.Opt t) m h) (co_absent b (ty.Opt t) is ∙ ap takes_absent (ty.outs-Opt t))
+right_rest t b m type.Absent is h = subst (λ (i : Ty). coerces b i ≡ true) (same_Some (ty.Opt t) m h) (co_absent b (ty.Opt t) is ∙ ap takes_absent (ty.outs-Opt t))
 right_rest t b m z is h = right_other t b m h
 
 right_array : (k : Known Right) (some : Bool) (t b m : Ty) (z : Ty-F Ty) → out-Ty b ≡ z → (if empty_at z then Some t else (if absent_at z then Some (ty.Opt t) else parts_join t (type.Array (join k.0) some) b z)) ≡ Some m → coerces b m ≡ true
 right_array k some t b m (type.Array v also) is h =
-    let p = map_some (λ (i : Ty). ty.Array i (some && also)) (join k.0 v) m h in
+    let p = map_parts (λ (i : Ty). ty.Array i (some && also)) (join k.0 v) m h in
     subst (λ (i : Ty). coerces b i ≡ true) p.2 (to_array b (ty.Array p.0 (some && also)) v p.0 also (some && also) is (ty.outs-Array p.0 (some && also)) (k.1 v p.0 p.1))
 right_array k some t b m type.Empty is h = right_rest t b m type.Empty is h
 right_array k some t b m type.Absent is h = right_rest t b m type.Absent is h
@@ -205,7 +200,7 @@ right_parts y t b m z is h = right_rest t b m z is h
 
 right_marked : (y : Ty-F (Known Right)) (t u j : Ty) → option_map (marked u) (plain_join t (map-Ty Ty Joiner join (plain Right y)) (bare u)) ≡ Some j → coerces u j ≡ true
 right_marked y t u j h =
-    let p = map_some (marked u) (plain_join t (map-Ty Ty Joiner join (plain Right y)) (bare u)) j h in
+    let p = map_parts (marked u) (plain_join t (map-Ty Ty Joiner join (plain Right y)) (bare u)) j h in
     subst (λ (i : Ty). coerces u i ≡ true) p.2 (to_marked u p.0 (right_parts y t (bare u) p.0 (out-Ty (bare u)) refl p.1))
 
 absent_right : (u : Ty) (z : Ty-F Ty) → out-Ty u ≡ z → coerces u (absent_join u z) ≡ true
@@ -216,17 +211,17 @@ absent_right u z is = to_opt u u (ap is_optional is) (coerces-refl u)
 
 opt_right : (k : Known Right) (t u j : Ty) (z : Ty-F Ty) → out-Ty t ≡ type.Opt k.0 → out-Ty u ≡ z → opt_join t (join k.0) u z ≡ Some j → coerces u j ≡ true
 opt_right k t u j (type.Opt v) is js h =
-    let p = map_some ty.Opt (join k.0 v) j h in
+    let p = map_parts ty.Opt (join k.0 v) j h in
     subst (λ (i : Ty). coerces u i ≡ true) p.2 (co_opt u (ty.Opt p.0) v p.0 js (ty.outs-Opt p.0) ∙ k.1 v p.0 p.1)
 opt_right k t u j type.Empty is js h = co_empty u j js
-opt_right k t u j type.Absent is js h = subst (λ (i : Ty). coerces u i ≡ true) (some_is t j h) (co_absent u t js ∙ ap takes_absent is)
+opt_right k t u j type.Absent is js h = subst (λ (i : Ty). coerces u i ≡ true) (same_Some t j h) (co_absent u t js ∙ ap takes_absent is)
 opt_right k t u j z is js h =
-    let p = map_some ty.Opt (join k.0 u) j h in
+    let p = map_parts ty.Opt (join k.0 u) j h in
     subst (λ (i : Ty). coerces u i ≡ true) p.2 (to_opt u p.0 (ap is_optional js) (k.1 u p.0 p.1))
 
 right_at : (y : Ty-F (Known Right)) (t u j : Ty) → out-Ty t ≡ plain Right y → join_at t (map-Ty Ty Joiner join (plain Right y)) u ≡ Some j → coerces u j ≡ true
-right_at type.Empty t u j is h = subst (λ (i : Ty). coerces u i ≡ true) (some_is u j h) (coerces-refl u)
-right_at type.Absent t u j is h = subst (λ (i : Ty). coerces u i ≡ true) (some_is (absent_join u (out-Ty u)) j h) (absent_right u (out-Ty u) refl)
+right_at type.Empty t u j is h = subst (λ (i : Ty). coerces u i ≡ true) (same_Some u j h) (coerces-refl u)
+right_at type.Absent t u j is h = subst (λ (i : Ty). coerces u i ≡ true) (same_Some (absent_join u (out-Ty u)) j h) (absent_right u (out-Ty u) refl)
 right_at (type.Opt k) t u j is h = opt_right k t u j (out-Ty u) is refl h
 right_at y t u j is h = right_marked y t u j h
 
@@ -282,12 +277,12 @@ Left t = (u j w : Ty) → join t u ≡ Some j → coerces w t ≡ true → coerc
 
 opt_left : (k : Known Left) (t u j w : Ty) (z : Ty-F Ty) → out-Ty t ≡ type.Opt k.0 → opt_join t (join k.0) u z ≡ Some j → coerces w t ≡ true → coerces w j ≡ true
 opt_left k t u j w (type.Opt v) is h c =
-    let p = map_some ty.Opt (join k.0 v) j h in
+    let p = map_parts ty.Opt (join k.0 v) j h in
     subst (λ (i : Ty). coerces w i ≡ true) p.2 (from_opt_at w t k.0 p.0 (out-Ty w) refl is (λ x. k.1 v p.0 x p.1) c)
-opt_left k t u j w type.Empty is h c = subst (λ (i : Ty). coerces w i ≡ true) (some_is t j h) c
-opt_left k t u j w type.Absent is h c = subst (λ (i : Ty). coerces w i ≡ true) (some_is t j h) c
+opt_left k t u j w type.Empty is h c = subst (λ (i : Ty). coerces w i ≡ true) (same_Some t j h) c
+opt_left k t u j w type.Absent is h c = subst (λ (i : Ty). coerces w i ≡ true) (same_Some t j h) c
 opt_left k t u j w z is h c =
-    let p = map_some ty.Opt (join k.0 u) j h in
+    let p = map_parts ty.Opt (join k.0 u) j h in
     subst (λ (i : Ty). coerces w i ≡ true) p.2 (from_opt_at w t k.0 p.0 (out-Ty w) refl is (λ x. k.1 u p.0 x p.1) c)
 
 -- from a type of one kind to one of the same kind
@@ -333,22 +328,22 @@ left_other : (t b m w : Ty) → plain_layer (out-Ty w) ≡ true → other_join t
 left_other t b m w p h c = by_same (same_type t b) h
   where
     by_text : (d e : Bool) → is_text t ≡ d → (if d && e then Some ty.Str else None) ≡ Some m → coerces w m ≡ true
-    by_text true true is h = subst (λ (i : Ty). coerces w i ≡ true) (some_is ty.Str m h) (from_text w t (out-Ty w) (out-Ty t) refl p refl is c)
+    by_text true true is h = subst (λ (i : Ty). coerces w i ≡ true) (same_Some ty.Str m h) (from_text w t (out-Ty w) (out-Ty t) refl p refl is c)
     by_text true false is h = cc
     by_text false e is h = cc
 
     by_same : (d : Bool) → (if d then Some t else (if is_text t && is_text b then Some ty.Str else None)) ≡ Some m → coerces w m ≡ true
-    by_same true h = subst (λ (i : Ty). coerces w i ≡ true) (some_is t m h) c
+    by_same true h = subst (λ (i : Ty). coerces w i ≡ true) (same_Some t m h) c
     by_same false h = by_text (is_text t) (is_text b) refl h
 
 left_rest : (t b m w : Ty) (z : Ty-F Ty) → plain_layer (out-Ty w) ≡ true → (if empty_at z then Some t else (if absent_at z then Some (ty.Opt t) else other_join t b)) ≡ Some m → coerces w t ≡ true → coerces w m ≡ true
-left_rest t b m w type.Empty p h c = subst (λ (i : Ty). coerces w i ≡ true) (some_is t m h) c
-left_rest t b m w type.Absent p h c = subst (λ (i : Ty). coerces w i ≡ true) (some_is (ty.Opt t) m h) (same_bare w (ty.Opt t) t p (bare-Opt t) ∙ c)
+left_rest t b m w type.Empty p h c = subst (λ (i : Ty). coerces w i ≡ true) (same_Some t m h) c
+left_rest t b m w type.Absent p h c = subst (λ (i : Ty). coerces w i ≡ true) (same_Some (ty.Opt t) m h) (same_bare w (ty.Opt t) t p (bare-Opt t) ∙ c)
 left_rest t b m w z p h c = left_other t b m w p h c
 
 left_array : (k : Known Left) (some : Bool) (t b m w : Ty) (z : Ty-F Ty) → out-Ty t ≡ type.Array k.0 some → plain_layer (out-Ty w) ≡ true → (if empty_at z then Some t else (if absent_at z then Some (ty.Opt t) else parts_join t (type.Array (join k.0) some) b z)) ≡ Some m → coerces w t ≡ true → coerces w m ≡ true
 left_array k some t b m w (type.Array v also) is p h c =
-    let q = map_some (λ (i : Ty). ty.Array i (some && also)) (join k.0 v) m h in
+    let q = map_parts (λ (i : Ty). ty.Array i (some && also)) (join k.0 v) m h in
     subst (λ (i : Ty). coerces w i ≡ true) q.2 (from_array w t (ty.Array q.0 (some && also)) k.0 q.0 some (some && also) (out-Ty w) refl p is (ty.outs-Array q.0 (some && also)) (λ x. k.1 v q.0 x q.1) c)
 left_array k some t b m w type.Empty is p h c = left_rest t b m w type.Empty p h c
 left_array k some t b m w type.Absent is p h c = left_rest t b m w type.Absent p h c
@@ -391,13 +386,13 @@ left_plain_at y t u j w type.Empty is p ws h c = co_empty w j ws
 left_plain_at y t u j w (type.Opt a) is p ws h c = refuted (coerces w t) (co_at w t (type.Opt a) ws ∙ ap (opt_coerces (coerces a)) is ∙ opt_plain (coerces a) (plain Left y) p) c
 left_plain_at y t u j w type.Absent is p ws h c = refuted (coerces w t) (co_absent w t ws ∙ ap takes_absent is ∙ takes_plain (plain Left y) p) c
 left_plain_at y t u j w z is p ws h c =
-    let q = map_some (marked u) (plain_join t (map-Ty Ty Joiner join (plain Left y)) (bare u)) j h in
+    let q = map_parts (marked u) (plain_join t (map-Ty Ty Joiner join (plain Left y)) (bare u)) j h in
     let l : plain_layer (out-Ty w) ≡ true = ap plain_layer ws in
     subst (λ (i : Ty). coerces w i ≡ true) q.2 (same_bare w (marked u q.0) q.0 l (marked_bare u q.0) ∙ left_parts y t (bare u) q.0 w (out-Ty (bare u)) is l q.1 c)
 
 left_at : (y : Ty-F (Known Left)) (t u j w : Ty) → out-Ty t ≡ plain Left y → join_at t (map-Ty Ty Joiner join (plain Left y)) u ≡ Some j → coerces w t ≡ true → coerces w j ≡ true
 left_at type.Empty t u j w is h c = from_empty_at w t j (out-Ty w) refl is c
-left_at type.Absent t u j w is h c = from_absent_at w t j (out-Ty w) refl is (ap (λ (i : Ty). takes_absent (out-Ty i)) (sym (some_is (absent_join u (out-Ty u)) j h)) ∙ absent_takes u (out-Ty u) refl) c
+left_at type.Absent t u j w is h c = from_absent_at w t j (out-Ty w) refl is (ap (λ (i : Ty). takes_absent (out-Ty i)) (sym (same_Some (absent_join u (out-Ty u)) j h)) ∙ absent_takes u (out-Ty u) refl) c
 left_at (type.Opt k) t u j w is h c = opt_left k t u j w (out-Ty u) is h c
 left_at y t u j w is h c = left_plain_at y t u j w (out-Ty w) is refl refl h c
 

@@ -1,5 +1,6 @@
 -- The arguments of a function coerce to the parameters of its row of the table, which have the same row.
 use Rattle.std.proofs.Common.{◌≡◌, Bool, true, false, ◌&&◌, List, [], ◌∷◌, Option, Some, None, option_and_then, refl, ap, sym, ◌∙◌, subst, if◌then◌else◌}
+use Rattle.std.proofs.lemmas.Option.{same_Some}
 use Rattle.wdl_value.specs.declared.operator.Func.{Func}
 use Rattle.wdl_value.specs.declared.operator.Func.TheVariants as func
 use Rattle.wdl_value.specs.declared.ty.Ty.{Ty, Ty-F, out-Ty}
@@ -109,12 +110,9 @@ rows_take result t row h = by_item (item_type t) refl h
 
 -- ---- pairs and maps
 
-same_some : {A : Type 0} (a b : A) → Some a ≡ Some b → a ≡ b
-same_some a b h = cc
-
 two_are : (a b u w : Ty) → ◌≡◌ {A = Option (Ty × Ty)} (Some (a, b)) (Some (u, w)) → (a ≡ u) × (b ≡ w)
 two_are a b u w h =
-    let e : ◌≡◌ {A = Ty × Ty} (a, b) (u, w) = same_some {A = Ty × Ty} (a, b) (u, w) h in
+    let e : ◌≡◌ {A = Ty × Ty} (a, b) (u, w) = same_Some {A = Ty × Ty} (a, b) (u, w) h in
     (ap (λ (p : Ty × Ty). p.0) e, ap (λ (p : Ty × Ty). p.1) e)
 
 pair_at : (x u w : Ty) (z : Ty-F Ty) → out-Ty x ≡ z → parts_at x z ≡ Some (u, w) → coerces x (ty.Pair u w) ≡ true

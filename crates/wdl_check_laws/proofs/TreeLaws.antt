@@ -3,6 +3,7 @@ use Rattle.std.proofs.Common.{◌≡◌, ℕ, Bool, true, false, not, ◌&&◌, 
 use Rattle.std.proofs.lemmas.Bool.{false≢true, and_from}
 use Rattle.std.specs.Str.{bytes_eq}
 use Rattle.std.proofs.lemmas.Slice.Eq.{bytes_eq-Decides}
+use Rattle.std.proofs.lemmas.Option.{same_Some}
 use Rattle.wdl_base.specs.declared.name.Key.{Key}
 use Rattle.wdl_value.specs.declared.operator.Func.{Func}
 use Rattle.wdl_value.specs.declared.ty.Member.{Member}
@@ -43,16 +44,14 @@ use Rattle.wdl_check_laws.specs.Laws.{context}
 use Rattle.wdl_check_rules.specs.Members.{has_stray, GivenAt, given_of, without, member_value, field, fields_of, struct_with}
 use Rattle.wdl_check_rules.specs.Rules.{typing, cast_to, coerced, literal, int_literal, key_of, named, output_named, member_of, item_at, item_of, unary_of, row_of, op_of, by_row, binary_of, condition_of, choose_of, types_of, join_all, cast_all, has_items, list_of, key_types, value_types, cast_rows, keys_join, values_join, plain_key, map_with, map_of, pair_of, cast_args, applied, apply_of, hole_of, strung}
 use Rattle.wdl_check_rules.specs.Typed.{both, may_call, call_typed, struct_typed}
-use Rattle.wdl_check_laws.proofs.CoercionLaws.{map_some, coerces-refl, absent_to_opt, join_left, join_right}
+use Rattle.wdl_check_laws.proofs.CoercionLaws.{coerces-refl, absent_to_opt, join_left, join_right}
 use Rattle.wdl_check_laws.proofs.OperatorLaws.{operating}
 use Rattle.wdl_check_laws.proofs.FunctionLaws.{CoerceAll, called}
+use Rattle.wdl_base.proofs.Options.{map_parts}
 
 abbrev pub Each : {A : Type 0} → (A → Type 0) → List A → Type 0
 Each P [] = Unit {0}
 Each P (x ∷ xs) = P x × Each P xs
-
-pub some_is : {A : Type 0} (a b : A) → Some a ≡ Some b → a ≡ b
-some_is a b h = cc
 
 same_when : (b : Bool) (t : Ty) → b ≡ true → when b t ≡ Some t
 same_when b t h = ap (λ (c : Bool). when c t) h
@@ -65,7 +64,7 @@ module _ (s : Scope) (p : Bool) where
   Fine o = (x : Typed) → o ≡ Some x → Has x
 
   pub some_fine : (y : Typed) → Has y → Fine (Some y)
-  some_fine y h x e = subst (λ (z : Typed). Has z) (some_is y x e) h
+  some_fine y h x e = subst (λ (z : Typed). Has z) (same_Some y x e) h
 
   pub none_fine : Fine None
   none_fine x e = cc
@@ -96,7 +95,7 @@ module _ (s : Scope) (p : Bool) where
   coerced_has x t e h is = by_test (coerces x.ty t) refl is
     where
       by_test : (b : Bool) → coerces x.ty t ≡ b → (if b then Some (cast_to x t) else None) ≡ Some e → type_of (context s) e p ≡ Some t
-      by_test true c is = subst (λ (y : TExpr). type_of (context s) y p ≡ Some t) (some_is (cast_to x t) e is) (cast_has x t h c)
+      by_test true c is = subst (λ (y : TExpr). type_of (context s) y p ≡ Some t) (same_Some (cast_to x t) e is) (cast_has x t h c)
       by_test false c is = cc
 
   lit_type : (x : Value) → type_of (context s) (te.Lit x) p ≡ literal_type x
@@ -116,7 +115,7 @@ module _ (s : Scope) (p : Bool) where
 
   pub named_fine : (key : Key) → Fine (named s.names key)
   named_fine key x e =
-      let q = map_some (λ (t : Ty). typing (te.Get key) t) (type_in s.names key) x e in
+      let q = map_parts (λ (t : Ty). typing (te.Get key) t) (type_in s.names key) x e in
       subst (λ (z : Typed). Has z) q.2 (of_layer (te.Get key) (layer.Get key) (te.rolls-Get key) ∙ q.1)
 
   pub output_fine : (o : Option (List ℕ)) (m : List ℕ) → Fine (output_named s.names o m)
@@ -125,7 +124,7 @@ module _ (s : Scope) (p : Bool) where
 
   pub member_fine : (m : List ℕ) (y : Typed) → Has y → Fine (member_of s.structs m y)
   member_fine m y h x e =
-      let q = map_some (λ (t : Ty). typing (te.Member y.expr m) t) (member_type s.structs m y.ty) x e in
+      let q = map_parts (λ (t : Ty). typing (te.Member y.expr m) t) (member_type s.structs m y.ty) x e in
       subst (λ (z : Typed). Has z) q.2 (of_layer (te.Member y.expr m) (layer.Member y.expr m) (te.rolls-Member y.expr m) ∙ ap (option_and_then (member_type s.structs m)) h ∙ q.1)
 
   -- ---- items
@@ -139,7 +138,7 @@ module _ (s : Scope) (p : Bool) where
   item_layer y i (type.Array t some) is h k x e =
       if_fine (is_int i.ty) (typing (te.At y.expr i.expr) t) (λ g. at_has y.expr i.expr y.ty i.ty t h k (ap (at_of i.ty) is ∙ same_when (is_int i.ty) t g)) x e
   item_layer y i (type.Map q t) is h k x e =
-      let r = map_some (λ (key : TExpr). typing (te.At y.expr key) t) (coerced i q) x e in
+      let r = map_parts (λ (key : TExpr). typing (te.At y.expr key) t) (coerced i q) x e in
       subst (λ (z : Typed). Has z) r.2 (at_has y.expr r.0 y.ty q t h (coerced_has i q r.0 k r.1) (ap (at_of q) is ∙ same_when (same_type q q) t (same_type-refl q)))
   item_layer y i z is h k x e = cc
 
@@ -159,7 +158,7 @@ module _ (s : Scope) (p : Bool) where
 
   pub binary_fine : (o : BinaryOperator) (y z : Typed) → Has y → Has z → Fine (binary_of o p y z)
   binary_fine o y z h k x e =
-      let q = map_some (by_row y z) (row_of (op_of o) y.ty z.ty p) x e in
+      let q = map_parts (by_row y z) (row_of (op_of o) y.ty z.ty p) x e in
       let r = q.0 in
       let w = operating o p y.ty z.ty r q.1 in
       let a = cast_to y r.1.left in
@@ -171,7 +170,7 @@ module _ (s : Scope) (p : Bool) where
 
   pub choose_fine : (c y z : Typed) (b : TExpr) → condition_of c ≡ Some b → Has c → Has y → Has z → Fine (choose_of b y z)
   choose_fine c y z b is g h k x e =
-      let q = map_some (λ (t : Ty). typing (te.Choose b (cast_to y t) (cast_to z t)) t) (join y.ty z.ty) x e in
+      let q = map_parts (λ (t : Ty). typing (te.Choose b (cast_to y t) (cast_to z t)) t) (join y.ty z.ty) x e in
       let j = q.0 in
       let l = cast_to y j in
       let r = cast_to z j in
@@ -187,7 +186,7 @@ module _ (s : Scope) (p : Bool) where
       condition_has is = by_test (is_bool c.ty) is
         where
           by_test : (t : Bool) → (if t then Some c.expr else None) ≡ Some b → (type_of (context s) b p ≡ Some c.ty) × (t ≡ true)
-          by_test true is = (subst (λ (i : TExpr). type_of (context s) i p ≡ Some c.ty) (some_is c.expr b is) g, refl)
+          by_test true is = (subst (λ (i : TExpr). type_of (context s) i p ≡ Some c.ty) (same_Some c.expr b is) g, refl)
           by_test false is = cc
 
   pub pair_has : (y z : Typed) → Has y → Has z → Has (pair_of y z)
@@ -217,7 +216,7 @@ module _ (s : Scope) (p : Bool) where
   Joined j x = coerces x.ty j ≡ true
 
   joins : (xs : List Typed) (t j : Ty) → join_all t (types_of xs) ≡ Some j → ((w : Ty) → coerces w t ≡ true → coerces w j ≡ true) × Each (Joined j) xs
-  joins [] t j h = ((λ w c. subst (λ (i : Ty). coerces w i ≡ true) (some_is t j h) c), tt)
+  joins [] t j h = ((λ w c. subst (λ (i : Ty). coerces w i ≡ true) (same_Some t j h) c), tt)
   joins (x ∷ xs) t j h = by_join (join t x.ty) refl h (joins xs)
     where
       by_join : (o : Option Ty) → join t x.ty ≡ o → option_and_then (λ k. join_all k (types_of xs)) o ≡ Some j → ((u i : Ty) → join_all u (types_of xs) ≡ Some i → ((w : Ty) → coerces w u ≡ true → coerces w i ≡ true) × Each (Joined i) xs) → ((w : Ty) → coerces w t ≡ true → coerces w j ≡ true) × Each (Joined j) (x ∷ xs)
@@ -235,12 +234,12 @@ module _ (s : Scope) (p : Bool) where
   all_repeated t (x ∷ xs) = and_from _ _ (same_type-refl t) (all_repeated t xs)
 
   list_is : (xs : List Typed) (t : Ty) → join_all ty.Empty (types_of xs) ≡ Some t → list_type (repeat t xs) ≡ Some (ty.Array t (has_items xs))
-  list_is [] t h = ap (λ (i : Ty). Some (ty.Array i false)) (some_is ty.Empty t h)
+  list_is [] t h = ap (λ (i : Ty). Some (ty.Array i false)) (same_Some ty.Empty t h)
   list_is (x ∷ xs) t h = same_when (all_same t (repeat t xs)) (ty.Array t true) (all_repeated t xs)
 
   pub list_fine : (xs : List Typed) → Each Has xs → Fine (list_of xs)
   list_fine xs h x e =
-      let q = map_some (λ (t : Ty). typing (te.ListOf (cast_all t xs)) (ty.Array t (has_items xs))) (join_all ty.Empty (types_of xs)) x e in
+      let q = map_parts (λ (t : Ty). typing (te.ListOf (cast_all t xs)) (ty.Array t (has_items xs))) (join_all ty.Empty (types_of xs)) x e in
       let t = q.0 in
       subst (λ (i : Typed). Has i) q.2
       (of_layer (te.ListOf (cast_all t xs)) (layer.ListOf (cast_all t xs)) (te.rolls-ListOf (cast_all t xs))
@@ -283,7 +282,7 @@ module _ (s : Scope) (p : Bool) where
   row_values (r ∷ rows) k t h c = all_more (type_of (context s) (cast_to r.value t) p) (values_in (rows_of (cast_rows k t rows)) p) t (repeat t rows) (cast_has r.value t h.0.1 c.0) (row_values rows k t h.1 c.1)
 
   map_is : (rows : List (TPair Typed)) (k t : Ty) → keys_join rows ≡ Some k → values_join rows ≡ Some t → is_plain k ≡ true → map_type (repeat k rows) (repeat t rows) ≡ Some (ty.Map k t)
-  map_is [] k t h i c = ap (λ (j : Ty). Some (ty.Map j ty.Empty)) (some_is ty.Empty k h) ∙ ap (λ (j : Ty). Some (ty.Map k j)) (some_is ty.Empty t i)
+  map_is [] k t h i c = ap (λ (j : Ty). Some (ty.Map j ty.Empty)) (same_Some ty.Empty k h) ∙ ap (λ (j : Ty). Some (ty.Map k j)) (same_Some ty.Empty t i)
   map_is (r ∷ rows) k t h i c =
       same_when (is_plain k && all_same k (repeat k rows) && all_same t (repeat t rows)) (ty.Map k t)
       (ap (λ (b : Bool). b && all_same k (repeat k rows) && all_same t (repeat t rows)) c ∙ ap (λ (b : Bool). b && all_same t (repeat t rows)) (all_repeated k rows) ∙ all_repeated t rows)
@@ -335,7 +334,7 @@ module _ (s : Scope) (p : Bool) where
 
   apply_fine : (f : Func) (xs : List Typed) → may_call s.outputs f ≡ true → Each Has xs → Fine (apply_of f xs)
   apply_fine f xs m h x e =
-      let q = map_some (applied f xs) (function_type f (types_of xs)) x e in
+      let q = map_parts (applied f xs) (function_type f (types_of xs)) x e in
       let row = q.0 in
       let c = called f (types_of xs) row q.1 in
       let es = cast_args row.args xs in
@@ -370,7 +369,7 @@ module _ (s : Scope) (p : Bool) where
   given_fine (f ∷ gs) h q g e = by_head (bytes_eq f.name q) e (given_fine gs h.1 q g)
     where
       by_head : (b : Bool) → (if b then Some f else given_of gs q) ≡ Some g → (given_of gs q ≡ Some g → Has g.value) → Has g.value
-      by_head true e k = subst (λ (i : Given). Has i.value) (some_is f g e) h.0
+      by_head true e k = subst (λ (i : Given). Has i.value) (same_Some f g e) h.0
       by_head false e k = k e
 
   without_fine : (gs : GivenAt) (name : List ℕ) → GivenFine gs → GivenFine (without gs name)
@@ -385,7 +384,7 @@ module _ (s : Scope) (p : Bool) where
   value_has t None e h is = by_test (is_optional (out-Ty t)) refl is
     where
       by_test : (b : Bool) → is_optional (out-Ty t) ≡ b → (if b then Some (cast_to (literal v.Absent ty.Absent) t) else None) ≡ Some e → type_of (context s) e p ≡ Some t
-      by_test true o is = subst (λ (y : TExpr). type_of (context s) y p ≡ Some t) (some_is (cast_to (literal v.Absent ty.Absent) t) e is) (cast_has (literal v.Absent ty.Absent) t absent_has (absent_to_opt t o))
+      by_test true o is = subst (λ (y : TExpr). type_of (context s) y p ≡ Some t) (same_Some (cast_to (literal v.Absent ty.Absent) t) e is) (cast_has (literal v.Absent ty.Absent) t absent_has (absent_to_opt t o))
       by_test false o is = cc
 
   abbrev fields_listed : TExpr-F Typing → List (TField Typing)
@@ -396,7 +395,7 @@ module _ (s : Scope) (p : Bool) where
   field_types name fs = fields_in (fields_listed (map-TExpr TExpr Typing (type_of (context s)) (layer.StructOf name fs))) p
 
   fields_typed : (name : List ℕ) (ms : List Member) (gs : GivenAt) (fs : List (TField TExpr)) → GivenFine gs → fields_of ms gs ≡ Some fs → fields_have (field_types name fs) ms ≡ true
-  fields_typed name [] gs fs h e = subst (λ (i : List (TField TExpr)). fields_have (field_types name i) [] ≡ true) (some_is [] fs e) refl
+  fields_typed name [] gs fs h e = subst (λ (i : List (TField TExpr)). fields_have (field_types name i) [] ≡ true) (same_Some [] fs e) refl
   fields_typed name (m ∷ ms) gs fs h e =
       by_value (member_value m.ty (gs m.name)) (fields_of ms (without gs m.name)) refl refl e (λ is k. fields_typed name ms (without gs m.name) is (without_fine gs m.name h) k)
     where
@@ -404,7 +403,7 @@ module _ (s : Scope) (p : Bool) where
       by_value None u i j e f = cc
       by_value (Some x) None i j e f = cc
       by_value (Some x) (Some more) i j e f =
-          subst (λ (z : List (TField TExpr)). fields_have (field_types name z) (m ∷ ms) ≡ true) (some_is (field m.name x ∷ more) fs e)
+          subst (λ (z : List (TField TExpr)). fields_have (field_types name z) (m ∷ ms) ≡ true) (same_Some (field m.name x ∷ more) fs e)
           (ap (λ (b : Bool). b && is_type (type_of (context s) x p) m.ty && fields_have (field_types name more) ms) ((bytes_eq-Decides m.name m.name).1 refl)
           ∙ ap (λ (t : Option Ty). is_type t m.ty && fields_have (field_types name more) ms) (value_has m.ty (gs m.name) x (λ g. h m.name g) i)
           ∙ ap (λ (b : Bool). b && fields_have (field_types name more) ms) (same_type-refl m.ty) ∙ f more j)
@@ -422,7 +421,7 @@ module _ (s : Scope) (p : Bool) where
       by_given : (q : Option (List Given)) → o ≡ q → option_map (struct_with d.name) (option_and_then (λ gs. fields_of d.members (given_of gs)) q) ≡ Some x → Has x
       by_given None j e = cc
       by_given (Some gs) j e =
-          let r = map_some (struct_with d.name) (fields_of d.members (given_of gs)) x e in
+          let r = map_parts (struct_with d.name) (fields_of d.members (given_of gs)) x e in
           subst (λ (z : Typed). Has z) r.2 (struct_has d.name d.members r.0 (is d refl) (fields_typed d.name d.members (given_of gs) r.0 (given_fine gs (h gs j)) r.1))
 
       by_stray : (b : Bool) → (if b then None else option_map (struct_with d.name) (option_and_then (λ gs. fields_of d.members (given_of gs)) o)) ≡ Some x → Has x
@@ -447,7 +446,7 @@ module _ (s : Scope) (p : Bool) where
   hole_fine c y q h e = by_test (hole_takes c y.ty) refl e
     where
       by_test : (b : Bool) → hole_takes c y.ty ≡ b → (if b then Some (tp.Hole (record { expr = y.expr; choice = c })) else None) ≡ Some q → PartFine q
-      by_test true k e = subst (λ (i : TPart TExpr). PartFine i) (some_is (tp.Hole (record { expr = y.expr; choice = c })) q e) (ap (takes_some c) h ∙ k)
+      by_test true k e = subst (λ (i : TPart TExpr). PartFine i) (same_Some (tp.Hole (record { expr = y.expr; choice = c })) q e) (ap (takes_some c) h ∙ k)
       by_test false k e = cc
 
   parts_fine : (qs : List (TPart TExpr)) → Each PartFine qs → table.parts_typed (parts_of qs) ≡ true

@@ -1,5 +1,6 @@
 -- Each typing is well typed: by induction over the expression.
 use Rattle.std.proofs.Common.{◌≡◌, ℕ, Bool, true, List, [], ◌∷◌, Option, Some, None, option_map, option_and_then, refl, ap, sym, ◌∙◌, subst}
+use Rattle.std.proofs.lemmas.Option.{same_Some}
 use Rattle.wdl_base.specs.declared.span.Span.{Span}
 use Rattle.wdl_value.specs.declared.ty.Ty.{Ty}
 use Rattle.wdl_ast.specs.declared.expr.Expr.{Expr, Expr-F, roll-Expr, map-Expr, ind-Expr, para-roll-Expr}
@@ -27,23 +28,19 @@ use Rattle.wdl_check_rules.specs.Rules.{key_of, output_named, or_else, member_of
 use Rattle.wdl_check_rules.specs.Spans.{name_of, span_of}
 use Rattle.wdl_check_rules.specs.Typed.{Typing, Part, both, idents, items_typed, entries_typed, members_typed, parts_typed, string_typed, row, given, typed_step, typed_at}
 use Rattle.wdl_check_rules.proofs.FindLemmas.{named_members}
-use Rattle.wdl_check_laws.proofs.CoercionLaws.{map_some}
-use Rattle.wdl_check_laws.proofs.TreeLaws.{Each, some_is, Has, Fine, HasRow, HasGiven, PartFine, some_fine, and_fine, bool_has, absent_has, str_has, int_fine, named_fine, output_fine, member_fine, item_fine, unary_fine, binary_fine, choose_fine, pair_has, list_fine, map_fine, call_fine, struct_fine, hole_fine, strung_has, both_fine, coerced_has}
+use Rattle.wdl_check_laws.proofs.TreeLaws.{Each, Has, Fine, HasRow, HasGiven, PartFine, some_fine, and_fine, bool_has, absent_has, str_has, int_fine, named_fine, output_fine, member_fine, item_fine, unary_fine, binary_fine, choose_fine, pair_has, list_fine, map_fine, call_fine, struct_fine, hole_fine, strung_has, both_fine, coerced_has}
+use Rattle.wdl_base.proofs.Options.{then_parts, map_parts}
 
 both_some : {A B C : Type 0} (f : A → B → C) (o : Option A) (u : Option B) (c : C) → both (λ a b. Some (f a b)) o u ≡ Some c → (a : A) × (b : B) × (o ≡ Some a) × (u ≡ Some b) × (f a b ≡ c)
 both_some f None u c h = cc
 both_some f (Some a) None c h = cc
-both_some f (Some a) (Some b) c h = (a, b, refl, refl, some_is (f a b) c h)
+both_some f (Some a) (Some b) c h = (a, b, refl, refl, same_Some (f a b) c h)
 
 row_some : (o u : Option Typed) (rest : Option (List (TPair Typed))) (c : List (TPair Typed)) → both (λ x y. option_map (λ rows. row x y ∷ rows) rest) o u ≡ Some c → (x : Typed) × (y : Typed) × (rows : List (TPair Typed)) × (o ≡ Some x) × (u ≡ Some y) × (rest ≡ Some rows) × (row x y ∷ rows ≡ c)
 row_some None u rest c h = cc
 row_some (Some x) None rest c h = cc
 row_some (Some x) (Some y) None c h = cc
-row_some (Some x) (Some y) (Some rows) c h = (x, y, rows, refl, refl, refl, some_is (row x y ∷ rows) c h)
-
-then_some : {A B : Type 0} (f : A → Option B) (o : Option A) (b : B) → option_and_then f o ≡ Some b → (a : A) × (o ≡ Some a) × (f a ≡ Some b)
-then_some f None b h = cc
-then_some f (Some a) b h = (a, refl, h)
+row_some (Some x) (Some y) (Some rows) c h = (x, y, rows, refl, refl, refl, same_Some (row x y ∷ rows) c h)
 
 module _ (s : Scope) where
   abbrev Holds : Expr → Type 0
@@ -70,7 +67,7 @@ module _ (s : Scope) where
   items is = (former-Expr-Call-2).map Expr (Part Typing) with_typing ((former-Expr-Call-2).map Known Expr bare is)
 
   items_fine : (is : List (ListItem Known)) (p : Bool) (xs : List Typed) → items_typed typing (items is) p ≡ Some xs → Each (Has s p) xs
-  items_fine [] p xs h = subst (λ (z : List Typed). Each (Has s p) z) (some_is [] xs h) tt
+  items_fine [] p xs h = subst (λ (z : List Typed). Each (Has s p) z) (same_Some [] xs h) tt
   items_fine (i ∷ is) p xs h =
       let q = both_some (λ (x : Typed) (xs : List Typed). x ∷ xs) (typed_at s i.item.0 p) (items_typed typing (items is) p) xs h in
       subst (λ (z : List Typed). Each (Has s p) z) q.4 (i.item.1 p q.0 q.2, items_fine is p q.1 q.3)
@@ -79,7 +76,7 @@ module _ (s : Scope) where
   entries is = (former-Expr-Map-1).map Expr (Part Typing) with_typing ((former-Expr-Map-1).map Known Expr bare is)
 
   entries_fine : (is : List (ListItem (MapEntry Known))) (p : Bool) (rows : List (TPair Typed)) → entries_typed typing (entries is) p ≡ Some rows → Each (HasRow s p) rows
-  entries_fine [] p rows h = subst (λ (z : List (TPair Typed)). Each (HasRow s p) z) (some_is [] rows h) tt
+  entries_fine [] p rows h = subst (λ (z : List (TPair Typed)). Each (HasRow s p) z) (same_Some [] rows h) tt
   entries_fine (i ∷ is) p rows h =
       let q = row_some (typed_at s i.item.key.0 p) (typed_at s i.item.value.0 p) (entries_typed typing (entries is) p) rows h in
       subst (λ (z : List (TPair Typed)). Each (HasRow s p) z) q.6 ((i.item.key.1 p q.0 q.3, i.item.value.1 p q.1 q.4), entries_fine is p q.2 q.5)
@@ -88,7 +85,7 @@ module _ (s : Scope) where
   members is = (former-Expr-Struct-2).map Expr (Part Typing) with_typing ((former-Expr-Struct-2).map Known Expr bare is)
 
   members_fine : (is : List (ListItem (MemberEntry Known))) (p : Bool) (gs : List Given) → members_typed place typing (members is) p ≡ Some gs → Each (HasGiven s p) gs
-  members_fine [] p gs h = subst (λ (z : List Given). Each (HasGiven s p) z) (some_is [] gs h) tt
+  members_fine [] p gs h = subst (λ (z : List Given). Each (HasGiven s p) z) (same_Some [] gs h) tt
   members_fine (i ∷ is) p gs h =
       let q = both_some (λ (x : Typed) (gs : List Given). given i.item.name.name (span_of i.item.value.0) x ∷ gs) (typed_at s i.item.value.0 p) (members_typed place typing (members is) p) gs h in
       subst (λ (z : List Given). Each (HasGiven s p) z) q.4 (i.item.value.1 p q.0 q.2, members_fine is p q.1 q.3)
@@ -100,13 +97,13 @@ module _ (s : Scope) where
   tree q o c ps = record { quote = q; opening = o; parts = ps; closing = c }
 
   parts_fine : (q : Quote) (o c : Span) (ps : List (StringPart Known)) (qs : List (TPart TExpr)) (p : Bool) → parts_typed typing (string (tree q o c ps)).parts ≡ Some qs → Each (PartFine s p) qs
-  parts_fine q o c [] qs p h = subst (λ (z : List (TPart TExpr)). Each (PartFine s p) z) (some_is [] qs h) tt
+  parts_fine q o c [] qs p h = subst (λ (z : List (TPart TExpr)). Each (PartFine s p) z) (same_Some [] qs h) tt
   parts_fine q o c (part.Chars k ∷ ps) qs p h =
-      let r = map_some (λ (more : List (TPart TExpr)). tp.Chars k.text ∷ more) (parts_typed typing (string (tree q o c ps)).parts) qs h in
+      let r = map_parts (λ (more : List (TPart TExpr)). tp.Chars k.text ∷ more) (parts_typed typing (string (tree q o c ps)).parts) qs h in
       subst (λ (z : List (TPart TExpr)). Each (PartFine s p) z) r.2 (tt, parts_fine q o c ps r.0 p r.1)
   parts_fine q o c (part.Placeholder k ∷ ps) qs p h =
       let r = both_some (λ (i : TPart TExpr) (more : List (TPart TExpr)). i ∷ more) (option_and_then (hole_of (choice_of k.options)) (typed_at s k.expr.0 true)) (parts_typed typing (string (tree q o c ps)).parts) qs h in
-      let w = then_some (hole_of (choice_of k.options)) (typed_at s k.expr.0 true) r.0 r.2 in
+      let w = then_parts (hole_of (choice_of k.options)) (typed_at s k.expr.0 true) r.0 r.2 in
       subst (λ (z : List (TPart TExpr)). Each (PartFine s p) z) r.4 (hole_fine s p (choice_of k.options) w.0 r.0 (k.expr.1 true w.0 w.1) w.2, parts_fine q o c ps r.1 p r.3)
 
   -- ---- forms
@@ -117,13 +114,13 @@ module _ (s : Scope) where
       by_text : (z : Option (List ℕ)) → string_typed z typing (string t).parts ≡ Some x → Has s p x
       by_text (Some text) e = some_fine s p _ (str_has s p text) x e
       by_text None e =
-          let r = map_some strung (parts_typed typing (string t).parts) x e in
+          let r = map_parts strung (parts_typed typing (string t).parts) x e in
           subst (λ (z : Typed). Has s p z) r.2 (strung_has s p r.0 (parts_fine t.quote t.opening t.closing t.parts r.0 p r.1))
 
   if_fine : (p : Bool) (c a r : Option Typed) → Fine s p c → Fine s p a → Fine s p r → Fine s p (option_and_then (λ b. both (choose_of b) a r) (option_and_then condition_of c))
   if_fine p None a r g h k x e = cc
   if_fine p (Some c) a r g h k x e =
-      let q = then_some (λ b. both (choose_of b) a r) (condition_of c) x e in
+      let q = then_parts (λ b. both (choose_of b) a r) (condition_of c) x e in
       both_fine s p (choose_of q.0) a r h k (λ y z. choose_fine s p c y z q.0 q.1 (g c refl)) x q.2
 
   member_or : (p : Bool) (o : Option (List ℕ)) (m : List ℕ) (t : Option Typed) → Fine s p t → Fine s p (or_else (output_named s.names o m) (option_and_then (member_of s.structs m) t))

@@ -1,5 +1,5 @@
-//! The dependency order of inputs, declarations and statements as they are written. Types are found in this order, since
-//! a name is typed only once those are that it depends on.
+//! The dependency order of inputs, declarations and statements as they are written. Types are found
+//! in this order, since a name is typed only once those are that it depends on.
 #![tactic(auto)]
 
 mod call;

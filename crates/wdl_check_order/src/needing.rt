@@ -164,8 +164,8 @@ fn body_uses(alloc: Global, body: &[Statement]) -> Result<Uses, NoMemory>
     Ok(Uses { gives, refers })
 }
 
-/// What a statement gives and refers to. A block gives what its body gives, and refers to what its body refers to and
-/// does not give.
+/// What a statement gives and refers to. A block gives what its body gives, and refers to what its
+/// body refers to and does not give.
 #[cycle(needing)]
 pub fn statement_uses(alloc: Global, statement: &Statement) -> Result<Uses, NoMemory>
     ensures { IfOk result (λ u. as_needing u ≡ spec.statement_needing statement.now) }

@@ -20,9 +20,9 @@ fn uses_of<M: Member>(alloc: Global, list: &[&M]) -> Result<Vec<Uses>, NoMemory>
     Ok(all)
 }
 
-/// The positions of the members in their dependency order: each stands after those that it needs, and otherwise in the
-/// order of the list (OpenWDL 1.1 leaves the order to the names). `Bad` comes with 320 exactly where members need one
-/// another in a circle, at the place of a member.
+/// The positions of the members in their dependency order: each stands after those that it needs,
+/// and otherwise in the order of the list (OpenWDL 1.1 leaves the order to the names). `Bad` comes
+/// with 320 exactly where members need one another in a circle, at the place of a member.
 pub fn order_of<M: Member>(alloc: Global, list: &[&M]) -> Result<Items<usize>, CheckFault>
     ensures { outcome.Answers (spec.ordered (map (λ m. M.needing m.now) list.now) (map (λ m. M.span_of m.now) list.now)) result }
 {

@@ -7,7 +7,8 @@ use wdl_lex::lex;
 use wdl_parse_doc::parse;
 use wdl_value::{NoMemory, Span};
 
-/// Statements of a workflow, each row with the positions of its order, or with 320 and the statement where that holds.
+/// Statements of a workflow, each row with the positions of its order, or with 320 and the
+/// statement where that holds.
 const ORDERS: &str = "\
 Int a = 1 Int b = 2 => 0 1 ;\
 Int a = b Int b = 1 => 1 0 ;\

@@ -99,8 +99,8 @@ fn reads(func: Func) -> bool
     )
 }
 
-/// The function that a name calls, where it may stand: 302 where there is none, 312 where it writes a file, 309 where it
-/// reads one and the scope has no outputs.
+/// The function that a name calls, where it may stand: 302 where there is none, 312 where it writes
+/// a file, 309 where it reads one and the scope has no outputs.
 pub fn callee(ident: &Ident, outputs: bool) -> Result<Func, CheckFault>
     ensures { result ≡ checked.callee_checked outputs ident.now.span (name.func_of ident.now.name) }
 {
@@ -141,7 +141,8 @@ fn cast_args(alloc: Global, params: &[Ty], args: Parts<Typed>) -> Result<Items<T
     Ok(done)
 }
 
-/// A function with its arguments, which stand at the types of its row. None where it has no row for their types.
+/// A function with its arguments, which stand at the types of its row. None where it has no row for
+/// their types.
 pub fn apply(alloc: Global, func: Func, args: Parts<Typed>) -> Result<Option<Typed>, NoMemory>
     ensures { IfOk result (λ t. t ≡ spec.apply_of func args) }
 {

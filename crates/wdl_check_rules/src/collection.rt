@@ -74,8 +74,8 @@ fn cast_all(alloc: Global, t: &Ty, items: Parts<Typed>) -> Result<Items<TExpr>, 
     Ok(exprs)
 }
 
-/// A map literal, whose keys and values stand at the joins of their types. The code is 310 where they have none, and 329
-/// where no map has keys of that type.
+/// A map literal, whose keys and values stand at the joins of their types. The code is 310 where
+/// they have none, and 329 where no map has keys of that type.
 pub fn map_at(alloc: Global, rows: Parts<TPair<Typed>>, span: Span) -> Result<Typed, CheckFault>
     ensures { checked.Gives (checked.rows_checked span rows) result }
 {

@@ -1,12 +1,14 @@
 ghost use Rattle.std.specs.Prelude.{◌≡◌};
-ghost use Rattle.wdl_check_rules.specs.declared.fault.CheckFault.TheVariants.{NoMemory as OutOfMemory};
+ghost use Rattle.wdl_check_rules.specs.declared.fault.CheckFault.TheVariants.{
+  NoMemory as OutOfMemory,
+};
 
 use std::alloc::{AllocError, AllocFailed};
 use thiserror::Error;
 use wdl_value::{NoMemory, Span};
 
-/// Why an expression has no typing: a code from 301 to 310, 312 or 329, and where its condition holds. Or an allocation
-/// failed.
+/// Why an expression has no typing: a code from 301 to 310, 312 or 329, and where its condition
+/// holds. Or an allocation failed.
 #[derive(Clone, Copy, Debug, PartialEq, Eq, Error)]
 pub enum CheckFault {
     #[error("error {code}")]

@@ -1,4 +1,5 @@
-//! The rules of the checker of expressions: what each form of expression makes of its typed parts, and the code where it makes nothing.
+//! The rules of the checker of expressions: what each form of expression makes of its typed parts,
+//! and the code where it makes nothing.
 #![tactic(auto)]
 
 mod access;

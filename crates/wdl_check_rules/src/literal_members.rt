@@ -56,7 +56,8 @@ fn member_names(alloc: Global, members: &[Member]) -> Result<BTreeSet<String>, N
     Ok(names)
 }
 
-/// Where the first name stands that the struct lacks, or that stands before: each entry takes its name from those left.
+/// Where the first name stands that the struct lacks, or that stands before: each entry takes its
+/// name from those left.
 pub fn first_stray(
     alloc: Global,
     members: &[Member],
@@ -107,7 +108,8 @@ fn by_name(alloc: Global, given: Parts<Given>) -> Result<BTreeMap<String, Given>
     Ok(names)
 }
 
-/// The value of a member: 303 where the given one has another type, 310 where none is given and it is not optional.
+/// The value of a member: 303 where the given one has another type, 310 where none is given and it
+/// is not optional.
 fn member_value(
     alloc: Global,
     span: Span,
@@ -150,7 +152,8 @@ fn member_values(
     Ok(done)
 }
 
-/// A literal of a struct of these values. `span` is where the literal writes the name of the struct.
+/// A literal of a struct of these values. `span` is where the literal writes the name of the
+/// struct.
 pub fn struct_literal(
     alloc: Global,
     span: Span,

@@ -5,8 +5,8 @@ ghost use Rattle.wdl_check_rules.specs.Locals as spec;
 use wdl_names::{Indexed, Named};
 use wdl_value::{Name, StructDef};
 
-/// A name under which a document knows a struct, and the name of that struct in the library (OpenWDL 1.1, "Struct
-/// Definition" and "Import Statements").
+/// A name under which a document knows a struct, and the name of that struct in the library
+/// (OpenWDL 1.1, "Struct Definition" and "Import Statements").
 #[derive(Clone, Copy)]
 pub struct Local<'a> {
     pub name: &'a Name,

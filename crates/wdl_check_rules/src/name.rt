@@ -69,7 +69,8 @@ pub fn check_name(
     }
 }
 
-/// `call.output`, where it is one name: where the base is a name and the scope has the two together.
+/// `call.output`, where it is one name: where the base is a name and the scope has the two
+/// together.
 pub fn output_named(
     alloc: Global,
     names: &Names,

@@ -1,5 +1,6 @@
 -- A dedented command has no more parts than its text has tokens.
 use Rattle.std.proofs.Common.{◌≡◌, ℕ, zero, suc, ◌+◌, ◌*◌, ◌≤◌, List, [], Some, ◌∷◌, ◌++◌, length, length-append, append_assoc, codes, arith, refl, ap, sym, ◌∙◌}
+use Rattle.std.proofs.lemmas.Option.{same_Some}
 use Rattle.wdl_base.specs.declared.template.Part.{Part}
 use Rattle.wdl_base.specs.declared.template.Part.TheVariants as template
 use Rattle.wdl_base.specs.Templates.{dedented, dedented_text, holes, marked, onto_text, template_of}
@@ -23,7 +24,8 @@ use Rattle.wdl_check_decls.specs.Expressions.{World}
 use Rattle.wdl_check_task.specs.Command.{part_typed, parts_behind, template_from}
 use Rattle.wdl_check_task.specs.Laws.{TaskCounts}
 use Rattle.wdl_check_task.specs.Sections.{parts_in, parts_of}
-use Rattle.wdl_check_task.proofs.Made.{made, some_is, then_some}
+use Rattle.wdl_check_task.proofs.Made.{made}
+use Rattle.wdl_check_decls.proofs.WellTyped.{then_some}
 
 -- ---- the parts of a template: one more where characters could still stand first
 
@@ -110,7 +112,7 @@ command_length t =
 
 behind_length : (w : World) (names : List Bound) (ps : List (StringPart Expr)) (before : List (TPart TExpr)) (ts : List Part) (qs : List (TPart TExpr))
     → (parts_behind w names ps before ts).typed ≡ Some qs → length qs ≡ length before + length ts
-behind_length w names ps before [] qs h = omega (arith, ap length (some_is before qs h))
+behind_length w names ps before [] qs h = omega (arith, ap length (same_Some before qs h))
 behind_length w names ps before (t ∷ ts) qs h =
     let r = then_some (part_typed w names ps t) (λ q. parts_behind w names ps (before ++ q ∷ []) ts) qs h in
     let l = behind_length w names ps (before ++ r.0 ∷ []) ts qs r.2 in

@@ -8,7 +8,7 @@ use Rattle.wdl_typed.specs.Lists.{are_distinct, has_name, has_number, numbers_di
 use Rattle.wdl_typed.specs.Order.{picked}
 use Rattle.wdl_check_decls.proofs.ListLaws.{picked_none, picked_some}
 
-is_same : (a b : List ℕ) → bytes_eq a b ≡ true → a ≡ b
+pub is_same : (a b : List ℕ) → bytes_eq a b ≡ true → a ≡ b
 is_same a b h = (bytes_eq-Decides a b).0 h
 
 same : (a b : List ℕ) → a ≡ b → bytes_eq a b ≡ true

@@ -1,9 +1,7 @@
 -- What a loop over a list reads at a turn, and what is left.
-use Rattle.std.proofs.Common.{◌≡◌, ℕ, ◌+◌, ◌<◌, ◌≤◌, List, [], ◌∷◌, drop, get_or, length, map, ap, sym, ◌∙◌}
-use Rattle.std.proofs.lemmas.List.{drop_all, drop_more}
-
-pub left : {A : Type 0} (xs : List A) (i : ℕ) (x : A) → i < length xs → x ≡ get_or xs i x → drop i xs ≡ x ∷ drop (i + 1) xs
-left xs i x within is = drop_more xs i x within ∙ ap (λ y. y ∷ drop (i + 1) xs) (sym is)
+use Rattle.std.proofs.Common.{◌≡◌, ℕ, ◌+◌, ◌<◌, ◌≤◌, List, [], ◌∷◌, drop, get_or, length, map, ap}
+use Rattle.std.proofs.lemmas.List.{drop_all}
+use Rattle.wdl_check_rules.proofs.MemberLaws.{at_front as left}
 
 pub turn : {A B : Type 0} (f : A → B) (xs : List A) (i : ℕ) (x : A) → i < length xs → x ≡ get_or xs i x → map f (drop i xs) ≡ f x ∷ map f (drop (i + 1) xs)
 turn f xs i x within is = ap (map f) (left xs i x within is)

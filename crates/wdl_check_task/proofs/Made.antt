@@ -1,5 +1,6 @@
 -- What the parts of a typed task come from.
-use Rattle.std.proofs.Common.{◌≡◌, List, [], ◌++◌, Option, Some, None, option_and_then, refl, sym, subst}
+use Rattle.std.proofs.Common.{◌≡◌, List, [], ◌++◌, Option, Some, None, refl, sym, subst}
+use Rattle.std.proofs.lemmas.Option.{same_Some}
 use Rattle.wdl_base.specs.declared.span.Span.{Span}
 use Rattle.wdl_ast.specs.declared.task.TaskSection.{TaskSection}
 use Rattle.wdl_typed.specs.declared.expr.TExpr.{TExpr}
@@ -9,7 +10,7 @@ use Rattle.wdl_typed.specs.declared.task.TInput.{TInput}
 use Rattle.wdl_typed.specs.declared.task.TaskDef.{TaskDef}
 use Rattle.wdl_typed.specs.Declarations.{decls_bound, inputs_bound}
 use Rattle.wdl_check_rules.specs.Spans.{joined}
-use Rattle.wdl_check_types.specs.Outcome.{Outcome, done, then_}
+use Rattle.wdl_check_types.specs.Outcome.{done, then_}
 use Rattle.wdl_check_decls.specs.declared.standing.Standing.TheVariants.{Private, Output}
 use Rattle.wdl_check_decls.specs.Declarations.{decls_typed, inputs_typed}
 use Rattle.wdl_check_decls.specs.Expressions.{World}
@@ -21,17 +22,7 @@ use Rattle.wdl_check_task.specs.Command.{command_typed}
 use Rattle.wdl_check_task.specs.Runtime.{runtime_typed}
 use Rattle.wdl_check_task.specs.Sections.{attributes_of, idents_of, inputs_of, outputs_of, parts_of, privates_of}
 use Rattle.wdl_check_task.specs.Tasks.{after_head, head, head_bound, head_typed, sections_typed, task_of, task_typed, unless_repeated, with_outputs, work, work_typed}
-
-pub some_is : {A : Type 0} (a b : A) → Some a ≡ Some b → a ≡ b
-some_is a b h = cc
-
--- what two parts give, the first has given something for
-pub then_some : {A B : Type 0} (o : Outcome A) (f : A → Outcome B) (b : B) → (then_ o f).typed ≡ Some b → (a : A) × (o.typed ≡ Some a) × ((f a).typed ≡ Some b)
-then_some {A} {B} o f b h = by_first o.typed refl h
-  where
-    by_first : (t : Option A) → o.typed ≡ t → option_and_then (λ a. (f a).typed) t ≡ Some b → (a : A) × (o.typed ≡ Some a) × ((f a).typed ≡ Some b)
-    by_first None e h = cc
-    by_first (Some a) e h = (a, e, h)
+use Rattle.wdl_check_decls.proofs.WellTyped.{then_some}
 
 pub record Made (w : World) (t : TaskSection) (d : TaskDef) : Type 0 where
   pub is : List TInput
@@ -56,7 +47,7 @@ made_head w t d is ds n hi hd h =
     let q = then_some (work_typed w names t) (with_outputs w names t (head t.name.name is ds)) d h in
     let c = then_some (command_typed w names (parts_of t.elements)) (λ k. then_ (runtime_typed w names (attributes_of t.elements)) (λ s. done (work k s))) q.0 q.1 in
     let r = then_some (runtime_typed w names (attributes_of t.elements)) (λ s. done (work c.0 s)) q.0 c.2 in
-    let k = subst (λ (k : Work). (with_outputs w names t (head t.name.name is ds) k).typed ≡ Some d) (sym (some_is (work c.0 r.0) q.0 r.2)) q.2 in
+    let k = subst (λ (k : Work). (with_outputs w names t (head t.name.name is ds) k).typed ≡ Some d) (sym (same_Some (work c.0 r.0) q.0 r.2)) q.2 in
     let o =
     then_some (decls_typed Output w names (outputs_of t.elements)) (λ os. done (task_of (joined t.keyword t.closing) (head t.name.name is ds) (work c.0 r.0) os)) d k in
     record {
@@ -71,7 +62,7 @@ made_head w t d is ds n hi hd h =
       from_command = c.1;
       from_runtime = r.1;
       from_outputs = o.1;
-      whole = some_is (task_of (joined t.keyword t.closing) (head t.name.name is ds) (work c.0 r.0) o.0) d o.2;
+      whole = same_Some (task_of (joined t.keyword t.closing) (head t.name.name is ds) (work c.0 r.0) o.0) d o.2;
     }
 
 made_sections : (w : World) (t : TaskSection) (d : TaskDef) → first_repeated [] (idents_of t.elements) ≡ None → (sections_typed w t).typed ≡ Some d → Made w t d
@@ -82,7 +73,7 @@ made_sections w t d n h =
     (λ is. then_ (decls_typed Private w (inputs_bound is) (privates_of t.elements)) (λ ds. done (head t.name.name is ds))) q.0 q.1 in
     let p = then_some (decls_typed Private w (inputs_bound i.0) (privates_of t.elements)) (λ ds. done (head t.name.name i.0 ds)) q.0 i.2 in
     made_head w t d i.0 p.0 n i.1 p.1
-    (subst (λ (l : Head). (after_head w (head_bound l) t l).typed ≡ Some d) (sym (some_is (head t.name.name i.0 p.0) q.0 p.2)) q.2)
+    (subst (λ (l : Head). (after_head w (head_bound l) t l).typed ≡ Some d) (sym (same_Some (head t.name.name i.0 p.0) q.0 p.2)) q.2)
 
 made_at : (w : World) (t : TaskSection) (d : TaskDef) (o : Option Span) → first_repeated [] (idents_of t.elements) ≡ o
     → (unless_repeated o (sections_typed w t)).typed ≡ Some d → Made w t d

@@ -2,13 +2,13 @@
 use Rattle.std.proofs.Common.{◌≡◌, ℕ, Bool, true, false, ◌&&◌, List, [], ◌∷◌, ◌++◌, Option, Some, None, if◌then◌else◌, not, map, slice_get, codes as texts, append_assoc, append-nil, refl, ap, sym, ◌∙◌, subst}
 use Rattle.std.proofs.lemmas.Bool.{and_from, and_parts}
 use Rattle.std.proofs.lemmas.List.{map-append}
+use Rattle.std.proofs.lemmas.Option.{same_Some}
 use Rattle.wdl_base.specs.declared.span.Span.{Span}
 use Rattle.wdl_base.specs.declared.template.Part.{Part}
 use Rattle.wdl_base.specs.declared.template.Part.TheVariants as template
 use Rattle.wdl_base.specs.Templates.{dedented}
 use Rattle.wdl_value.specs.declared.ty.Ty.{Ty}
 use Rattle.wdl_value.specs.declared.ty.Ty.TheVariants as ty
-use Rattle.wdl_value.proofs.SameTypeLemmas.{same_type-refl}
 use Rattle.wdl_ast.specs.declared.expr.Expr.{Expr}
 use Rattle.wdl_ast.specs.declared.leaf.Attribute.{Attribute}
 use Rattle.wdl_ast.specs.declared.leaf.Ident.{Ident}
@@ -41,7 +41,7 @@ use Rattle.wdl_names.proofs.FreshLemmas.{fresh-distinct}
 use Rattle.wdl_check_rules.specs.declared.typed.Typed.{Typed}
 use Rattle.wdl_check_rules.specs.Rules.{choice_of, coerced, hole_of}
 use Rattle.wdl_check_rules.specs.Spans.{joined, span_of}
-use Rattle.wdl_check_types.specs.Outcome.{done, or_refused, then_}
+use Rattle.wdl_check_types.specs.Outcome.{done, then_}
 use Rattle.wdl_check_types.specs.Places.{declaration_span, input_span}
 use Rattle.wdl_check_types.specs.Written.{written}
 use Rattle.wdl_order.specs.Least.{least_order}
@@ -62,16 +62,9 @@ use Rattle.wdl_check_task.specs.Sections.{attributes_of, declaration_idents, ide
 use Rattle.wdl_check_task.specs.Tasks.{head, task_of, work}
 use Rattle.wdl_check_laws.proofs.TreeLaws.{coerced_has}
 use Rattle.wdl_order.proofs.LeastLaws.{least}
-use Rattle.wdl_check_decls.proofs.WellTyped.{decls_types, expr_types, inputs_types, placed_types}
-use Rattle.wdl_check_task.proofs.Made.{Made, made, some_is, then_some}
+use Rattle.wdl_check_decls.proofs.WellTyped.{decls_types, expr_types, inputs_types, placed_types, then_some, refused_some, has_type}
+use Rattle.wdl_check_task.proofs.Made.{Made, made}
 use Rattle.wdl_check_task.proofs.Distinct.{Among, among_both, distinct_both, distinct_left, distinct_right, picked_among, picked_distinct, picked_map}
-
-refused_some : {A : Type 0} (code : ℕ) (span : Span) (o : Option A) (a : A) → (or_refused code span o).typed ≡ Some a → o ≡ Some a
-refused_some code span None a h = cc
-refused_some code span (Some x) a h = h
-
-has_type : (o : Option Ty) (t : Ty) → o ≡ Some t → is_type o t ≡ true
-has_type o t h = ap (λ (q : Option Ty). is_type q t) h ∙ same_type-refl t
 
 module _ (w : World) (names : List Bound) where
   -- ---- the runtime section
@@ -94,29 +87,29 @@ module _ (w : World) (names : List Bound) where
 
   codes_at : (span : Span) (x : Typed) (c : TCodes) (star one : Bool) → Has x
       → (if star then done success.Any else (if one then one_code span x else many_codes span x)).typed ≡ Some c → CodesFine c
-  codes_at span x c true one h k = subst CodesFine (some_is success.Any c k) refl
+  codes_at span x c true one h k = subst CodesFine (same_Some success.Any c k) refl
   codes_at span x c false true h k =
       let q = then_some (cast_to ty.Int span x) (λ e. done (success.One e)) c k in
-      subst CodesFine (some_is (success.One q.0) c q.2) (cast_fine span x ty.Int q.0 h q.1)
+      subst CodesFine (same_Some (success.One q.0) c q.2) (cast_fine span x ty.Int q.0 h q.1)
   codes_at span x c false false h k =
       let q = then_some (cast_to (ty.Array ty.Int false) span x) (λ e. done (success.Many e)) c k in
-      subst CodesFine (some_is (success.Many q.0) c q.2) (cast_fine span x (ty.Array ty.Int false) q.0 h q.1)
+      subst CodesFine (same_Some (success.Many q.0) c q.2) (cast_fine span x (ty.Array ty.Int false) q.0 h q.1)
 
   codes_fine : (span : Span) (x : Typed) (c : TCodes) → Has x → (codes_of span x).typed ≡ Some c → CodesFine c
   codes_fine span x c h k = codes_at span x c _ _ h k
 
   some_codes_fine : (o : Option (Attribute Expr)) (c : TCodes) → (some_codes w names o).typed ≡ Some c → CodesFine c
-  some_codes_fine None c h = subst CodesFine (some_is success.Zero c h) refl
+  some_codes_fine None c h = subst CodesFine (same_Some success.Zero c h) refl
   some_codes_fine (Some a) c h =
       let q = then_some (runtime.value_typed w names a) (codes_of (span_of a.value)) c h in
       codes_fine (span_of a.value) q.0 c (expr_types w names false false a.value q.0 q.1) q.2
 
   some_retries_fine : (o : Option (Attribute Expr)) (r : Option TExpr) → (some_retries w names o).typed ≡ Some r → RetriesFine r
-  some_retries_fine None r h = subst RetriesFine (some_is None r h) refl
+  some_retries_fine None r h = subst RetriesFine (same_Some None r h) refl
   some_retries_fine (Some a) r h =
       let q = then_some (runtime.retries_typed w names a) (λ e. done (Some e)) r h in
       let p = then_some (runtime.value_typed w names a) (cast_to ty.Int (span_of a.value)) q.0 q.1 in
-      subst RetriesFine (some_is (Some q.0) r q.2)
+      subst RetriesFine (same_Some (Some q.0) r q.2)
       (cast_fine (span_of a.value) p.0 ty.Int q.0 (expr_types w names false false a.value p.0 p.1) p.2)
 
   runtime_fine : (as_ : List (Attribute Expr)) (s : Said) → (runtime_typed w names as_).typed ≡ Some s → SaidFine s
@@ -126,7 +119,7 @@ module _ (w : World) (names : List Bound) where
       then_some (some_codes w names (first_named (texts "returnCodes") as_))
       (λ c. then_ (some_retries w names (first_named (texts "maxRetries") as_)) (λ r. done (said c r))) s q.2 in
       let r = then_some (some_retries w names (first_named (texts "maxRetries") as_)) (λ r. done (said c.0 r)) s c.2 in
-      subst SaidFine (some_is (said c.0 r.0) s r.2) (some_codes_fine (first_named (texts "returnCodes") as_) c.0 c.1, some_retries_fine (first_named (texts "maxRetries") as_) r.0 r.1)
+      subst SaidFine (same_Some (said c.0 r.0) s r.2) (some_codes_fine (first_named (texts "returnCodes") as_) c.0 c.1, some_retries_fine (first_named (texts "maxRetries") as_) r.0 r.1)
 
   -- ---- the command
 
@@ -148,7 +141,7 @@ module _ (w : World) (names : List Bound) where
   hole_at : (c : Choice) (x : Typed) (q : TPart TExpr) (b : Bool) → hole_type w.structs names c x.expr ≡ Some x.ty → hole_takes c x.ty ≡ b
       → (if b then Some (tp.Hole (record { expr = x.expr; choice = c })) else None) ≡ Some q → PartFine q
   hole_at c x q true h i k =
-      subst PartFine (some_is (tp.Hole (record { expr = x.expr; choice = c })) q k) (λ qs f. and_from _ _ (ap (takes_some c) h ∙ i) f)
+      subst PartFine (same_Some (tp.Hole (record { expr = x.expr; choice = c })) q k) (λ qs f. and_from _ _ (ap (takes_some c) h ∙ i) f)
   hole_at c x q false h i k = cc
 
   hole_fine : (h : Placeholder Expr) (q : TPart TExpr) → (hole_typed w names h).typed ≡ Some q → PartFine q
@@ -159,7 +152,7 @@ module _ (w : World) (names : List Bound) where
       (refused_some 308 (span_of h.expr) (hole_of (choice_of h.options) x) q r.2)
 
   chars_fine : (s : List ℕ) (q : TPart TExpr) → Some (tp.Chars s) ≡ Some q → PartFine q
-  chars_fine s q h = subst PartFine (some_is (tp.Chars s) q h) (λ qs f. f)
+  chars_fine s q h = subst PartFine (same_Some (tp.Chars s) q h) (λ qs f. f)
 
   placeholder_fine : (o : Option (StringPart Expr)) (q : TPart TExpr) → (placeholder_typed w names o).typed ≡ Some q → PartFine q
   placeholder_fine None q h = chars_fine [] q h
@@ -177,7 +170,7 @@ module _ (w : World) (names : List Bound) where
 
   parts_fine : (ps : List (StringPart Expr)) (before : List (TPart TExpr)) (ts : List Part) (qs : List (TPart TExpr)) → AreFine before
       → (parts_behind w names ps before ts).typed ≡ Some qs → AreFine qs
-  parts_fine ps before [] qs f h = subst AreFine (some_is before qs h) f
+  parts_fine ps before [] qs f h = subst AreFine (same_Some before qs h) f
   parts_fine ps before (t ∷ ts) qs f h =
       let r = then_some (part_typed w names ps t) (λ q. parts_behind w names ps (before ++ q ∷ []) ts) qs h in
       parts_fine ps (before ++ r.0 ∷ []) ts qs (push_fine before r.0 f (part_fine ps t r.0 r.1)) r.2
@@ -197,13 +190,13 @@ input_name : (w : World) (names : List Bound) (i : InputDeclaration) (t : TInput
 input_name w names i t h =
     let q = then_some (written w.locals i.ty) (λ u. then_ (preset_typed w names u i.preset) (λ v. done (input i u v))) t h in
     let r = then_some (preset_typed w names q.0 i.preset) (λ v. done (input i q.0 v)) t q.2 in
-    ap (λ (t : TInput). t.name) (sym (some_is (input i q.0 r.0) t r.2))
+    ap (λ (t : TInput). t.name) (sym (same_Some (input i q.0 r.0) t r.2))
 
 decl_name : (standing : Standing) (w : World) (names : List Bound) (d : Declaration) (t : TDecl) → (decl_typed standing w names d).typed ≡ Some t → t.name ≡ d.name.name
 decl_name standing w names d t h =
     let q = then_some (written w.locals d.ty) (λ u. then_ (value_typed standing w names d.value u) (λ e. done (declared d u e))) t h in
     let r = then_some (value_typed standing w names d.value q.0) (λ e. done (declared d q.0 e)) t q.2 in
-    ap (λ (t : TDecl). t.name) (sym (some_is (declared d q.0 r.0) t r.2))
+    ap (λ (t : TDecl). t.name) (sym (same_Some (declared d q.0 r.0) t r.2))
 
 -- a list of names with one more before the rest
 moved : {A : Type 0} (f : A → List ℕ) (before : List A) (t : A) (n : List ℕ) (rest : List (List ℕ)) → f t ≡ n → map f (before ++ t ∷ []) ++ rest ≡ map f before ++ n ∷ rest
@@ -212,7 +205,7 @@ moved f before t n rest e =
 
 inputs_named : (w : World) (before : List TInput) (is : List InputDeclaration) (ts : List TInput) → (inputs_behind w before is).typed ≡ Some ts
     → input_names ts ≡ input_names before ++ names_in is
-inputs_named w before [] ts h = ap input_names (sym (some_is before ts h)) ∙ sym (append-nil (input_names before))
+inputs_named w before [] ts h = ap input_names (sym (same_Some before ts h)) ∙ sym (append-nil (input_names before))
 inputs_named w before (i ∷ is) ts h =
     let q = then_some (input_typed w (inputs_bound before) i) (λ t. inputs_behind w (before ++ t ∷ []) is) ts h in
     inputs_named w (before ++ q.0 ∷ []) is ts q.2
@@ -220,7 +213,7 @@ inputs_named w before (i ∷ is) ts h =
 
 decls_named : (standing : Standing) (w : World) (names : List Bound) (before : List TDecl) (ds : List Declaration) (ts : List TDecl)
     → (decls_behind standing w names before ds).typed ≡ Some ts → decl_names ts ≡ decl_names before ++ names_of ds
-decls_named standing w names before [] ts h = ap decl_names (sym (some_is before ts h)) ∙ sym (append-nil (decl_names before))
+decls_named standing w names before [] ts h = ap decl_names (sym (same_Some before ts h)) ∙ sym (append-nil (decl_names before))
 decls_named standing w names before (d ∷ ds) ts h =
     let q = then_some (decl_typed standing w (names ++ decls_bound before) d) (λ t. decls_behind standing w names (before ++ t ∷ []) ds) ts h in
     decls_named standing w names (before ++ q.0 ∷ []) ds ts q.2

@@ -109,9 +109,9 @@ fn check_parts(
     Ok(command)
 }
 
-/// A command without its common indent, with typed placeholders. A placeholder without options may be a call of a function
-/// that writes a file (OpenWDL 1.1, "Command Section"). `Bad` comes exactly where a placeholder is not typed; the code's
-/// condition holds at the span.
+/// A command without its common indent, with typed placeholders. A placeholder without options may
+/// be a call of a function that writes a file (OpenWDL 1.1, "Command Section"). `Bad` comes exactly
+/// where a placeholder is not typed; the code's condition holds at the span.
 pub fn check_command(
     alloc: Global,
     seeing: &Seeing,

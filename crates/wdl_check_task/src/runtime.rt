@@ -174,9 +174,9 @@ fn check_named(
     }
 }
 
-/// What the attributes say, of which each is checked as an expression, and the first of a name counts (OpenWDL 1.1,
-/// "Runtime Section"). `Bad` comes with 311 where `returnCodes` is no number, no list of numbers and not `"*"`, or
-/// `maxRetries` is no number.
+/// What the attributes say, of which each is checked as an expression, and the first of a name
+/// counts (OpenWDL 1.1, "Runtime Section"). `Bad` comes with 311 where `returnCodes` is no number,
+/// no list of numbers and not `"*"`, or `maxRetries` is no number.
 pub fn check_runtime(
     alloc: Global,
     seeing: &Seeing,

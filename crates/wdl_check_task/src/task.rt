@@ -214,10 +214,11 @@ fn check_sections(
     after_head(alloc, seeing, &mut names, section, head)
 }
 
-/// A task with all its types (OpenWDL 1.1, "Task Definition"): its lists in dependency order, its command without the
-/// common indent. `Bad` comes exactly where the rules give no typed task, with a code whose condition holds at the span:
-/// 321 where a name stands twice, 320 where a list has no order, 311 and 308 where an attribute or a placeholder does not
-/// take the type of its expression, and those of types and expressions.
+/// A task with all its types (OpenWDL 1.1, "Task Definition"): its lists in dependency order, its
+/// command without the common indent. `Bad` comes exactly where the rules give no typed task, with
+/// a code whose condition holds at the span: 321 where a name stands twice, 320 where a list has no
+/// order, 311 and 308 where an attribute or a placeholder does not take the type of its expression,
+/// and those of types and expressions.
 pub fn check_task(
     alloc: Global,
     seeing: &Seeing,

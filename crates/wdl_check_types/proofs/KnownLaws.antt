@@ -1,6 +1,7 @@
 -- Each written type can be written: by induction over the type as it stands in the text.
 use Rattle.std.proofs.Common.{◌≡◌, ℕ, Bool, true, false, not, ◌&&◌, ◌||◌, List, [], ◌∷◌, Option, Some, None, option_and_then, option_map, refl, ap, sym, ◌∙◌, subst, cond}
 use Rattle.std.proofs.lemmas.Bool.{and_from, false≢true}
+use Rattle.std.proofs.lemmas.Option.{same_Some}
 use Rattle.wdl_base.specs.declared.span.Span.{Span}
 use Rattle.wdl_value.specs.declared.ty.Ty.{Ty, Ty-F, fold-Ty, fold-roll-Ty, fold_out-Ty, map-Ty, out-Ty}
 use Rattle.wdl_value.specs.declared.ty.Ty.TheVariants as ty
@@ -16,13 +17,7 @@ use Rattle.wdl_check_rules.specs.Locals.{Naming}
 use Rattle.wdl_check_rules.specs.Spans.{joined}
 use Rattle.wdl_check_types.specs.Outcome.{Outcome, done, or_refused, refused}
 use Rattle.wdl_check_types.specs.Written.{is_there, map_written, marked, written, written_step}
-
-some_is : {A : Type 0} (a b : A) → Some a ≡ Some b → a ≡ b
-some_is a b h = cc
-
-then_some : {A B : Type 0} (f : A → Option B) (o : Option A) (b : B) → option_and_then f o ≡ Some b → (a : A) × (o ≡ Some a) × (f a ≡ Some b)
-then_some f None b h = cc
-then_some f (Some a) b h = (a, refl, h)
+use Rattle.wdl_base.proofs.Options.{then_parts}
 
 module _ (structs : Structs) where
   abbrev says : Ty → Written
@@ -80,10 +75,10 @@ module _ (structs : Structs) where
   finish : (o : Option Ty) (qs : List Span) (t : Ty) → ((u : Ty) → o ≡ Some u → Fine u)
       → option_and_then (λ u. Some (marked qs u)) o ≡ Some t → (says t).known ≡ true
   finish None qs t f h = cc
-  finish (Some u) qs t f h = subst (λ (v : Ty). (says v).known ≡ true) (some_is (marked qs u) t h) (marked_known qs u (f u refl))
+  finish (Some u) qs t f h = subst (λ (v : Ty). (says v).known ≡ true) (same_Some (marked qs u) t h) (marked_known qs u (f u refl))
 
   given : (a u : Ty) → Fine a → Some a ≡ Some u → Fine u
-  given a u f h = subst Fine (some_is a u h) f
+  given a u f h = subst Fine (same_Some a u h) f
 
   struct_fine : (o : Option (List ℕ)) (span : Span) (u : Ty) → ((n : List ℕ) → o ≡ Some n → is_some (members_of structs n) ≡ true)
       → (or_refused 329 span (option_map ty.Struct o)).typed ≡ Some u → Fine u
@@ -110,22 +105,22 @@ module _ (structs : Structs) where
 
     array_fine : (x : Known) (p : Bool) (u : Ty) → option_and_then (λ t. Some (ty.Array t p)) (written locals x.0).typed ≡ Some u → Fine u
     array_fine x p u h =
-        let a = then_some (λ t. Some (ty.Array t p)) (written locals x.0).typed u h in
+        let a = then_parts (λ t. Some (ty.Array t p)) (written locals x.0).typed u h in
         given (ty.Array a.0 p) u (fine_by (ty.Array a.0 p) _ false (array_says a.0 p) (x.1 a.0 a.1)) a.2
 
     pair_fine : (x y : Known) (u : Ty)
         → option_and_then (λ t. option_and_then (λ v. Some (ty.Pair t v)) (written locals y.0).typed) (written locals x.0).typed ≡ Some u → Fine u
     pair_fine x y u h =
-        let a = then_some (λ t. option_and_then (λ v. Some (ty.Pair t v)) (written locals y.0).typed) (written locals x.0).typed u h in
-        let b = then_some (λ v. Some (ty.Pair a.0 v)) (written locals y.0).typed u a.2 in
+        let a = then_parts (λ t. option_and_then (λ v. Some (ty.Pair t v)) (written locals y.0).typed) (written locals x.0).typed u h in
+        let b = then_parts (λ v. Some (ty.Pair a.0 v)) (written locals y.0).typed u a.2 in
         given (ty.Pair a.0 b.0) u
         (fine_by (ty.Pair a.0 b.0) _ false (pair_says a.0 b.0) (and_from (says a.0).known (says b.0).known (x.1 a.0 a.1) (y.1 b.0 b.1))) b.2
 
     rows_fine : (span : Span) (x y : Known) (u : Ty)
         → option_and_then (λ k. option_and_then (λ t. (map_written span k t).typed) (written locals y.0).typed) (written locals x.0).typed ≡ Some u → Fine u
     rows_fine span x y u h =
-        let a = then_some (λ k. option_and_then (λ t. (map_written span k t).typed) (written locals y.0).typed) (written locals x.0).typed u h in
-        let b = then_some (λ t. (map_written span a.0 t).typed) (written locals y.0).typed u a.2 in
+        let a = then_parts (λ k. option_and_then (λ t. (map_written span k t).typed) (written locals y.0).typed) (written locals x.0).typed u h in
+        let b = then_parts (λ t. (map_written span a.0 t).typed) (written locals y.0).typed u a.2 in
         map_fine span a.0 b.0 u (is_scalar a.0) refl (x.1 a.0 a.1) (y.1 b.0 b.1) b.2
 
     layer_known : (b : BaseType Known) (qs : List Span) (t : Ty)

@@ -1,4 +1,5 @@
-//! Types as a document writes them, by the names under which it knows structs; and what the checks of a document answer.
+//! Types as a document writes them, by the names under which it knows structs; and what the checks
+//! of a document answer.
 #![tactic(auto)]
 
 mod laws;

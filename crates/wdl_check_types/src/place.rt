@@ -53,7 +53,8 @@ pub fn declaration_span(declaration: &Declaration) -> Span
     from_to(type_start(&declaration.ty), span_of(&declaration.value))
 }
 
-/// The name of a call: its alias, or else the last word of its target (OpenWDL 1.1, "Call Statement").
+/// The name of a call: its alias, or else the last word of its target (OpenWDL 1.1, "Call
+/// Statement").
 pub fn call_ident(call: &Call) -> &Ident
     ensures { result.now ≡ place.call_ident call.now }
 {

@@ -131,9 +131,9 @@ fn base(alloc: Global, base: &BaseType<TypeTree>, locals: &Indexed<Local>) -> Re
     }
 }
 
-/// The type that a document writes, in the names of the library (OpenWDL 1.1, "Types"). `Bad` comes with 329 exactly where
-/// it names a struct that the document does not know, or a map has other keys than Boolean, Int, String or File. More
-/// than one `?` counts as one.
+/// The type that a document writes, in the names of the library (OpenWDL 1.1, "Types"). `Bad` comes
+/// with 329 exactly where it names a struct that the document does not know, or a map has other
+/// keys than Boolean, Int, String or File. More than one `?` counts as one.
 #[cycle(written)]
 pub fn written_type(
     alloc: Global,

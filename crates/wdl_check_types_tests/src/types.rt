@@ -12,7 +12,8 @@ use wdl_value::{Name, Span};
 /// What the names of the document stand for.
 const LOCALS: &str = "P P;B Q;Q R";
 
-/// Types as the document writes them, each in the names of the library, or with 329 and the text where that holds.
+/// Types as the document writes them, each in the names of the library, or with 329 and the text
+/// where that holds.
 const TYPES: &str = "\
 Int => Int;\
 Boolean => Boolean;\

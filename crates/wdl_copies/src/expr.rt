@@ -125,7 +125,8 @@ fn string_parts(
     Ok(done)
 }
 
-/// A copy of an expression in which each struct literal has the name that its struct has in the library.
+/// A copy of an expression in which each struct literal has the name that its struct has in the
+/// library.
 #[cycle(copy_expr)]
 #[tactic(auto, using(crate::proofs::RenamedLaws::equations))]
 pub fn copy_expr(alloc: Global, e: &Expr, locals: &Indexed<Local>) -> Result<Expr, NoMemory>

@@ -1,4 +1,5 @@
-//! Values that go where they are kept. Each call is the last of a function, so that no tree is owned beside a `?`.
+//! Values that go where they are kept. Each call is the last of a function, so that no tree is
+//! owned beside a `?`.
 
 ghost use Rattle.std.specs.Prelude.{◌≡◌, ◌++◌, ◌∷◌, [], IfOk, OnOk};
 

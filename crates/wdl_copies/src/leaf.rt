@@ -20,7 +20,8 @@ pub fn copy_ident(alloc: Global, ident: &Ident) -> Result<Ident, NoMemory>
     })
 }
 
-/// The name of a struct as the library has it, where the document knows that struct; else the same name.
+/// The name of a struct as the library has it, where the document knows that struct; else the same
+/// name.
 pub fn library_ident(
     alloc: Global,
     ident: &Ident,

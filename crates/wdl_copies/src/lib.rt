@@ -1,4 +1,5 @@
-//! Copies of expressions, types, tasks, calls and sections, with the names of structs as the library has them.
+//! Copies of expressions, types, tasks, calls and sections, with the names of structs as the
+//! library has them.
 #![tactic(auto)]
 
 mod call;

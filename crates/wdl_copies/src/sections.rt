@@ -1,4 +1,5 @@
-//! Copies of declarations and of sections that tasks and workflows share, with the names of structs as the library has them.
+//! Copies of declarations and of sections that tasks and workflows share, with the names of structs
+//! as the library has them.
 
 ghost use Rattle.std.specs.Prelude.{◌≡◌, ◌++◌, ◌∷◌, [], option_map, IfOk, OnOk};
 ghost use Rattle.wdl_check_rules.specs.Locals as local;

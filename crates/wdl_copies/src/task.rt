@@ -177,7 +177,8 @@ fn copy_elements(
     Ok(copies)
 }
 
-/// A copy of a task under a name, with the names of structs as the library has them and without metadata.
+/// A copy of a task under a name, with the names of structs as the library has them and without
+/// metadata.
 pub fn copy_task(
     alloc: Global,
     task: &TaskSection,

@@ -1,4 +1,5 @@
-//! The limits of depth: through how many structs members lead, and how many blocks and calls stand on a path.
+//! The limits of depth: through how many structs members lead, and how many blocks and calls stand
+//! on a path.
 #![tactic(auto)]
 
 mod limits;

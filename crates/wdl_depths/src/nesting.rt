@@ -1,4 +1,5 @@
-//! How many blocks and calls stand on a path: level by level, each in time linear in the statements.
+//! How many blocks and calls stand on a path: level by level, each in time linear in the
+//! statements.
 
 ghost use Rattle.std.specs.Prelude.{◌≡◌, ◌+◌, ◌<◌, ◌≤◌, [], IfOk, OnOk, slice_get};
 ghost use Rattle.wdl_typed.specs.declared.flow.Statement.{out-Statement};
@@ -12,8 +13,8 @@ use std::marker::Model;
 use wdl_typed::{FlowDef, Statement, Target};
 use wdl_value::NoMemory;
 
-/// For each level below a number, and each workflow, whether at most that many blocks and calls stand on each path
-/// through the workflow.
+/// For each level below a number, and each workflow, whether at most that many blocks and calls
+/// stand on each path through the workflow.
 #[derive(Drop)]
 pub struct Levels<'a> {
     flows: &'a [FlowDef],
@@ -64,7 +65,8 @@ impl<'a> Levels<'a> {
         }
     }
 
-    /// Whether the workflow of that number is there, and at most `level` blocks and calls stand on each path through it.
+    /// Whether the workflow of that number is there, and at most `level` blocks and calls stand on
+    /// each path through it.
     fn flow_nests(&self, level: usize, number: u32) -> bool
         requires { level < self.now.1 }
         ensures { result ≡ bodies.flow_nests (bodies.body_nests self.now.0 level) (slice_get self.now.0 number) }
@@ -86,7 +88,8 @@ impl<'a> Levels<'a> {
         }
     }
 
-    /// For each workflow whether at most as many blocks and calls as there are levels stand on each path through it.
+    /// For each workflow whether at most as many blocks and calls as there are levels stand on each
+    /// path through it.
     fn next_table(&self, alloc: Global) -> Result<Items<bool>, NoMemory>
         ensures { IfOk result (λ t. t ≡ nesting_level self.now.0 self.now.1) }
     {

@@ -1,4 +1,5 @@
-//! Through how many structs members lead: level by level, each in time linear in the structs but for a logarithm.
+//! Through how many structs members lead: level by level, each in time linear in the structs but
+//! for a logarithm.
 
 ghost use Rattle.std.specs.Prelude.{◌≡◌, zero, suc, IfOk};
 ghost use Rattle.std.specs.List.{list_all};
@@ -12,7 +13,8 @@ use std::alloc::Global;
 use wdl_names::Indexed;
 use wdl_value::{Member, Name, NoMemory, StructDef, Ty};
 
-/// Whether the struct's members lead through at most `level` structs, given this of each struct of the list.
+/// Whether the struct's members lead through at most `level` structs, given this of each struct of
+/// the list.
 pub fn name_is_shallow(
     name: &Name,
     level: u32,

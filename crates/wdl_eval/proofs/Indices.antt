@@ -4,6 +4,7 @@ use Rattle.std.specs.Prelude.{slice_get, codes}
 use Rattle.std.specs.Str.{bytes_eq}
 use Rattle.std.proofs.lemmas.Bool.{false≢true, and_parts}
 use Rattle.std.proofs.lemmas.Slice.Eq.{bytes_eq-Decides}
+use Rattle.std.proofs.lemmas.Option.{same_Some}
 use Rattle.wdl_value.specs.declared.ty.Member.{Member}
 use Rattle.wdl_value.specs.declared.ty.Ty.{Ty, Ty-F, out-Ty, roll-Ty, roll-out-Ty}
 use Rattle.wdl_value.specs.declared.ty.Ty.TheVariants as ty
@@ -21,10 +22,11 @@ use Rattle.wdl_typed.specs.Evaluation.{Met, field_among, indexed, item_at, item_
 use Rattle.wdl_typed.specs.Typing.{at_of, at_type, both, member_at as member_of, member_type, type_among}
 use Rattle.wdl_eval.specs.Laws.{IsSound}
 use Rattle.wdl_eval.proofs.Scalars.{an_int_layer, int_type}
-use Rattle.wdl_eval.proofs.Steps.{Fine, Fits, at_type as at_the_type, bind, both_in, some_in, some_same, when_in}
+use Rattle.wdl_eval.proofs.Steps.{Fine, Fits, at_type as at_the_type, bind, both_in, when_in}
 use Rattle.wdl_eval.proofs.StructForms.{a_struct, members_fit}
+use Rattle.wdl_base.proofs.Options.{then_parts}
 
-made : (t : Ty) (z : Ty-F Ty) → out-Ty t ≡ z → t ≡ roll-Ty z
+pub made : (t : Ty) (z : Ty-F Ty) → out-Ty t ≡ z → t ≡ roll-Ty z
 made t z is = sym (roll-out-Ty t) ∙ ap roll-Ty is
 
 module _ (structs : Structs) where
@@ -42,18 +44,18 @@ module _ (structs : Structs) where
     where
       by_test : (b : Bool) → Fits structs m.ty f.value → (type_among ms name ≡ Some w → IsSound structs w (field_among fs name)) → cond b (Some m.ty) (type_among ms name) ≡ Some w
           → IsSound structs w (cond b (Ok f.value) (field_among fs name))
-      by_test true g more e = at_the_type structs (Ok f.value) (some_same e) g
+      by_test true g more e = at_the_type structs (Ok f.value) (same_Some _ _ e) g
       by_test false g more e = more e
 
   side_found : (name : _) (x y : Value) (t u w : Ty) → Fits structs t x → Fits structs u y → member_of structs name (type.Pair t u) ≡ Some w → IsSound structs w (member_at name (layer.Pair x y))
   side_found name x y t u w h k e = by_left (bytes_eq name (codes "left")) e
     where
       by_right : (b : Bool) → cond b (Some u) None ≡ Some w → IsSound structs w (cond b (Ok y) wrong)
-      by_right true e = at_the_type structs (Ok y) (some_same e) k
+      by_right true e = at_the_type structs (Ok y) (same_Some _ _ e) k
       by_right false e = cc
 
       by_left : (b : Bool) → cond b (Some t) (cond (bytes_eq name (codes "right")) (Some u) None) ≡ Some w → IsSound structs w (cond b (Ok x) (cond (bytes_eq name (codes "right")) (Ok y) wrong))
-      by_left true e = at_the_type structs (Ok x) (some_same e) h
+      by_left true e = at_the_type structs (Ok x) (same_Some _ _ e) h
       by_left false e = by_right (bytes_eq name (codes "right")) e
 
   member_found : (t : Ty) (name : _) (w : Ty) (x : Value) → member_type structs name t ≡ Some w → Fits structs t x → IsSound structs w (member_at name (out-Value x))
@@ -67,14 +69,14 @@ module _ (structs : Structs) where
           let p = a_pair structs x a b (at (ty.Pair a b) (made t (type.Pair a b) is ∙ ty.rolls-Pair a b)) in
           subst (λ (l : Value-F Value). IsSound structs w (member_at name l)) (sym p.3) (side_found name p.0 p.1 a b w p.4 p.5 e)
       by_layer (type.Struct s) is e =
-          let q = some_in (λ ms. type_among ms name) (members_of structs s) w e in
+          let q = then_parts (λ ms. type_among ms name) (members_of structs s) w e in
           let p = a_struct structs x s q.0 q.1 (at (ty.Struct s) (made t (type.Struct s) is ∙ ty.rolls-Struct s)) in
           subst (λ (l : Value-F Value). IsSound structs w (member_at name l)) (sym p.2) (field_found p.1 q.0 name w p.3 q.2)
       by_layer z is e = cc
 
   pub member_fine : (o : Option Ty) (name : _) (r : Met Value) → Fine structs o r → Fine structs (option_and_then (member_type structs name) o) (then_ r (λ x. member_at name (out-Value x)))
   member_fine o name r f w e =
-      let p = some_in (member_type structs name) o w e in
+      let p = then_parts (member_type structs name) o w e in
       bind (Fits structs p.0) (Fits structs w) r (λ x. member_at name (out-Value x)) (f p.0 p.1) (λ x h. member_found p.0 name w x p.2 h)
 
   -- ---- items

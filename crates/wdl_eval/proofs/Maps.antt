@@ -1,6 +1,7 @@
 -- Map literals.
 use Rattle.std.proofs.Common.{◌≡◌, Bool, true, false, cond, ◌&&◌, List, [], ◌∷◌, ◌++◌, map, Some, Ok, option_and_then, subst, refl}
 use Rattle.std.proofs.lemmas.Bool.{false≢true, and_parts, and_from}
+use Rattle.std.proofs.lemmas.Option.{same_Some}
 use Rattle.wdl_base.specs.declared.fault.EvalCode.TheVariants.{RepeatedKey}
 use Rattle.wdl_base.specs.declared.name.Key.{Key}
 use Rattle.wdl_value.specs.declared.ty.Ty.{Ty}
@@ -24,7 +25,8 @@ use Rattle.wdl_eval.specs.Nodes.{rows_met}
 use Rattle.wdl_eval.specs.Ready.{FitsNames}
 use Rattle.wdl_eval.proofs.Known.{Known, pairs}
 use Rattle.wdl_eval.proofs.Names.{left_names, right_names}
-use Rattle.wdl_eval.proofs.Steps.{Fine, Fits, at_type, bind, some_in, some_same, when_in}
+use Rattle.wdl_eval.proofs.Steps.{Fine, Fits, at_type, bind, when_in}
+use Rattle.wdl_base.proofs.Options.{then_parts}
 
 module _ (structs : Structs) where
   -- each key and each value fits the type of its expression
@@ -55,7 +57,7 @@ module _ (structs : Structs) where
       by_test false d = tt
 
   map_made : (us ts : List Ty) (rows : List (MapRow Value)) (w : Ty) → map_type us ts ≡ Some w → pairs_fit rows us ts ≡ true → IsSound structs w (map_of rows)
-  map_made [] [] [] w e h = at_type structs (map_of []) (some_same e) (distinct_made [] ty.Empty ty.Empty refl)
+  map_made [] [] [] w e h = at_type structs (map_of []) (same_Some _ _ e) (distinct_made [] ty.Empty ty.Empty refl)
   map_made [] [] (r ∷ rows) w e h = absurd (false≢true h)
   map_made [] (t ∷ ts) rows w e h = cc
   map_made (u ∷ us) [] rows w e h = cc
@@ -78,18 +80,18 @@ module _ (c : Context) (s : Setting) where
       → all_types (keys_in (typings (pairs c s ks)) placeholder) ≡ Some us → all_types (values_in (typings (pairs c s ks)) placeholder) ≡ Some ts
       → IsMet (λ rows. pairs_fit c.structs rows us ts ≡ true) (rows_met s (pairs c s ks))
   all_sound [] placeholder us ts g e d =
-      subst (λ (z : List Ty). pairs_fit c.structs [] z ts ≡ true) (some_same e) (subst (λ (z : List Ty). pairs_fit c.structs [] [] z ≡ true) (some_same d) refl)
+      subst (λ (z : List Ty). pairs_fit c.structs [] z ts ≡ true) (same_Some _ _ e) (subst (λ (z : List Ty). pairs_fit c.structs [] [] z ≡ true) (same_Some _ _ d) refl)
   all_sound (k ∷ ks) placeholder us ts g e d =
       let keys = all_types (keys_in (typings (pairs c s ks)) placeholder) in
       let values = all_types (values_in (typings (pairs c s ks)) placeholder) in
-      let a = some_in (λ (t : Ty). option_and_then (λ zs. Some (t ∷ zs)) keys) (type_of c k.key.0 placeholder) us e in
-      let b = some_in (λ zs. Some (a.0 ∷ zs)) keys us a.2 in
-      let m = some_in (λ (t : Ty). option_and_then (λ zs. Some (t ∷ zs)) values) (type_of c k.value.0 placeholder) ts d in
-      let n = some_in (λ zs. Some (m.0 ∷ zs)) values ts m.2 in
+      let a = then_parts (λ (t : Ty). option_and_then (λ zs. Some (t ∷ zs)) keys) (type_of c k.key.0 placeholder) us e in
+      let b = then_parts (λ zs. Some (a.0 ∷ zs)) keys us a.2 in
+      let m = then_parts (λ (t : Ty). option_and_then (λ zs. Some (t ∷ zs)) values) (type_of c k.value.0 placeholder) ts d in
+      let n = then_parts (λ zs. Some (m.0 ∷ zs)) values ts m.2 in
       let own = left_names c s.env (names_of k.key.0 ++ names_of k.value.0) (names (pairs c s ks)) g in
       let Q : List (MapRow Value) → Type 0 = λ rows. pairs_fit c.structs rows (a.0 ∷ b.0) (m.0 ∷ n.0) ≡ true in
-      subst (λ (z : List Ty). IsMet (λ rows. pairs_fit c.structs rows z ts ≡ true) (rows_met s (pairs c s (k ∷ ks)))) (some_same b.2)
-      (subst (λ (z : List Ty). IsMet (λ rows. pairs_fit c.structs rows (a.0 ∷ b.0) z ≡ true) (rows_met s (pairs c s (k ∷ ks)))) (some_same n.2)
+      subst (λ (z : List Ty). IsMet (λ rows. pairs_fit c.structs rows z ts ≡ true) (rows_met s (pairs c s (k ∷ ks)))) (same_Some _ _ b.2)
+      (subst (λ (z : List Ty). IsMet (λ rows. pairs_fit c.structs rows (a.0 ∷ b.0) z ≡ true) (rows_met s (pairs c s (k ∷ ks)))) (same_Some _ _ n.2)
       (bind (Fits c.structs a.0) Q (value_met s k.key.0) (λ x. then_ (value_met s k.value.0) (λ y. then_ (rows_met s (pairs c s ks)) (λ rows. Ok (record { key = x; value = y } ∷ rows))))
       (k.key.1 placeholder (left_names c s.env (names_of k.key.0) (names_of k.value.0) own) a.0 a.1) (λ x h.
       bind (Fits c.structs m.0) Q (value_met s k.value.0) (λ y. then_ (rows_met s (pairs c s ks)) (λ rows. Ok (record { key = x; value = y } ∷ rows)))
@@ -105,7 +107,7 @@ module _ (c : Context) (s : Setting) where
   map_fine ks placeholder g w e =
       let keys = all_types (keys_in (typings (pairs c s ks)) placeholder) in
       let values = all_types (values_in (typings (pairs c s ks)) placeholder) in
-      let p = some_in (λ (us : List Ty). option_and_then (λ ts. map_type us ts) values) keys w e in
-      let q = some_in (λ (ts : List Ty). map_type p.0 ts) values w p.2 in
+      let p = then_parts (λ (us : List Ty). option_and_then (λ ts. map_type us ts) values) keys w e in
+      let q = then_parts (λ (ts : List Ty). map_type p.0 ts) values w p.2 in
       bind (λ rows. pairs_fit c.structs rows p.0 q.0 ≡ true) (Fits c.structs w) (rows_met s (pairs c s ks)) map_of (all_sound ks placeholder p.0 q.0 g p.1 q.1)
       (λ rows h. map_made c.structs p.0 q.0 rows w q.2 h)

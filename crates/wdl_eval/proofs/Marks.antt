@@ -1,5 +1,5 @@
 -- Two keys are one where their marks are, and a set of marks that were seen.
-use Rattle.std.proofs.Common.{◌≡◌, ℕ, ℤ, pos, negsuc, ◌<◌, ◌+◌, Bool, true, false, cond, not, ◌&&◌, ◌||◌, List, [], ◌∷◌, length, get_or, drop, Option, Some, None, String, string_bytes, arith, sym, ap, ◌∙◌, refl}
+use Rattle.std.proofs.Common.{◌≡◌, ℕ, ℤ, ◌<◌, ◌+◌, Bool, true, false, cond, not, ◌&&◌, ◌||◌, List, [], ◌∷◌, length, get_or, drop, Option, Some, None, String, string_bytes, arith, sym, ap, ◌∙◌, refl}
 use Rattle.std.specs.BTreeSet.{BTreeSet, contains_text}
 use Rattle.std.specs.Cmp.Lexicographic.{slice_cmp}
 use Rattle.std.specs.Fmt.{signed_decimal}
@@ -8,8 +8,6 @@ use Rattle.std.specs.List.{list_any}
 use Rattle.std.specs.Ordering.{is_eq, nat_cmp}
 use Rattle.std.specs.Str.{bytes_eq}
 use Rattle.std.proofs.lemmas.Bool.{false≢true}
-use Rattle.std.proofs.lemmas.Bool.Decides.{nat_tests}
-use Rattle.std.proofs.lemmas.Fmt.{signed_decimal_injective}
 use Rattle.std.proofs.lemmas.List.{drop_more}
 use Rattle.std.proofs.lemmas.Slice.Eq.{bytes_eq-Decides}
 use Rattle.wdl_value.specs.declared.value.MapRow.{MapRow}
@@ -21,21 +19,10 @@ use Rattle.wdl_value.specs.SameValue.{same_value}
 use Rattle.wdl_value.specs.ValueText.{bool_text}
 use Rattle.wdl_value.proofs.SameValueLemmas.{same_value-refl, same_value-true}
 use Rattle.wdl_eval.specs.Marks.{int_mark, mark_at, mark_of}
+use Rattle.wdl_value.proofs.CastParts.{bool_text_injective as same_bool_text, int_text_injective as same_int_text}
+use Rattle.wdl_stdlib.proofs.Keys.{regroup}
 
 -- ---- equal marks
-
-same_bool_text : (b c : Bool) → bool_text b ≡ bool_text c → b ≡ c
-same_bool_text true true e = refl
-same_bool_text false false e = refl
-same_bool_text true false e = absurd (cc)
-same_bool_text false true e = absurd (cc)
-
-same_int_text : (m n : ℤ) → is_int m ≡ true → is_int n ≡ true → signed_decimal m ≡ signed_decimal n → m ≡ n
-unfolding is_int
-same_int_text (pos m) (pos n) h k e = signed_decimal_injective (pos m) (pos n) (grind (arith, nat_tests)) (grind (arith, nat_tests)) e
-same_int_text (pos m) (negsuc n) h k e = signed_decimal_injective (pos m) (negsuc n) (grind (arith, nat_tests)) (grind (arith, nat_tests)) e
-same_int_text (negsuc m) (pos n) h k e = signed_decimal_injective (negsuc m) (pos n) (grind (arith, nat_tests)) (grind (arith, nat_tests)) e
-same_int_text (negsuc m) (negsuc n) h k e = signed_decimal_injective (negsuc m) (negsuc n) (grind (arith, nat_tests)) (grind (arith, nat_tests)) e
 
 int_marked : (n : ℤ) (s : List ℕ) → int_mark n ≡ Some s → (is_int n ≡ true) × (105 ∷ signed_decimal n ≡ s)
 int_marked n s = by_test (is_int n) refl
@@ -133,13 +120,6 @@ meet-empty seen h (r ∷ rows) = by_mark (mark_of r.key) (meet-empty seen h rows
     by_mark : (o : Option (List ℕ)) → meet seen rows ≡ false → (is_seen seen o || meet seen rows) ≡ false
     by_mark None e = e
     by_mark (Some s) e = ap (λ keys. list_any (λ k. is_eq (slice_cmp nat_cmp s (string_bytes k))) keys || meet seen rows) h ∙ e
-
-regroup : (a b c d : Bool) → (cond a true b || (c || d)) ≡ ((b || c) || (a || d))
-regroup true true c d = refl
-regroup true false true d = refl
-regroup true false false d = refl
-regroup false true c d = refl
-regroup false false c d = refl
 
 meet-insert : (seen more : BTreeSet (String Global)) (s : List ℕ) → Adds seen more s → (rows : List (MapRow Value)) → meet more rows ≡ (meet seen rows || has_mark s rows)
 meet-insert seen more s h [] = refl

@@ -21,8 +21,9 @@ use Rattle.wdl_eval.specs.Nodes.{fields_met}
 use Rattle.wdl_eval.specs.Ready.{FitsNames}
 use Rattle.wdl_eval.proofs.Known.{Known, fields}
 use Rattle.wdl_eval.proofs.Names.{left_names, right_names}
-use Rattle.wdl_eval.proofs.Steps.{Fine, Fits, at_type, bind, some_in, when_in}
+use Rattle.wdl_eval.proofs.Steps.{Fine, Fits, at_type, bind, when_in}
 use Rattle.wdl_eval.proofs.StructForms.{members_fit, struct_fits}
+use Rattle.wdl_base.proofs.Options.{then_parts}
 
 has_type : (o : Option Ty) (t : Ty) → is_type o t ≡ true → o ≡ Some t
 has_type (Some u) t h = ap Some (same_type-true u t h)
@@ -54,7 +55,7 @@ module _ (c : Context) (s : Setting) where
       → Fine c.structs (struct_type c.structs name (fields_in (typings (fields c s ks)) placeholder)) (then_ (fields_met s (fields c s ks)) (λ fs. Ok (v.Struct name fs)))
   struct_fine name ks placeholder g w e =
       let types = fields_in (typings (fields c s ks)) placeholder in
-      let p = some_in (λ (ms : List Member). when (fields_have types ms) (ty.Struct name)) (members_of c.structs name) w e in
+      let p = then_parts (λ (ms : List Member). when (fields_have types ms) (ty.Struct name)) (members_of c.structs name) w e in
       let q = when_in (fields_have types p.0) (ty.Struct name) w p.2 in
       bind (λ fs. members_fit c.structs fs p.0 ≡ true) (Fits c.structs w) (fields_met s (fields c s ks)) (λ fs. Ok (v.Struct name fs)) (all_sound ks placeholder p.0 g q.0)
       (λ fs h. at_type c.structs (Ok (v.Struct name fs)) q.1 (struct_fits c.structs name fs p.0 p.1 h))

@@ -9,15 +9,15 @@ use Rattle.wdl_typed.specs.Scope.{is_among, same_key, same_second}
 use Rattle.wdl_typed.specs.Typing.{Context}
 use Rattle.wdl_eval.specs.Ready.{FitsNames}
 
-either : (b c d : Bool) → (c ≡ true → d ≡ true) → (b || c) ≡ true → (b || d) ≡ true
+pub either : (b c d : Bool) → (c ≡ true → d ≡ true) → (b || c) ≡ true → (b || d) ≡ true
 either true c d f h = refl
 either false c d f h = f h
 
-among_left : (key : Key) (xs ys : List Key) → is_among key xs ≡ true → is_among key (xs ++ ys) ≡ true
+pub among_left : (key : Key) (xs ys : List Key) → is_among key xs ≡ true → is_among key (xs ++ ys) ≡ true
 among_left key [] ys h = absurd (false≢true h)
 among_left key (x ∷ xs) ys h = either (same_key x key) (is_among key xs) (is_among key (xs ++ ys)) (among_left key xs ys) h
 
-among_right : (key : Key) (xs ys : List Key) → is_among key ys ≡ true → is_among key (xs ++ ys) ≡ true
+pub among_right : (key : Key) (xs ys : List Key) → is_among key ys ≡ true → is_among key (xs ++ ys) ≡ true
 among_right key [] ys h = h
 among_right key (x ∷ xs) ys h = or_right (same_key x key) (is_among key (xs ++ ys)) (among_right key xs ys h)
 

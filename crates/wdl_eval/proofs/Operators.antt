@@ -1,6 +1,7 @@
 -- Literals, names, operators, `if` and casts.
 use Rattle.std.proofs.Common.{◌≡◌, neg_ℤ, Bool, true, false, not, cond, ◌&&◌, ◌||◌, Option, Some, None, Ok, Err, option_and_then, sym, ap, ◌∙◌, subst, refl}
 use Rattle.std.proofs.lemmas.Bool.{and_parts, and_from}
+use Rattle.std.proofs.lemmas.Option.{same_Some}
 use Rattle.wdl_value.specs.declared.operator.Op.{Op}
 use Rattle.wdl_value.specs.declared.operator.Op.TheVariants as op
 use Rattle.wdl_value.specs.declared.ty.Ty.{Ty, Ty-F}
@@ -30,7 +31,8 @@ use Rattle.wdl_typed.specs.Typing.{binary_type, both, exact_row, is_maybe, liter
 use Rattle.wdl_eval.specs.Laws.{IsSound}
 use Rattle.wdl_eval.specs.Ready.{IsGiven}
 use Rattle.wdl_eval.proofs.Scalars.{a_bool_layer, an_int_layer, bool_type, int_type}
-use Rattle.wdl_eval.proofs.Steps.{Fine, Fits, at_type, bind, both_in, met_sound, some_in, some_same, when_in}
+use Rattle.wdl_eval.proofs.Steps.{Fine, Fits, at_type, bind, both_in, met_sound, when_in}
+use Rattle.wdl_base.proofs.Options.{then_parts}
 
 module _ (structs : Structs) where
   at_the : {t u : Ty} (x : Value) → t ≡ u → Fits structs t x → Fits structs u x
@@ -56,16 +58,16 @@ module _ (structs : Structs) where
       at y e h = subst (λ (z : Value). Fits structs w z) (sym e) h
 
       by_layer : (l : Value-F Value) → out-Value x ≡ l → literal_at l ≡ Some w → Fits structs w x
-      by_layer (layer.Bool b) is e = at (v.Bool b) (made (layer.Bool b) is ∙ v.rolls-Bool b) (at_the (v.Bool b) (some_same e) (bool_fits structs b))
+      by_layer (layer.Bool b) is e = at (v.Bool b) (made (layer.Bool b) is ∙ v.rolls-Bool b) (at_the (v.Bool b) (same_Some _ _ e) (bool_fits structs b))
       by_layer (layer.Int n) is e =
           let q = when_in (in_range n) ty.Int w e in
           at (v.Int n) (made (layer.Int n) is ∙ v.rolls-Int n) (at_the (v.Int n) q.1 (int_fits structs n q.0))
-      by_layer (layer.Str s) is e = at (v.Str s) (made (layer.Str s) is ∙ v.rolls-Str s) (at_the (v.Str s) (some_same e) (str_fits structs s))
-      by_layer layer.Absent is e = at v.Absent (made layer.Absent is ∙ v.rolls-Absent) (at_the v.Absent (some_same e) absent_fits)
+      by_layer (layer.Str s) is e = at (v.Str s) (made (layer.Str s) is ∙ v.rolls-Str s) (at_the (v.Str s) (same_Some _ _ e) (str_fits structs s))
+      by_layer layer.Absent is e = at v.Absent (made layer.Absent is ∙ v.rolls-Absent) (at_the v.Absent (same_Some _ _ e) absent_fits)
       by_layer l is e = cc
 
   pub given_fine : (o : Option Ty) (x : Option Value) → IsGiven structs o x → Fine structs o (found x)
-  given_fine (Some t) (Some x) h w e = at_the x (some_same e) h
+  given_fine (Some t) (Some x) h w e = at_the x (same_Some _ _ e) h
   given_fine (Some t) None h w e = absurd h
   given_fine None x h w e = cc
 
@@ -78,7 +80,7 @@ module _ (structs : Structs) where
 
   pub not_fine : (o : Option Ty) (r : Met Value) → Fine structs o r → Fine structs (option_and_then (λ t. when (is_bool t) ty.Bool) o) (then_ r (λ x. not_at (out-Value x)))
   not_fine o r f w e =
-      let p = some_in (λ (t : Ty). when (is_bool t) ty.Bool) o w e in
+      let p = then_parts (λ (t : Ty). when (is_bool t) ty.Bool) o w e in
       let q = when_in (is_bool p.0) ty.Bool w p.2 in
       bind (Fits structs p.0) (Fits structs w) r (λ x. not_at (out-Value x)) (f p.0 p.1)
       (λ x h. at_type structs (not_at (out-Value x)) q.1 (not_sound x (at_the x (bool_type p.0 q.0) h)))
@@ -90,7 +92,7 @@ module _ (structs : Structs) where
 
   pub neg_fine : (o : Option Ty) (r : Met Value) → Fine structs o r → Fine structs (option_and_then (λ t. when (is_int t) ty.Int) o) (then_ r (λ x. neg_at x (out-Value x)))
   neg_fine o r f w e =
-      let p = some_in (λ (t : Ty). when (is_int t) ty.Int) o w e in
+      let p = then_parts (λ (t : Ty). when (is_int t) ty.Int) o w e in
       let q = when_in (is_int p.0) ty.Int w p.2 in
       bind (Fits structs p.0) (Fits structs w) r (λ x. neg_at x (out-Value x)) (f p.0 p.1)
       (λ x h. at_type structs (neg_at x (out-Value x)) q.1 (neg_sound x (at_the x (int_type p.0 q.0) h)))
@@ -127,7 +129,7 @@ module _ (structs : Structs) where
       by_test : (b : Bool) → (is_bool t && is_bool u) ≡ b → cond b (Some (record { left = ty.Bool; right = ty.Bool; result = ty.Bool })) None ≡ Some row → (t ≡ ty.Bool) × (u ≡ ty.Bool) × (row.result ≡ ty.Bool)
       by_test true s h =
           let p = and_parts (is_bool t) (is_bool u) s in
-          (bool_type t p.0, bool_type u p.1, sym (ap (λ (r : OpTyping). r.result) (some_same h)))
+          (bool_type t p.0, bool_type u p.1, sym (ap (λ (r : OpTyping). r.result) (same_Some _ _ h)))
       by_test false s h = cc
 
   strict_sound : (o : Op) (placeholder : Bool) (t u w : Ty) (row : OpTyping) (x : Value) (q : Met Value) → operator_type o t u placeholder ≡ Some row → row.left ≡ t → row.right ≡ u → row.result ≡ w
@@ -150,7 +152,7 @@ module _ (structs : Structs) where
   pub binary_fine : (o : Op) (placeholder : Bool) (l r : Option Ty) (p q : Met Value) → Fine structs l p → Fine structs r q → Fine structs (both (binary_type o placeholder) l r) (then_ p (λ x. after_left o x q))
   binary_fine o placeholder l r p q f g w e =
       let b = both_in (binary_type o placeholder) l r w e in
-      let n = some_in (exact_row b.0 b.1) (operator_type o b.0 b.1 (is_maybe o && placeholder)) w b.4 in
+      let n = then_parts (exact_row b.0 b.1) (operator_type o b.0 b.1 (is_maybe o && placeholder)) w b.4 in
       let row : OpTyping = n.0 in
       let s = when_in (same_type row.left b.0 && same_type row.right b.1) row.result w n.2 in
       let same = and_parts (same_type row.left b.0) (same_type row.right b.1) s.0 in
@@ -171,7 +173,7 @@ module _ (structs : Structs) where
   pub choose_fine : (c l r : Option Ty) (m p q : Met Value) → Fine structs c m → Fine structs l p → Fine structs r q
       → Fine structs (option_and_then (λ b. both (λ t u. when (is_bool b && same_type t u) t) l r) c) (then_ m (λ x. chosen (out-Value x) p q))
   choose_fine c l r m p q f g k w e =
-      let a = some_in (λ (b : Ty). both (λ (t u : Ty). when (is_bool b && same_type t u) t) l r) c w e in
+      let a = then_parts (λ (b : Ty). both (λ (t u : Ty). when (is_bool b && same_type t u) t) l r) c w e in
       let b = both_in (λ (t u : Ty). when (is_bool a.0 && same_type t u) t) l r w a.2 in
       let s = when_in (is_bool a.0 && same_type b.0 b.1) b.0 w b.4 in
       let same = and_parts (is_bool a.0) (same_type b.0 b.1) s.0 in
@@ -192,7 +194,7 @@ module _ (structs : Structs) where
 
   pub cast_fine : (u : Ty) (o : Option Ty) (r : Met Value) → Fine structs o r → Fine structs (option_and_then (λ t. when (coerces t u) u) o) (then_ r (λ x. from_cast (cast x u)))
   cast_fine u o r f w e =
-      let p = some_in (λ (t : Ty). when (coerces t u) u) o w e in
+      let p = then_parts (λ (t : Ty). when (coerces t u) u) o w e in
       let q = when_in (coerces p.0 u) u w p.2 in
       bind (Fits structs p.0) (Fits structs w) r (λ x. from_cast (cast x u)) (f p.0 p.1)
       (λ x h. at_type structs (from_cast (cast x u)) q.1 (cast_sound x p.0 u h q.0))

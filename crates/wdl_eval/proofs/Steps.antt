@@ -1,5 +1,6 @@
 -- Typing and evaluation, step by step.
-use Rattle.std.proofs.Common.{◌≡◌, Bool, true, false, cond, Option, Some, None, Ok, Err, option_and_then, subst, refl}
+use Rattle.std.proofs.Common.{◌≡◌, Bool, true, false, cond, Option, Some, None, Ok, Err, subst, refl}
+use Rattle.std.proofs.lemmas.Option.{same_Some}
 use Rattle.wdl_base.specs.declared.fault.EvalCode.TheVariants.{TooLarge}
 use Rattle.wdl_value.specs.declared.ty.Ty.{Ty}
 use Rattle.wdl_value.specs.declared.value.Value.{Value}
@@ -14,20 +15,13 @@ use Rattle.wdl_eval.specs.Nodes.{within}
 
 -- ---- types
 
-pub some_same : {A : Type 0} {a b : A} → Some a ≡ Some b → a ≡ b
-some_same h = cc
-
-pub some_in : {A B : Type 0} (f : A → Option B) (o : Option A) (w : B) → option_and_then f o ≡ Some w → (a : A) × (o ≡ Some a) × (f a ≡ Some w)
-some_in f (Some a) w h = (a, refl, h)
-some_in f None w h = cc
-
 pub both_in : (f : Ty → Ty → Option Ty) (o p : Option Ty) (w : Ty) → both f o p ≡ Some w → (t : Ty) × (u : Ty) × (o ≡ Some t) × (p ≡ Some u) × (f t u ≡ Some w)
 both_in f (Some t) (Some u) w h = (t, u, refl, refl, h)
 both_in f (Some t) None w h = cc
 both_in f None p w h = cc
 
 pub when_in : (b : Bool) (t w : Ty) → when b t ≡ Some w → (b ≡ true) × (t ≡ w)
-when_in true t w h = (refl, some_same h)
+when_in true t w h = (refl, same_Some _ _ h)
 when_in false t w h = cc
 
 -- ---- values

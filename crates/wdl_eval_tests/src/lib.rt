@@ -1,5 +1,5 @@
-//! Tests of the values of expressions. They stand in a crate of their own, since the gate proves a crate once more for the
-//! tests in it.
+//! Tests of the values of expressions. They stand in a crate of their own, since the gate proves a
+//! crate once more for the tests in it.
 #![tactic(auto)]
 
 #[cfg(test)]

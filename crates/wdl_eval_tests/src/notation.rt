@@ -1,4 +1,5 @@
-//! Expressions as the tests write them, in words between blanks, an operator behind its operands: `1 2 +` is `1 + 2`.
+//! Expressions as the tests write them, in words between blanks, an operator behind its operands:
+//! `1 2 +` is `1 + 2`.
 
 use std::alloc::Global;
 use std::mem::replace;

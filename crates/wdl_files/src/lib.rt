@@ -1,4 +1,5 @@
-//! The files that `write_lines`, `write_tsv` and `write_map` lay down (OpenWDL 1.1, "File Parsing").
+//! The files that `write_lines`, `write_tsv` and `write_map` lay down (OpenWDL 1.1, "File
+//! Parsing").
 #![tactic(auto)]
 
 mod fault;

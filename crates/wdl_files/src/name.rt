@@ -4,7 +4,8 @@ ghost use Rattle.wdl_value.specs.Written as spec;
 use std::alloc::Global;
 use wdl_value::{NoMemory, Text};
 
-/// The name of the file that the write of that number lays down, `.written-` and the number in decimal.
+/// The name of the file that the write of that number lays down, `.written-` and the number in
+/// decimal.
 pub fn written_name(alloc: Global, k: u32) -> Result<Text, NoMemory>
     ensures value { IfOk result (λ t. t ≡ spec.written_name k) }
 {

@@ -76,9 +76,10 @@ fn written(alloc: Global, f: Func, v: &Value) -> Result<Text, NoMemory>
     }
 }
 
-/// What a function that writes a file writes for a value that fits its argument's type: `write_lines` each text and a
-/// newline, `write_tsv` each row's texts joined by tabs and a newline, `write_map` each key, a tab, its value and a
-/// newline. It is refused as `TooLarge` exactly past 65,536 bytes. Its time is linear in the value.
+/// What a function that writes a file writes for a value that fits its argument's type:
+/// `write_lines` each text and a newline, `write_tsv` each row's texts joined by tabs and a
+/// newline, `write_map` each key, a tab, its value and a newline. It is refused as `TooLarge`
+/// exactly past 65,536 bytes. Its time is linear in the value.
 pub fn written_text(alloc: Global, f: Func, v: &Value) -> Result<Text, WrittenFault>
     ensures value { IfOk result (λ t. t ≡ spec.written f v.now) }
     ensures within { OnOk result (length (spec.written f v.now) ≤ 65536) }

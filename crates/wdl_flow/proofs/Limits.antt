@@ -1,11 +1,8 @@
 -- What is past a limit stays past it where more is added.
 use Rattle.std.proofs.Common.{◌≡◌, ◌<◌, ◌≤◌, nat_lt, Bool, true, false, ◌||◌, List, ◌++◌, length, length-append, ap, ◌∙◌, refl, arith}
 use Rattle.std.proofs.lemmas.Bool.{lt-ltb, ltb-true}
+use Rattle.std.proofs.Math.Bool.{or-true}
 use Rattle.wdl_typed.specs.Flow.{Flowing, together, too_many}
-
-or_true : (b : Bool) → (b || true) ≡ true
-or_true true = refl
-or_true false = refl
 
 pub bigger : (f g : Flowing) → length f.jobs ≤ length g.jobs → f.count ≤ g.count → too_many f ≡ true → too_many g ≡ true
 bigger f g jobs count h = by_jobs (nat_lt 20000 (length f.jobs)) refl h
@@ -17,7 +14,7 @@ bigger f g jobs count h = by_jobs (nat_lt 20000 (length f.jobs)) refl h
     by_jobs false e k =
         let past : 1000000 < f.count = ltb-true 1000000 f.count k in
         ap (λ b. nat_lt 20000 (length g.jobs) || b) (lt-ltb 1000000 g.count (omega (arith, past, count)))
-        ∙ or_true (nat_lt 20000 (length g.jobs))
+        ∙ or-true (nat_lt 20000 (length g.jobs))
 
 left_le : {A : Type 0} (xs ys : List A) → length xs ≤ length (xs ++ ys)
 left_le xs ys = let e = length-append xs ys in omega (arith, e)

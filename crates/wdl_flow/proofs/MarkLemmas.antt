@@ -22,7 +22,7 @@ use Rattle.wdl_flow.proofs.Skip.{apart, skip}
 name_marks_agree : (a b : List ℕ) → bytes_eq a b ≡ true → name_mark a ≡ name_mark b
 name_marks_agree a b h = ap name_mark ((bytes_eq-Decides a b).0 h)
 
-same_second-true : (s t : Option (List ℕ)) → same_second s t ≡ true → s ≡ t
+pub same_second-true : (s t : Option (List ℕ)) → same_second s t ≡ true → s ≡ t
 same_second-true None None h = refl
 same_second-true None (Some t) h = absurd (false≢true h)
 same_second-true (Some s) None h = absurd (false≢true h)
@@ -70,7 +70,7 @@ same_place-true (x ∷ xs) (y ∷ ys) h =
     let t = and_parts (same_segment x y) (same_place xs ys) h in
     ap (λ z. z ∷ xs) (one_segment x y t.0) ∙ ap (λ zs. y ∷ zs) (same_place-true xs ys t.1)
 
-entry_marks_agree : (place : List Segment) (attempt : ℕ) (e : Entry) → is_at place attempt (row_of e) ≡ true → entry_mark e ≡ place_mark attempt place
+pub entry_marks_agree : (place : List Segment) (attempt : ℕ) (e : Entry) → is_at place attempt (row_of e) ≡ true → entry_mark e ≡ place_mark attempt place
 entry_marks_agree place attempt e h =
     let p = and_parts (same_place e.request.place place) (e.request.attempt == attempt) h in
     ap (λ n. place_mark n e.request.place) (eqb-true e.request.attempt attempt p.1) ∙ ap (place_mark attempt) (same_place-true e.request.place place p.0)

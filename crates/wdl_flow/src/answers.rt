@@ -10,8 +10,8 @@ use std::marker::Model;
 use wdl_names::Places;
 use wdl_value::{Answer, Entry, NoMemory, Place, same_place};
 
-/// The answers of a journal, found by their place and attempt in logarithmic time. Of two entries with one place and attempt
-/// the first counts.
+/// The answers of a journal, found by their place and attempt in logarithmic time. Of two entries
+/// with one place and attempt the first counts.
 #[derive(Drop)]
 pub struct Answers<'a> {
     entries: &'a [Entry],

@@ -1,4 +1,16 @@
-ghost use Rattle.std.specs.Prelude.{◌≡◌, ◌++◌, ◌∷◌, [], length, take, map, OnOk, OnErr, IfOk, MatchOption};
+ghost use Rattle.std.specs.Prelude.{
+  ◌≡◌,
+  ◌++◌,
+  ◌∷◌,
+  [],
+  length,
+  take,
+  map,
+  OnOk,
+  OnErr,
+  IfOk,
+  MatchOption,
+};
 ghost use Rattle.wdl_typed.specs.Flow as flow;
 ghost use Rattle.wdl_flow.specs.Views.{endeds_of};
 ghost use Rattle.wdl_flow.specs.Marks.{call_marks};
@@ -10,7 +22,8 @@ use std::marker::Model;
 use wdl_names::Places;
 use wdl_value::{Items, Name, NoMemory};
 
-/// Calls, and whether they have ended, found by a look-up in logarithmic time. Of two with one name the first counts.
+/// Calls, and whether they have ended, found by a look-up in logarithmic time. Of two with one name
+/// the first counts.
 #[derive(Debug, Drop)]
 pub struct Calls {
     ends: Items<Ended>,

@@ -5,8 +5,8 @@ use std::alloc::{AllocError, AllocFailed};
 use thiserror::Error;
 use wdl_value::NoMemory;
 
-/// Why a flow is not given: it has more than 20,000 jobs or more than 1,000,000 instances of statements, or memory is
-/// wanting.
+/// Why a flow is not given: it has more than 20,000 jobs or more than 1,000,000 instances of
+/// statements, or memory is wanting.
 #[derive(Clone, Copy, Debug, PartialEq, Eq, Error)]
 pub enum PlainFault {
     #[error("more than 20,000 jobs or 1,000,000 instances of statements")]

@@ -16,8 +16,8 @@ pub const JOB_LIMIT: usize = 20_000;
 /// The most instances of statements that a flow may have.
 pub const COUNT_LIMIT: u64 = 1_000_000;
 
-/// What statements give: names, calls, jobs, faults, the places that wait for an answer, and how many instances of
-/// statements were entered.
+/// What statements give: names, calls, jobs, faults, the places that wait for an answer, and how
+/// many instances of statements were entered.
 #[derive(Debug, Drop)]
 pub struct Flowing {
     pub names: Items<Known>,

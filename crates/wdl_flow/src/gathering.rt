@@ -1,6 +1,18 @@
 //! What a scatter gives out, of what its body gives for each item (OpenWDL 1.1, "Scatter").
 
-ghost use Rattle.std.specs.Prelude.{◌≡◌, ◌∷◌, ◌++◌, [], List, IfOk, map, option_and_then, Some, false, true};
+ghost use Rattle.std.specs.Prelude.{
+  ◌≡◌,
+  ◌∷◌,
+  ◌++◌,
+  [],
+  List,
+  IfOk,
+  map,
+  option_and_then,
+  Some,
+  false,
+  true,
+};
 ghost use Rattle.std.specs.List.{list_all};
 ghost use Rattle.wdl_value.specs.declared.value.Value.TheVariants as value;
 ghost use Rattle.wdl_typed.specs.Flow as flow;
@@ -9,7 +21,14 @@ ghost use Rattle.wdl_flow.specs.Gathers.{IsGathered};
 ghost use Rattle.wdl_flow.specs.Gathered as spec;
 ghost use Rattle.wdl_flow.specs.Flows.{quiet};
 ghost use Rattle.wdl_flow.specs.declared.fault.PlainFault.TheVariants.{TooMany as PastLimits};
-ghost use Rattle.wdl_flow.specs.Views.{endeds_of, env_in, flowing_of, given_of, known_of, knowns_of};
+ghost use Rattle.wdl_flow.specs.Views.{
+  endeds_of,
+  env_in,
+  flowing_of,
+  given_of,
+  known_of,
+  knowns_of,
+};
 
 use crate::calls::Calls;
 use crate::fault::PlainFault;
@@ -139,7 +158,8 @@ impl Gathering {
         })
     }
 
-    /// What the scatter gives out: a name is the list of its values, or missing if it is missing at one item.
+    /// What the scatter gives out: a name is the list of its values, or missing if it is missing at
+    /// one item.
     pub fn gathered(self, alloc: Global, given: &Given) -> Result<Flowing, NoMemory>
         ensures { (fs : List flow.Flowing) → IsGathered self fs → IfOk result (λ f. flowing_of f ≡ flow.gathered (given_of given.now) fs) }
     {

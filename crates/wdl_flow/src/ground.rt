@@ -2,7 +2,8 @@ use crate::answers::Answers;
 use wdl_typed::Checked;
 use wdl_value::Text;
 
-/// What a flow goes over: the checked library, the directory below which each job has its own, and the answers.
+/// What a flow goes over: the checked library, the directory below which each job has its own, and
+/// the answers.
 #[derive(Drop)]
 pub struct Ground<'a> {
     pub checked: &'a Checked,

@@ -5,8 +5,9 @@ use std::marker::Model;
 use wdl_typed::Success;
 use wdl_value::{NoMemory, Request};
 
-/// On which terms a job is run: the statuses that are its successes, and how often it may be tried again. Contracts see the
-/// statuses alone; the number is told to a person, and nothing that is promised depends on it.
+/// On which terms a job is run: the statuses that are its successes, and how often it may be tried
+/// again. Contracts see the statuses alone; the number is told to a person, and nothing that is
+/// promised depends on it.
 #[derive(Debug, Drop)]
 pub struct Terms {
     successes: Success,

@@ -1,5 +1,6 @@
-//! What flows of statements are made of: names with their values, calls, jobs, faults and waits, what a statement sees of
-//! them, and what a scatter gathers. Names, calls and answers are found in logarithmic time.
+//! What flows of statements are made of: names with their values, calls, jobs, faults and waits,
+//! what a statement sees of them, and what a scatter gathers. Names, calls and answers are found in
+//! logarithmic time.
 #![tactic(auto)]
 
 mod answers;

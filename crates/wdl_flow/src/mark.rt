@@ -1,5 +1,5 @@
-//! Numbers that stand for keys, calls and places in an index: what is equal has one number, and what differs mostly has
-//! different ones.
+//! Numbers that stand for keys, calls and places in an index: what is equal has one number, and
+//! what differs mostly has different ones.
 
 ghost use Rattle.std.specs.Prelude.{◌≡◌};
 ghost use Rattle.wdl_flow.specs.Marks as spec;

@@ -1,4 +1,15 @@
-ghost use Rattle.std.specs.Prelude.{◌≡◌, ◌++◌, ◌∷◌, [], length, take, OnOk, OnErr, IfOk, MatchOption};
+ghost use Rattle.std.specs.Prelude.{
+  ◌≡◌,
+  ◌++◌,
+  ◌∷◌,
+  [],
+  length,
+  take,
+  OnOk,
+  OnErr,
+  IfOk,
+  MatchOption,
+};
 ghost use Rattle.std.specs.Option.{option_copied};
 ghost use Rattle.wdl_typed.specs.Scope as scope;
 ghost use Rattle.wdl_flow.specs.Views.{env_in};
@@ -11,8 +22,8 @@ use std::marker::Model;
 use wdl_names::Places;
 use wdl_value::{Items, Key, Name, NoMemory, Value};
 
-/// Names with their values, or missing, found by a look-up in logarithmic time. Of two with one key the first that has a
-/// value counts.
+/// Names with their values, or missing, found by a look-up in logarithmic time. Of two with one key
+/// the first that has a value counts.
 #[derive(Debug, Drop)]
 pub struct Names {
     knowns: Items<Known>,

@@ -2,6 +2,7 @@
 use Rattle.std.proofs.Common.{◌≡◌, ℕ, zero, suc, true, List, [], ◌∷◌, length, slice_get, Option, Some, None, refl, sym, ap, ◌∙◌, subst}
 use Rattle.std.specs.List.{list_all}
 use Rattle.std.proofs.lemmas.Bool.{false≢true}
+use Rattle.std.proofs.lemmas.Option.{same_Some, none-some}
 use Rattle.wdl_base.specs.declared.span.Span.{Span}
 use Rattle.wdl_ast.specs.declared.document.Import.{Import}
 use Rattle.wdl_library.specs.declared.doc.Doc.{Doc}
@@ -12,19 +13,14 @@ use Rattle.wdl_links.specs.Circles.{places, places_of, places_at, LeadsAt, Leads
 use Rattle.wdl_links.specs.Wants.{span_of}
 use Rattle.wdl_imports.specs.Numbers.{ImportsOf, SectionsOf}
 use Rattle.wdl_structs.proofs.IdentityLaws.{contained}
-use Rattle.wdl_structs.proofs.SeenLaws.{all_at, ends_at, get_within}
-
-some_same : {A : Type 0} (x y : A) → Some x ≡ Some y → x ≡ y
-some_same x y e = cc
-
-none_some : {A : Type 0} (x : A) → None ≡ Some x → ⊥
-none_some x e = cc
+use Rattle.wdl_structs.proofs.SeenLaws.{ends_at, get_within}
+use Rattle.wdl_base.proofs.Options.{all_at}
 
 -- the import and the link of a place
 place_at : (is : List Import) (ls : List Link) (q : ℕ) (p : ℕ × Span) → slice_get (places is ls) q ≡ Some p → (i : Import) × (l : Link) × (slice_get is q ≡ Some i) × (slice_get ls q ≡ Some l) × ((l.doc, span_of i) ≡ p)
-place_at [] ls q p h = absurd (none_some p h)
-place_at (i ∷ is) [] q p h = absurd (none_some p h)
-place_at (i ∷ is) (l ∷ ls) zero p h = (i, l, refl, refl, some_same (l.doc, span_of i) p h)
+place_at [] ls q p h = absurd (none-some p h)
+place_at (i ∷ is) [] q p h = absurd (none-some p h)
+place_at (i ∷ is) (l ∷ ls) zero p h = (i, l, refl, refl, same_Some (l.doc, span_of i) p h)
 place_at (i ∷ is) (l ∷ ls) (suc q) p h = place_at is ls q p h
 
 -- the document that has the place
@@ -32,7 +28,7 @@ place_doc : (docs : List Doc) (k q : ℕ) (p : ℕ × Span) → slice_get (place
 place_doc docs k q p h = on (slice_get docs k) refl h
   where
     on : (o : Option Doc) → slice_get docs k ≡ o → slice_get (places_of o) q ≡ Some p → (d : Doc) × (slice_get docs k ≡ Some d) × (slice_get (places (imports_of d.document) d.imports) q ≡ Some p)
-    on None e g = absurd (none_some p g)
+    on None e g = absurd (none-some p g)
     on (Some d) e g = (d, e, g)
 
 pub led : (docs : List Doc) (k j : ℕ) (s : Span) → LeadsAt docs k s j
@@ -58,12 +54,12 @@ goes_round (suc n) docs k j s h back x (y ∷ ys, c) ends = goes_round n docs k 
 pub circle_goes_on : (docs : List Doc) (s : Span) → IsCircle docs s → has_no_circle docs ≡ true → ⊥
 circle_goes_on docs s c ends =
     let r = led docs c.importing c.imported s c.leads_there in
-    let within = get_within docs c.importing (λ e. none_some r.0 (sym e ∙ r.4)) in
+    let within = get_within docs c.importing (λ e. none-some r.0 (sym e ∙ r.4)) in
     goes_round (length docs) docs c.importing c.imported s c.leads_there c.leads_back c.importing ([], refl) (ends_at (length docs) docs (length docs) c.importing ends within)
 
 imports_at : (number : ℕ) (is : List Import) (q : ℕ) (i : Import) → ImportsOf number is → slice_get is q ≡ Some i → i.keyword.doc ≡ number
-imports_at number [] q i a h = absurd (none_some i h)
-imports_at number (x ∷ is) zero i a h = ap (λ (y : Import). y.keyword.doc) (sym (some_same x i h)) ∙ a.0
+imports_at number [] q i a h = absurd (none-some i h)
+imports_at number (x ∷ is) zero i a h = ap (λ (y : Import). y.keyword.doc) (sym (same_Some x i h)) ∙ a.0
 imports_at number (x ∷ is) (suc q) i a h = imports_at number is q i a.1.1 h
 
 -- the span of a circle is of the importing document

@@ -5,6 +5,7 @@ use Rattle.std.specs.List.{list_all}
 use Rattle.std.specs.Str.{bytes_eq}
 use Rattle.std.proofs.lemmas.Bool.{false≢true, and_parts, lt-ltb, ltb-true}
 use Rattle.std.proofs.lemmas.Slice.Eq.{bytes_eq-Decides}
+use Rattle.std.proofs.lemmas.Option.{same_Some, none-some}
 use Rattle.wdl_base.specs.declared.span.Span.{Span}
 use Rattle.wdl_ast.specs.declared.document.Alias.{Alias}
 use Rattle.wdl_ast.specs.declared.document.Import.{Import}
@@ -41,12 +42,6 @@ use Rattle.wdl_imports.proofs.WalkOnce.{one_whole, stopped_short}
 use Rattle.wdl_imports.proofs.CircleLaws.{circle_goes_on, circle_placed}
 use Rattle.wdl_imports.proofs.ReadLaws.{one_path, are_reached, sources_length}
 
-some_same : {A : Type 0} (x y : A) → Some x ≡ Some y → x ≡ y
-some_same x y e = cc
-
-none_some : {A : Type 0} (x : A) → None ≡ Some x → ⊥
-none_some x e = cc
-
 -- ---- a library's documents
 
 abbrev paths_of : List Doc → List (List ℕ)
@@ -76,8 +71,8 @@ made_linked docs others w ends same =
 -- ---- faults in their documents
 
 path_doc : (docs : List Doc) (k : ℕ) (p : List ℕ) → slice_get (paths_of docs) k ≡ Some p → (d : Doc) × (slice_get docs k ≡ Some d) × (d.path ≡ p)
-path_doc [] k p h = absurd (none_some p h)
-path_doc (d ∷ ds) zero p h = (d, refl, some_same d.path p h)
+path_doc [] k p h = absurd (none-some p h)
+path_doc (d ∷ ds) zero p h = (d, refl, same_Some d.path p h)
 path_doc (d ∷ ds) (suc k) p h = path_doc ds k p h
 
 placed_in : (docs named : List Doc) (p : List ℕ) (s : Span) → AreSameDocs docs named → slice_get (paths_of docs) s.doc ≡ Some p → IsPlaced named p s
@@ -116,8 +111,8 @@ import_doc number names (i ∷ is) (l ∷ ls) s a (inl h) = alias_doc number (na
 import_doc number names (i ∷ is) (l ∷ ls) s a (inr h) = import_doc number names is ls s a.1.1 h
 
 struct_doc : (number : ℕ) (ss : List StructSection) (q : ℕ) (t : StructSection) → StructsOf number ss → slice_get ss q ≡ Some t → t.name.span.doc ≡ number
-struct_doc number [] q t a h = absurd (none_some t h)
-struct_doc number (x ∷ ss) zero t a h = ap (λ (y : StructSection). y.name.span.doc) (sym (some_same x t h)) ∙ a.0
+struct_doc number [] q t a h = absurd (none-some t h)
+struct_doc number (x ∷ ss) zero t a h = ap (λ (y : StructSection). y.name.span.doc) (sym (same_Some x t h)) ∙ a.0
 struct_doc number (x ∷ ss) (suc q) t a h = struct_doc number ss q t a.1 h
 
 pub circle_made : (docs : List Doc) (f : LinkFault) (e : ImportFault) → circles.IsAnswer docs (Err f) → IsPlacedFault (paths_of docs) f e → Makes docs (Err e)
@@ -135,7 +130,7 @@ names_made docs f (import.Bad code p s) a h =
 names_made docs f import.NoMemory a h = tt
 
 path_within : (ds : List Doc) (k : ℕ) (d : Doc) → slice_get ds k ≡ Some d → k < length (paths_of ds)
-path_within [] k d h = absurd (none_some d h)
+path_within [] k d h = absurd (none-some d h)
 path_within (x ∷ ds) zero d h = omega arith
 path_within (x ∷ ds) (suc k) d h = let r = path_within ds k d h in omega (arith, r)
 
@@ -183,12 +178,12 @@ there (Some d) None h = absurd (false≢true h)
 there (Some d) (Some q) h = (d, refl, ap Some (sym ((bytes_eq-Decides d.path q).0 h)))
 
 same_doc : (docs others : List Doc) (k : ℕ) (e : Doc) → map source_of docs ≡ map source_of others → slice_get others k ≡ Some e → (d : Doc) × (slice_get docs k ≡ Some d) × (source_of d ≡ source_of e)
-same_doc docs [] k e h at = absurd (none_some e at)
+same_doc docs [] k e h at = absurd (none-some e at)
 same_doc [] (y ∷ ys) k e h at = absurd (none_left h)
   where
     none_left : [] ≡ source_of y ∷ map source_of ys → ⊥
     none_left q = cc
-same_doc (x ∷ xs) (y ∷ ys) zero e h at = (x, refl, head h ∙ ap source_of (some_same y e at))
+same_doc (x ∷ xs) (y ∷ ys) zero e h at = (x, refl, head h ∙ ap source_of (same_Some y e at))
   where
     head : source_of x ∷ map source_of xs ≡ source_of y ∷ map source_of ys → source_of x ≡ source_of y
     head q = cc
@@ -213,7 +208,7 @@ module _ (docs others : List Doc) (same : map source_of docs ≡ map source_of o
       let f = there (slice_get others m.doc) (resolve base (uri_of i)) d.1 in
       let x = same_doc docs others m.doc f.0 same f.1 in
       let namespace : l.namespace ≡ m.namespace = (bytes_eq-Decides l.namespace (namespace_of i)).0 c.0 ∙ sym ((bytes_eq-Decides m.namespace (namespace_of i)).0 d.0) in
-      let path : e.0.path ≡ x.0.path = some_same e.0.path f.0.path (sym e.2 ∙ f.2) ∙ sym (ap (λ (s : Source). s.path) x.2) in
+      let path : e.0.path ≡ x.0.path = same_Some e.0.path f.0.path (sym e.2 ∙ f.2) ∙ sym (ap (λ (s : Source). s.path) x.2) in
       let number : l.doc ≡ m.doc = one l.doc m.doc e.0 x.0 e.1 x.1 path in
       let rest = one_links base is ls ms a.1 b.1 in
       λ j. record { namespace = namespace j; doc = number j } ∷ rest j

@@ -5,6 +5,7 @@ use Rattle.std.specs.List.{list_all}
 use Rattle.std.specs.Str.{bytes_eq}
 use Rattle.std.proofs.lemmas.Bool.{false≢true, and_parts, or_cases, lt-ltb}
 use Rattle.std.proofs.lemmas.Slice.Eq.{bytes_eq-Decides}
+use Rattle.std.proofs.lemmas.Option.{same_Some, none-some}
 use Rattle.wdl_base.specs.Names.{is_among}
 use Rattle.wdl_ast.specs.declared.document.Import.{Import}
 use Rattle.wdl_ast.specs.DocumentWords.{document_words}
@@ -28,36 +29,30 @@ use Rattle.wdl_imports.specs.Checks.{AreNumbered, AreWhole, AreRead}
 use Rattle.wdl_imports.proofs.TokenLaws.{few_words, spans_of}
 use Rattle.wdl_imports.proofs.WalkPaths.{one_number, whole_named, whole_fresh, whole_reach, reached}
 use Rattle.wdl_imports.proofs.LinkLaws.{ok_same, want_parts, then_parts}
-use Rattle.wdl_structs.proofs.SeenLaws.{all_at, get_some}
 use Rattle.wdl_structs.proofs.FinalLaws.{contains_at}
-
-some_same : {A : Type 0} (x y : A) → Some x ≡ Some y → x ≡ y
-some_same x y e = cc
-
-none_some : {A : Type 0} (x : A) → None ≡ Some x → ⊥
-none_some x e = cc
+use Rattle.wdl_base.proofs.Options.{item_there, all_at}
 
 -- ---- each document is read
 
 walk_read : (files : Files) (read : Paths) (waiting : List Step) (ss : List Source) (rest : List Step) (k : ℕ) (s : Source) → Walk files read waiting ss rest → slice_get ss k ≡ Some s
     → IsRead (length read + k) (files s.path) s.document
-walk_read files read waiting [] rest k s w h = absurd (none_some s h)
+walk_read files read waiting [] rest k s w h = absurd (none-some s h)
 walk_read files read waiting (x ∷ ss) rest zero s w h =
     let e : length read ≡ length read + 0 = omega arith in
-    subst (λ (y : Source). IsRead (length read + 0) (files y.path) y.document) (some_same x s h) (subst (λ n. IsRead n (files x.path) x.document) e w.1.is_read)
+    subst (λ (y : Source). IsRead (length read + 0) (files y.path) y.document) (same_Some x s h) (subst (λ n. IsRead n (files x.path) x.document) e w.1.is_read)
 walk_read files read waiting (x ∷ ss) rest (suc k) s w h =
     let l = length-append read (x.path ∷ []) in
     let e : length (read ++ x.path ∷ []) + k ≡ length read + suc k = omega (arith, l) in
     subst (λ n. IsRead n (files s.path) s.document) e (walk_read files (read ++ x.path ∷ []) w.0 ss rest k s w.2 h)
 
 source_at : (docs : List Doc) (k : ℕ) (d : Doc) → slice_get docs k ≡ Some d → slice_get (map source_of docs) k ≡ Some (source_of d)
-source_at [] k d h = absurd (none_some d h)
-source_at (c ∷ docs) zero d h = ap (λ (x : Doc). Some (source_of x)) (some_same c d h)
+source_at [] k d h = absurd (none-some d h)
+source_at (c ∷ docs) zero d h = ap (λ (x : Doc). Some (source_of x)) (same_Some c d h)
 source_at (c ∷ docs) (suc k) d h = source_at docs k d h
 
 doc_at : (docs : List Doc) (k : ℕ) (s : Source) → slice_get (map source_of docs) k ≡ Some s → (d : Doc) × (slice_get docs k ≡ Some d) × (source_of d ≡ s)
-doc_at [] k s h = absurd (none_some s h)
-doc_at (c ∷ docs) zero s h = (c, refl, some_same (source_of c) s h)
+doc_at [] k s h = absurd (none-some s h)
+doc_at (c ∷ docs) zero s h = (c, refl, same_Some (source_of c) s h)
 doc_at (c ∷ docs) (suc k) s h = doc_at docs k s h
 
 pub sources_length : (docs : List Doc) → length (map source_of docs) ≡ length docs
@@ -69,8 +64,8 @@ paths_same [] = refl
 paths_same (d ∷ ds) = ap (λ r. d.path ∷ r) (paths_same ds)
 
 path_at : (docs : List Doc) (k : ℕ) (d : Doc) → slice_get docs k ≡ Some d → slice_get (paths (map source_of docs)) k ≡ Some d.path
-path_at [] k d h = absurd (none_some d h)
-path_at (c ∷ docs) zero d h = ap (λ (x : Doc). Some x.path) (some_same c d h)
+path_at [] k d h = absurd (none-some d h)
+path_at (c ∷ docs) zero d h = ap (λ (x : Doc). Some x.path) (same_Some c d h)
 path_at (c ∷ docs) (suc k) d h = path_at docs k d h
 
 tokens_few : (docs : List Doc) → ((k : ℕ) (d : Doc) → slice_get docs k ≡ Some d → length (document_words d.document) ≤ max_document) → tokens_in docs ≤ length docs * max_document
@@ -138,14 +133,14 @@ linked_at docs base taken (i ∷ is) (l ∷ ls) ws p a w h =
     ]
 
 named_at : (all : Paths) (ss : List Source) (j : ℕ) (t : Source) → AreNamed all ss → slice_get ss j ≡ Some t → wants_of t.path [] (imports_of t.document) ≡ Ok (wants_at t)
-named_at all [] j t a h = absurd (none_some t h)
-named_at all (s ∷ ss) zero t a h = subst (λ (x : Source). wants_of x.path [] (imports_of x.document) ≡ Ok (wants_at x)) (some_same s t h) a.0.1
+named_at all [] j t a h = absurd (none-some t h)
+named_at all (s ∷ ss) zero t a h = subst (λ (x : Source). wants_of x.path [] (imports_of x.document) ≡ Ok (wants_at x)) (same_Some s t h) a.0.1
 named_at all (s ∷ ss) (suc j) t a h = named_at all ss j t a.1 h
 
 first_path : (files : Files) (root : List ℕ) (docs : List Doc) (d : Doc) → IsWhole files root (map source_of docs) → slice_get docs 0 ≡ Some d → d.path ≡ root
-first_path files root [] d w h = absurd (none_some d h)
+first_path files root [] d w h = absurd (none-some d h)
 first_path files root (c ∷ docs) d w h =
-    ap (λ (x : Doc). x.path) (sym (some_same c d h)) ∙ w.front.1.path ∙ ap (λ (x : Step). x.path) (sym (head w.front.1.step w.front.1.behind w.front.1.first))
+    ap (λ (x : Doc). x.path) (sym (same_Some c d h)) ∙ w.front.1.path ∙ ap (λ (x : Step). x.path) (sym (head w.front.1.step w.front.1.behind w.front.1.first))
   where
     head : (step : Step) (behind : List Step) → first_step root ∷ [] ≡ step ∷ behind → first_step root ≡ step
     head step behind q = cc
@@ -154,10 +149,10 @@ pub are_reached : (files : Files) (root : List ℕ) (docs : List Doc) → IsWhol
 are_reached files root docs whole linked k more within = on (reached (root ∷ []) (map source_of docs) k (source_of d.0) (whole_reach files root (map source_of docs) whole) (source_at docs k d.0 d.1))
   where
     d : (d : Doc) × (slice_get docs k ≡ Some d)
-    d = get_some docs k within
+    d = item_there docs k within
 
     zero_at : (e : Doc) × (slice_get docs 0 ≡ Some e)
-    zero_at = get_some docs 0 (omega (arith, more, within))
+    zero_at = item_there docs 0 (omega (arith, more, within))
 
     no_false : (b : Bool) → b || false ≡ true → b ≡ true
     no_false true h = refl

@@ -1,9 +1,10 @@
 -- The paths of a walk: each is read once, each that an import names is read, and each but the first is named by an import before it.
-use Rattle.std.proofs.Common.{◌≡◌, ◌⊎◌, ℕ, zero, suc, ◌<◌, Bool, true, false, ◌||◌, List, [], ◌∷◌, ◌++◌, map, slice_get, Some, None, Ok, refl, sym, ap, ◌∙◌, arith, inl, inr, append_assoc}
+use Rattle.std.proofs.Common.{◌≡◌, ◌⊎◌, ℕ, zero, suc, ◌<◌, Bool, true, false, ◌||◌, List, [], ◌∷◌, ◌++◌, map, slice_get, Some, Ok, refl, sym, ap, ◌∙◌, arith, inl, inr, append_assoc}
 use Rattle.std.specs.Prelude.{if◌then◌else◌}
 use Rattle.std.specs.Str.{bytes_eq}
 use Rattle.std.proofs.lemmas.Bool.{true≢false, and_parts, and_from, or_parts, or_cases, or_left, or_right}
 use Rattle.std.proofs.lemmas.Slice.Eq.{bytes_eq-Decides}
+use Rattle.std.proofs.lemmas.Option.{same_Some, none-some}
 use Rattle.wdl_base.specs.Names.{is_among}
 use Rattle.wdl_links.specs.declared.want.Want.{Want}
 use Rattle.wdl_sources.specs.declared.source.Source.{Source}
@@ -70,25 +71,19 @@ module _ (files : Files) where
   walk_fresh read waiting (s ∷ ss) rest w =
       (ap (λ p. is_among p read) w.1.path ∙ not_read read waiting w.1.behind w.1.step w.1.first, walk_fresh (read ++ s.path ∷ []) w.0 ss rest w.2)
 
-some_same : {A : Type 0} (x y : A) → Some x ≡ Some y → x ≡ y
-some_same x y e = cc
-
-none_some : {A : Type 0} (x : A) → None ≡ Some x → ⊥
-none_some x e = cc
-
 fresh_at : (read ps : Paths) (k : ℕ) (p : List ℕ) → Fresh read ps → slice_get ps k ≡ Some p → is_among p read ≡ false
-fresh_at read [] k p f h = absurd (none_some p h)
-fresh_at read (q ∷ ps) zero p f h = ap (λ x. is_among x read) (sym (some_same q p h)) ∙ f.0
+fresh_at read [] k p f h = absurd (none-some p h)
+fresh_at read (q ∷ ps) zero p f h = ap (λ x. is_among x read) (sym (same_Some q p h)) ∙ f.0
 fresh_at read (q ∷ ps) (suc k) p f h = not_front p read (q ∷ []) (fresh_at (read ++ q ∷ []) ps k p f.1 h)
 
 -- a path has one number
 pub one_number : (read ps : Paths) (j k : ℕ) (p : List ℕ) → Fresh read ps → slice_get ps j ≡ Some p → slice_get ps k ≡ Some p → j ≡ k
-one_number read [] j k p f h g = absurd (none_some p h)
+one_number read [] j k p f h g = absurd (none-some p h)
 one_number read (q ∷ ps) zero zero p f h g = refl
 one_number read (q ∷ ps) zero (suc k) p f h g =
-    absurd (true≢false (sym (ap (λ x. is_among x (read ++ q ∷ [])) (sym (some_same q p h)) ∙ among_here q read []) ∙ fresh_at (read ++ q ∷ []) ps k p f.1 g))
+    absurd (true≢false (sym (ap (λ x. is_among x (read ++ q ∷ [])) (sym (same_Some q p h)) ∙ among_here q read []) ∙ fresh_at (read ++ q ∷ []) ps k p f.1 g))
 one_number read (q ∷ ps) (suc j) zero p f h g =
-    absurd (true≢false (sym (ap (λ x. is_among x (read ++ q ∷ [])) (sym (some_same q p g)) ∙ among_here q read []) ∙ fresh_at (read ++ q ∷ []) ps j p f.1 h))
+    absurd (true≢false (sym (ap (λ x. is_among x (read ++ q ∷ [])) (sym (same_Some q p g)) ∙ among_here q read []) ∙ fresh_at (read ++ q ∷ []) ps j p f.1 h))
 one_number read (q ∷ ps) (suc j) (suc k) p f h g = ap suc (one_number (read ++ q ∷ []) ps j k p f.1 h g)
 
 -- ---- what imports name is read
@@ -217,8 +212,8 @@ module _ (files : Files) where
 -- the document at a number is named by one before it, or its path is among the first ones
 pub reached : (from : Paths) (ss : List Source) (k : ℕ) (s : Source) → Reach from ss → slice_get ss k ≡ Some s
     → (is_among s.path from ≡ true) ⊎ ((j : ℕ) × (t : Source) × (j < k) × (slice_get ss j ≡ Some t) × (is_among s.path (named_by t) ≡ true))
-reached from [] k s r h = absurd (none_some s h)
-reached from (x ∷ ss) zero s r h = inl (ap (λ (y : Source). is_among y.path from) (sym (some_same x s h)) ∙ r.0)
+reached from [] k s r h = absurd (none-some s h)
+reached from (x ∷ ss) zero s r h = inl (ap (λ (y : Source). is_among y.path from) (sym (same_Some x s h)) ∙ r.0)
 reached from (x ∷ ss) (suc k) s r h = elim (reached (from ++ named_by x) ss k s r.1 h)
     as (λ c. (is_among s.path from ≡ true) ⊎ ((j : ℕ) × (t : Source) × (j < suc k) × (slice_get (x ∷ ss) j ≡ Some t) × (is_among s.path (named_by t) ≡ true))) [
       | inl l ↦ elim (or_cases (is_among s.path from) (is_among s.path (named_by x)) (sym (among_append s.path from (named_by x)) ∙ l))

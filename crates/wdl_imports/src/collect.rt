@@ -65,11 +65,13 @@ fn linked(alloc: Global, sources: Sources) -> Result<Library, ImportFault>
     library_of(alloc, docs)
 }
 
-/// The library of the document at a path: that document and all that it imports, each path read once, depth first in the order of the
-/// imports (OpenWDL 1.1, "Import statements" and "Struct definition"). `Read` is answered only for a path that the shelf refuses, and
-/// only where its count of faults rose; it is the given path, or that of an import of a document that was read before. `Bad` is
-/// answered where no library stands for the bytes that were read, with a code that holds in the document at its path. With a library,
-/// or with `Bad`, each read succeeded: the shelf has counted no fault.
+/// The library of the document at a path: that document and all that it imports, each path read
+/// once, depth first in the order of the imports (OpenWDL 1.1, "Import statements" and "Struct
+/// definition"). `Read` is answered only for a path that the shelf refuses, and only where its
+/// count of faults rose; it is the given path, or that of an import of a document that was read
+/// before. `Bad` is answered where no library stands for the bytes that were read, with a code that
+/// holds in the document at its path. With a library, or with `Bad`, each read succeeded: the shelf
+/// has counted no fault.
 pub fn gather<F: Shelf>(alloc: Global, shelf: &mut F, path: &Text) -> Result<Library, ImportFault>
     ensures outcome { spec.Gathers (F.tells shelf.old) (F.refuses shelf.old) (Rose (F.faults shelf.old) (F.faults shelf.new)) path.now result }
     ensures counted { Counts result (F.faults shelf.old) (F.faults shelf.new) }

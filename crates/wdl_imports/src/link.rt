@@ -71,7 +71,8 @@ fn doc_of(source: Source, imports: Items<Link>, alloc: Global) -> Doc
     }
 }
 
-/// The documents of the sources, of which there are at most 64, with their links and without struct names.
+/// The documents of the sources, of which there are at most 64, with their links and without struct
+/// names.
 pub fn docs_of(alloc: Global, sources: Sources) -> Result<Items<Doc>, NoMemory>
     requires few { length sources ≤ most_documents }
     requires named { spec.AreNamed (paths sources) sources }

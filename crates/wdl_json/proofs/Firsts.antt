@@ -2,11 +2,11 @@
 use Rattle.std.proofs.Common.{◌≡◌, ℕ, suc, ◌+◌, ◌<◌, ◌≤◌, nat_lt, Bool, true, false, cond, List, [], ◌∷◌, length, drop, get_or, drop-cons, Option, Some, None, refl, sym, ap, ◌∙◌, arith}
 use Rattle.std.proofs.lemmas.Bool.{false≢true}
 use Rattle.std.proofs.lemmas.Bool.Decides.{nat_tests}
+use Rattle.std.proofs.lemmas.Option.{same_Some}
 use Rattle.wdl_typed.specs.declared.task.TInput.{TInput}
 use Rattle.wdl_json.specs.Inputs.{sooner, first_of}
 use Rattle.wdl_json.specs.Sooner.{joined}
 use Rattle.wdl_json.specs.Laws.{NoneBefore}
-use Rattle.json_values.proofs.ReadsFit.{inside}
 
 -- the first of three, from the left and from the right
 picked : (i j : TInput) (b : Bool) → nat_lt j.span.start i.span.start ≡ b → sooner i (Some j) ≡ cond b j i
@@ -87,7 +87,7 @@ is_first test (j ∷ js) i h = by_test (test j) refl h (first_of test js) refl (
         (ap test (sym same) ∙ e, (λ t. let s : j.span.start ≡ i.span.start = ap (λ (x : TInput). x.span.start) same in omega (arith, s), no_first test i js is))
     by_test true e h (Some k) is more =
         let p = more k is in
-        let chosen : sooner j (Some k) ≡ i = inside (sooner j (Some k)) i (ap (λ o. Some (sooner j o)) (sym is) ∙ h) in
+        let chosen : sooner j (Some k) ≡ i = same_Some (sooner j (Some k)) i (ap (λ o. Some (sooner j o)) (sym is) ∙ h) in
         by_start (nat_lt k.span.start j.span.start) refl chosen p.0 p.1
       where
         starts : (x : TInput) → x ≡ i → x.span.start ≡ i.span.start

@@ -1,11 +1,12 @@
 -- The inputs that are given fit the workflow.
-use Rattle.std.proofs.Common.{◌≡◌, ℕ, zero, suc, nat_lt, Bool, true, false, not, cond, ◌&&◌, ◌||◌, List, [], ◌∷◌, ◌++◌, length, Option, Some, None, option_map, Result, Ok, Err, IfOk, bytes_eq, nat_cmp, Ordering, Less, Equal, Greater, refl, sym, ap, ◌∙◌, subst}
-use Rattle.std.proofs.lemmas.Bool.{false≢true, true≢false, and_parts, and_from, or_parts}
+use Rattle.std.proofs.Common.{◌≡◌, ℕ, nat_lt, Bool, true, false, not, cond, ◌&&◌, ◌||◌, List, [], ◌∷◌, ◌++◌, length, Option, Some, None, option_map, Result, Ok, Err, IfOk, bytes_eq, nat_cmp, Ordering, Less, Equal, Greater, refl, sym, ap, ◌∙◌, subst}
+use Rattle.std.proofs.lemmas.Bool.{true≢false, and_parts, and_from, or_parts, or_from, not-true}
 use Rattle.std.proofs.lemmas.Slice.Eq.{bytes_eq-Decides}
 use Rattle.std.specs.Cmp.Lexicographic.{slice_cmp}
-use Rattle.std.specs.List.{list_all, slice_get}
+use Rattle.std.specs.List.{list_all}
 use Rattle.std.specs.Ordering.{match_ordering}
 use Rattle.std.specs.Str.{is_utf8}
+use Rattle.std.proofs.lemmas.Option.{same_Some}
 use Rattle.serde_json.specs.Data.{Data, null, boolean, number, string, array, object, Members, no_members, member}
 use Rattle.serde_json.specs.Find.{as_object, get_member}
 use Rattle.serde_json.specs.Read.{read}
@@ -27,40 +28,28 @@ use Rattle.wdl_typed.specs.Scope.{lookup, same_key, is_among}
 use Rattle.json_values.specs.Ordered.{is_first, is_ordered, members_ordered}
 use Rattle.json_values.specs.Reading.{reads}
 use Rattle.json_values.proofs.OrderLemmas.{read_ordered}
-use Rattle.json_values.proofs.ReadsFit.{reads_fits, inside, chosen}
+use Rattle.json_values.proofs.ReadsFit.{reads_fits}
 use Rattle.wdl_json.specs.declared.fault.InputFault.{InputFault}
-use Rattle.wdl_json.specs.declared.given.Given.{Given}
-use Rattle.wdl_json.specs.declared.given.Given.TheVariants.{LeftOut, Fitting, Misfit}
+use Rattle.wdl_json.specs.declared.given.GivenInput.{GivenInput}
+use Rattle.wdl_json.specs.declared.given.GivenInput.TheVariants.{LeftOut, Fitting, Misfit}
 use Rattle.wdl_json.specs.Inputs.{json_in, bad, Gives, member_name, unknown_fault, sooner, first_of, is_missing, missing_fault, named, fitting, given_as, given_of, is_misfit, misfits, misfit, misfit_fault, bind_of, binds, or_fault, from_members, from_object, from_json, inputs_in, main_of}
-
-or_right : (b c : Bool) → b ≡ false → c ≡ false → b || c ≡ false
-or_right true c h k = absurd (true≢false h)
-or_right false c h k = k
-
-negated : (b : Bool) → not b ≡ true → b ≡ false
-negated true h = absurd (false≢true h)
-negated false h = refl
+use Rattle.wdl_base.proofs.Options.{all_at, chosen_parts}
 
 -- ---- the names of inputs differ
 
 front_lacks : (name : List ℕ) (xs ys : List (List ℕ)) → has_name name (xs ++ ys) ≡ false → has_name name xs ≡ false
 front_lacks name [] ys h = refl
-front_lacks name (x ∷ xs) ys h = let p = or_parts (bytes_eq x name) (has_name name (xs ++ ys)) h in or_right (bytes_eq x name) (has_name name xs) p.0 (front_lacks name xs ys p.1)
+front_lacks name (x ∷ xs) ys h = let p = or_parts (bytes_eq x name) (has_name name (xs ++ ys)) h in or_from (bytes_eq x name) (has_name name xs) p.0 (front_lacks name xs ys p.1)
 
 front_distinct : (xs ys : List (List ℕ)) → are_distinct (xs ++ ys) ≡ true → are_distinct xs ≡ true
 front_distinct [] ys h = refl
 front_distinct (x ∷ xs) ys h =
     let p = and_parts (not (has_name x (xs ++ ys))) (are_distinct (xs ++ ys)) h in
-    and_from (not (has_name x xs)) (are_distinct xs) (ap not (front_lacks x xs ys (negated (has_name x (xs ++ ys)) p.0))) (front_distinct xs ys p.1)
-
-passes_at : {A : Type 0} (test : A → Bool) (xs : List A) (k : ℕ) (x : A) → list_all test xs ≡ true → slice_get xs k ≡ Some x → test x ≡ true
-passes_at test [] k x h g = cc
-passes_at test (y ∷ ys) zero x h g = ap test (sym (inside y x g)) ∙ (and_parts (test y) (list_all test ys) h).0
-passes_at test (y ∷ ys) (suc k) x h g = passes_at test ys k x (and_parts (test y) (list_all test ys) h).1 g
+    and_from (not (has_name x xs)) (are_distinct xs) (ap not (front_lacks x xs ys (not-true (has_name x (xs ++ ys)) p.0))) (front_distinct xs ys p.1)
 
 main_at : (flows : List FlowDef) (main : Option ℕ) (f : FlowDef) (test : FlowDef → Bool) → list_all test flows ≡ true → main_of flows main ≡ Some f → test f ≡ true
 main_at flows None f test h m = cc
-main_at flows (Some k) f test h m = passes_at test flows k f h m
+main_at flows (Some k) f test h m = all_at test flows k f h m
 
 pub inputs_distinct : (lib : Library) (main : Option ℕ) (f : FlowDef) → is_checked lib main ≡ true → main_of lib.flows main ≡ Some f → are_distinct (input_names f.inputs) ≡ true
 inputs_distinct lib main f h m =
@@ -84,7 +73,7 @@ same_own : (n : List ℕ) → same_key (plain_key n) (plain_key n) ≡ true
 same_own n = ap (λ b. b && true) ((bytes_eq-Decides n n).1 refl)
 
 module _ (structs : Structs) (flow : List ℕ) (ms : Members) where
-  abbrev given : TInput → Given
+  abbrev given : TInput → GivenInput
   given = given_of structs flow ms
 
   abbrev bound : List TInput → List Bind
@@ -96,18 +85,18 @@ module _ (structs : Structs) (flow : List ℕ) (ms : Members) where
       let p = or_parts (bytes_eq i.name n) (has_name n (input_names is)) h in
       by_given (given i) (same_plain i.name n p.0) (no_key n is p.1)
     where
-      by_given : (g : Given) → same_key (plain_key i.name) (plain_key n) ≡ false → is_among (plain_key n) (keys (bound is)) ≡ false → is_among (plain_key n) (keys (bind_of i g ++ bound is)) ≡ false
+      by_given : (g : GivenInput) → same_key (plain_key i.name) (plain_key n) ≡ false → is_among (plain_key n) (keys (bound is)) ≡ false → is_among (plain_key n) (keys (bind_of i g ++ bound is)) ≡ false
       by_given LeftOut other rest = rest
-      by_given (Fitting x) other rest = or_right (same_key (plain_key i.name) (plain_key n)) (is_among (plain_key n) (keys (bound is))) other rest
+      by_given (Fitting x) other rest = or_from (same_key (plain_key i.name) (plain_key n)) (is_among (plain_key n) (keys (bound is))) other rest
       by_given Misfit other rest = rest
 
   keys_differ : (is : List TInput) → are_distinct (input_names is) ≡ true → keys_distinct (keys (bound is)) ≡ true
   keys_differ [] h = refl
   keys_differ (i ∷ is) h =
       let p = and_parts (not (has_name i.name (input_names is))) (are_distinct (input_names is)) h in
-      by_given (given i) (no_key i.name is (negated (has_name i.name (input_names is)) p.0)) (keys_differ is p.1)
+      by_given (given i) (no_key i.name is (not-true (has_name i.name (input_names is)) p.0)) (keys_differ is p.1)
     where
-      by_given : (g : Given) → is_among (plain_key i.name) (keys (bound is)) ≡ false → keys_distinct (keys (bound is)) ≡ true → keys_distinct (keys (bind_of i g ++ bound is)) ≡ true
+      by_given : (g : GivenInput) → is_among (plain_key i.name) (keys (bound is)) ≡ false → keys_distinct (keys (bound is)) ≡ true → keys_distinct (keys (bind_of i g ++ bound is)) ≡ true
       by_given LeftOut new rest = rest
       by_given (Fitting x) new rest = and_from (not (is_among (plain_key i.name) (keys (bound is)))) (keys_distinct (keys (bound is))) (ap not new) rest
       by_given Misfit new rest = rest
@@ -122,7 +111,7 @@ module _ (structs : Structs) (flow : List ℕ) (ms : Members) where
     where
       by_order : (c : Ordering) → match_ordering c (get_member k ns) (Some e) (get_member k ns) ≡ Some d → is_ordered e ≡ true → (get_member k ns ≡ Some d → is_ordered d ≡ true) → is_ordered d ≡ true
       by_order Less g own more = more g
-      by_order Equal g own more = ap is_ordered (sym (inside e d g)) ∙ own
+      by_order Equal g own more = ap is_ordered (sym (same_Some e d g)) ∙ own
       by_order Greater g own more = more g
 
   fitting_fits : (t : Ty) (o : Option Value) (x : Value) → ((y : Value) → o ≡ Some y → fits structs y t ≡ true) → fitting o ≡ Fitting x → value_fits structs t x ≡ true
@@ -147,7 +136,7 @@ module _ (structs : Structs) (flow : List ℕ) (ms : Members) where
       let p = or_parts (bytes_eq j.name i.name) (has_name i.name (input_names js)) h in
       by_given (given j) (same_plain j.name i.name p.0) k (fits_behind i is js p.1)
     where
-      by_given : (g : Given) → same_key (plain_key j.name) (plain_key i.name) ≡ false → list_all (bind_fits structs is) (bind_of j g ++ bound js) ≡ true
+      by_given : (g : GivenInput) → same_key (plain_key j.name) (plain_key i.name) ≡ false → list_all (bind_fits structs is) (bind_of j g ++ bound js) ≡ true
           → (list_all (bind_fits structs is) (bound js) ≡ true → list_all (bind_fits structs (i ∷ is)) (bound js) ≡ true) → list_all (bind_fits structs (i ∷ is)) (bind_of j g ++ bound js) ≡ true
       by_given LeftOut other all more = more all
       by_given (Fitting x) other all more =
@@ -160,9 +149,9 @@ module _ (structs : Structs) (flow : List ℕ) (ms : Members) where
   all_fit [] o h = refl
   all_fit (i ∷ is) o h =
       let p = and_parts (not (has_name i.name (input_names is))) (are_distinct (input_names is)) h in
-      by_given (given i) refl (fits_behind i is is (negated (has_name i.name (input_names is)) p.0) (all_fit is o p.1))
+      by_given (given i) refl (fits_behind i is is (not-true (has_name i.name (input_names is)) p.0) (all_fit is o p.1))
     where
-      by_given : (g : Given) → given i ≡ g → list_all (bind_fits structs (i ∷ is)) (bound is) ≡ true → list_all (bind_fits structs (i ∷ is)) (bind_of i g ++ bound is) ≡ true
+      by_given : (g : GivenInput) → given i ≡ g → list_all (bind_fits structs (i ∷ is)) (bound is) ≡ true → list_all (bind_fits structs (i ∷ is)) (bind_of i g ++ bound is) ≡ true
       by_given LeftOut e rest = rest
       by_given (Fitting x) e rest =
           let b : Bind = record { key = plain_key i.name; value = x } in
@@ -208,7 +197,7 @@ module _ (structs : Structs) (flow : List ℕ) (ms : Members) where
       own : (x : Value) → is_some (lookup (bind_of i (Fitting x) ++ bs) (plain_key i.name)) ≡ true
       own x = ap (λ b. is_some (cond b (Some x) (lookup bs (plain_key i.name)))) (same_own i.name)
 
-      fitted : (g : Given) (o : Option Value) → fitting o ≡ g → is_misfit g ≡ false → is_some (lookup (bind_of i g ++ bs) (plain_key i.name)) ≡ true
+      fitted : (g : GivenInput) (o : Option Value) → fitting o ≡ g → is_misfit g ≡ false → is_some (lookup (bind_of i g ++ bs) (plain_key i.name)) ≡ true
       fitted (Fitting x) o e k = own x
       fitted Misfit o e k = absurd (true≢false k)
       fitted LeftOut None e k = cc
@@ -271,7 +260,7 @@ data_fit structs f (object ms) env o d h = members_fit structs f ms env o d h
 json_fit : (structs : Structs) (f : FlowDef) (bytes : List ℕ) (o : Option Data) (env : List Bind) → json_in bytes ≡ o → are_distinct (input_names f.inputs) ≡ true → from_json structs f o ≡ Ok env
     → inputs_fit structs f.inputs env ≡ true
 json_fit structs f bytes None env e d h = cc
-json_fit structs f bytes (Some j) env e d h = data_fit structs f j env (read_ordered bytes j (chosen (is_utf8 bytes) (read bytes) j e).1) d h
+json_fit structs f bytes (Some j) env e d h = data_fit structs f j env (read_ordered bytes j (chosen_parts (is_utf8 bytes) (read bytes) j e).1) d h
 
 pub bytes_fit : (structs : Structs) (f : FlowDef) (bytes : List ℕ) (env : List Bind) → are_distinct (input_names f.inputs) ≡ true → inputs_in structs f bytes ≡ Ok env → inputs_fit structs f.inputs env ≡ true
 bytes_fit structs f bytes env d h = by_length (nat_lt 1048576 (length bytes)) h
@@ -284,7 +273,7 @@ bytes_fit structs f bytes env d h = by_length (nat_lt 1048576 (length bytes)) h
 given_fit : (lib : Library) (main : Option ℕ) (f g : FlowDef) (bytes : List ℕ) (env : List Bind) → is_checked lib main ≡ true → main_of lib.flows main ≡ Some f → main_of lib.flows main ≡ Some g
     → inputs_in lib.structs g bytes ≡ Ok env → inputs_fit lib.structs f.inputs env ≡ true
 given_fit lib main f g bytes env checked at found h =
-    let same : g ≡ f = inside g f (sym found ∙ at) in
+    let same : g ≡ f = same_Some g f (sym found ∙ at) in
     bytes_fit lib.structs f bytes env (inputs_distinct lib main f checked at) (ap (λ x. inputs_in lib.structs x bytes) (sym same) ∙ h)
 
 pub answer_fits : (lib : Library) (main : Option ℕ) (f g : FlowDef) (bytes : List ℕ) (r : Result (List Bind) InputFault) → is_checked lib main ≡ true → main_of lib.flows main ≡ Some f

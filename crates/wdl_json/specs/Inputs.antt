@@ -19,8 +19,8 @@ use Rattle.wdl_typed.specs.KnownTypes.{is_some}
 use Rattle.json_values.specs.Reading.{reads}
 use Rattle.wdl_json.specs.declared.fault.InputFault.{InputFault}
 use Rattle.wdl_json.specs.declared.fault.InputFault.TheVariants.{Bad, NoMemory as OutOfMemory}
-use Rattle.wdl_json.specs.declared.given.Given.{Given}
-use Rattle.wdl_json.specs.declared.given.Given.TheVariants.{LeftOut, Fitting, Misfit}
+use Rattle.wdl_json.specs.declared.given.GivenInput.{GivenInput}
+use Rattle.wdl_json.specs.declared.given.GivenInput.TheVariants.{LeftOut, Fitting, Misfit}
 
 -- ---- the text
 
@@ -86,19 +86,19 @@ missing_fault flow is ms = option_map (named 404 flow) (first_of (is_missing flo
 -- ---- inputs that are given
 
 -- The value keeps the limits of all values.
-abbrev pub fitting : Option Value → Given
+abbrev pub fitting : Option Value → GivenInput
 fitting None = Misfit
 fitting (Some x) = if is_within x then Fitting x else Misfit
 
-abbrev pub given_as : Structs → Ty → Option Data → Given
+abbrev pub given_as : Structs → Ty → Option Data → GivenInput
 given_as structs t None = LeftOut
 given_as structs t (Some d) = fitting (reads structs d t)
 
 -- what the member of an input is at its type
-abbrev pub given_of : Structs → List ℕ → Members → TInput → Given
+abbrev pub given_of : Structs → List ℕ → Members → TInput → GivenInput
 given_of structs flow ms i = given_as structs i.ty (get_member (member_name flow i.name) ms)
 
-abbrev pub is_misfit : Given → Bool
+abbrev pub is_misfit : GivenInput → Bool
 is_misfit Misfit = true
 is_misfit given = false
 
@@ -116,7 +116,7 @@ misfit flow ms i = named (misfit_code (get_member (member_name flow i.name) ms))
 abbrev pub misfit_fault : Structs → List ℕ → List TInput → Members → Option InputFault
 misfit_fault structs flow is ms = option_map (misfit flow ms) (first_of (misfits structs flow ms) is)
 
-abbrev pub bind_of : TInput → Given → List Bind
+abbrev pub bind_of : TInput → GivenInput → List Bind
 bind_of i LeftOut = []
 bind_of i (Fitting x) = record { key = plain_key i.name; value = x } ∷ []
 bind_of i Misfit = []

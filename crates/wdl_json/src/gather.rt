@@ -8,7 +8,7 @@ ghost use Rattle.wdl_json.specs.Inputs.{Gives};
 
 use crate::fault::InputFault;
 use crate::float::holds_float;
-use crate::given::{Given, given_as, is_misfit, push_given};
+use crate::given::{GivenInput, given_as, is_misfit, push_given};
 use crate::member::{member, member_name, named};
 use crate::sooner::sooner_if;
 use serde_json::{Map, Value as Json};
@@ -26,7 +26,7 @@ fn given_of(
     input: &TInput,
     members: &Map<String, Json>,
     structs: &Indexed<StructDef>,
-) -> Result<Given, NoMemory>
+) -> Result<GivenInput, NoMemory>
     ensures { IfOk result (λ g. g ≡ spec.given_of structs.now flow.now (members_view members.now.entries) input.now) }
 {
     let name = member_name(alloc, flow, &input.name)?;
@@ -49,7 +49,8 @@ fn gather<'a>(
 ) -> Result<Gathered<'a>, NoMemory>
     ensures binds { IfOk result (λ g. g.binds ≡ spec.binds structs.now flow.now (members_view members.now.entries) inputs.now) }
     ensures misfit { IfOk result (λ g. option_copied g.misfit
-        ≡ spec.first_of (spec.misfits structs.now flow.now (members_view members.now.entries)) inputs.now) }
+        ≡ spec.first_of (spec.misfits structs.now flow.now (members_view members.now.entries))
+        inputs.now) }
 {
     let mut binds = Items::new(alloc);
     let mut misfit = None;
@@ -91,7 +92,8 @@ pub fn given_inputs(
     structs: &Indexed<StructDef>,
 ) -> Result<Env, InputFault>
     ensures { Gives (spec.or_fault (spec.misfit_fault structs.now flow.now.name flow.now.inputs (members_view members.now.entries))
-        (Ok (spec.binds structs.now flow.now.name (members_view members.now.entries) flow.now.inputs))) result }
+        (Ok (spec.binds structs.now flow.now.name (members_view members.now.entries)
+        flow.now.inputs))) result }
 {
     let Gathered { binds, misfit } = gather(
         alloc,

@@ -13,24 +13,25 @@ use wdl_names::Indexed;
 use wdl_typed::TInput;
 use wdl_value::{Bind, StructDef, Ty, Value, is_within_limits};
 
-/// What a text says of an input: nothing, a value of its type within the limits of values, or anything else.
+/// What a text says of an input: nothing, a value of its type within the limits of values, or
+/// anything else.
 #[derive(Debug, Drop)]
-pub enum Given {
+pub enum GivenInput {
     LeftOut,
     Fitting(Value),
     Misfit,
 }
 
-fn fitting(value: Option<Value>) -> Given
+fn fitting(value: Option<Value>) -> GivenInput
     ensures { result ≡ spec.fitting value }
 {
     match value {
         Some(value) => if is_within_limits(&value) {
-            Given::Fitting(value)
+            GivenInput::Fitting(value)
         } else {
-            Given::Misfit
+            GivenInput::Misfit
         },
-        None => Given::Misfit,
+        None => GivenInput::Misfit,
     }
 }
 
@@ -40,19 +41,19 @@ pub(crate) fn given_as(
     json: Option<&Json>,
     t: &Ty,
     structs: &Indexed<StructDef>,
-) -> Result<Given, NoMemory>
+) -> Result<GivenInput, NoMemory>
     ensures { IfOk result (λ g. g ≡ spec.given_as structs.now t.now (option_map view (option_copied json.entry))) }
 {
     match json {
         Some(json) => Ok(fitting(read_value(alloc, json, t, structs)?)),
-        None => Ok(Given::LeftOut),
+        None => Ok(GivenInput::LeftOut),
     }
 }
 
-pub(crate) fn is_misfit(given: &Given) -> bool
+pub(crate) fn is_misfit(given: &GivenInput) -> bool
     ensures { result ≡ spec.is_misfit given.now }
 {
-    matches!(given, Given::Misfit)
+    matches!(given, GivenInput::Misfit)
 }
 
 fn bind(alloc: Global, name: &Name, value: Value) -> Result<Bind, NoMemory>
@@ -71,11 +72,11 @@ pub(crate) fn push_given(
     alloc: Global,
     binds: &mut Items<Bind>,
     input: &TInput,
-    given: Given,
+    given: GivenInput,
 ) -> Result<(), NoMemory>
     ensures { OnOk result (binds.new ≡ binds.old ++ spec.bind_of input.now given) }
 {
-    if let Given::Fitting(value) = given {
+    if let GivenInput::Fitting(value) = given {
         binds.push(bind(alloc, &input.name, value)?)?;
     }
     Ok(())

@@ -38,9 +38,9 @@ fn from_members(
     given_inputs(alloc, flow, members, &structs)
 }
 
-/// The inputs of a workflow that a JSON text gives, where struct names are those of `structs`. Each binds the name of an
-/// input to the value that the member `workflow.input` is at its type; `null` for an optional input is a given undefined
-/// value. Members whose names begin with `##` are
+/// The inputs of a workflow that a JSON text gives, where struct names are those of `structs`. Each
+/// binds the name of an input to the value that the member `workflow.input` is at its type; `null`
+/// for an optional input is a given undefined value. Members whose names begin with `##` are
 /// comments. The time is linear but for a logarithm.
 pub fn flow_inputs(
     alloc: Global,
@@ -87,8 +87,8 @@ fn main_flow(checked: &Checked) -> &FlowDef
 
 /// The inputs of the main workflow that a JSON text gives, as `flow_inputs` says.
 ///
-/// What is given fits: each name is an input, and stands once; each required input is given; each value fits its type and
-/// keeps the limits of values.
+/// What is given fits: each name is an input, and stands once; each required input is given; each
+/// value fits its type and keeps the limits of values.
 pub fn inputs_of(alloc: Global, bytes: &[u8], checked: &Checked) -> Result<Env, InputFault>
     requires main { IsSome checked.now.main }
     ensures value { (f : Flow) → spec.main_of checked.now.flows checked.now.main ≡ Some f

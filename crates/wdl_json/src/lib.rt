@@ -1,5 +1,5 @@
-//! The inputs of a workflow from a JSON text, and its outputs as one (OpenWDL 1.1, "JSON Input Format" and "JSON Output
-//! Format").
+//! The inputs of a workflow from a JSON text, and its outputs as one (OpenWDL 1.1, "JSON Input
+//! Format" and "JSON Output Format").
 #![tactic(auto)]
 
 mod fault;
@@ -16,7 +16,7 @@ mod sooner;
 mod unknown;
 
 pub use fault::InputFault;
-pub use given::Given;
+pub use given::GivenInput;
 pub use inputs::{INPUTS_LIMIT, flow_inputs, inputs_of};
 pub use laws::firsts_are_first;
 pub use outputs::outputs_text;

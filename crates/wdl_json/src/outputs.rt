@@ -31,7 +31,8 @@ fn put_output(
     bind: &Bind,
 ) -> Result<(), NoMemory>
     ensures { OnOk result (members_view members.new.entries
-        ≡ with_member (spec.output_name flow.now bind.now.key) (json_data bind.now.value) (members_view members.old.entries)) }
+        ≡ with_member (spec.output_name flow.now bind.now.key) (json_data bind.now.value)
+        (members_view members.old.entries)) }
 {
     let name = output_name(alloc, flow, &bind.key)?;
     let value = json_of(alloc, &bind.value)?;
@@ -39,7 +40,7 @@ fn put_output(
     Ok(())
 }
 
-#[tactic(auto, using(crate::proofs::Texts::object_view))]
+#[tactic(auto, using(json_values::proofs::JsonViews::object_view))]
 fn outputs_json(alloc: Global, flow: &Name, outs: &[Bind]) -> Result<Json, NoMemory>
     ensures { IfOk result (λ j. view j ≡ spec.outputs_json flow.now outs.now) }
 {
@@ -50,10 +51,11 @@ fn outputs_json(alloc: Global, flow: &Name, outs: &[Bind]) -> Result<Json, NoMem
     Ok(Json::Object(members))
 }
 
-/// The outputs of a workflow as one JSON object without blanks: a member `workflow.output` for each, in byte order. Its
-/// time is linear but for a logarithm.
+/// The outputs of a workflow as one JSON object without blanks: a member `workflow.output` for
+/// each, in byte order. Its time is linear but for a logarithm.
 ///
-/// Where the keys of each map are all Bool, all Int, all Str or all File, no two rows of it have one member.
+/// Where the keys of each map are all Bool, all Int, all Str or all File, no two rows of it have
+/// one member.
 pub fn outputs_text(alloc: Global, flow: &Name, outs: &[Bind]) -> Result<Text, NoMemory>
     ensures value { IfOk result (λ t. t ≡ spec.outputs_text flow.now outs.now) }
 {

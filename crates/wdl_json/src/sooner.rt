@@ -7,7 +7,8 @@ ghost use Rattle.wdl_json.specs.Sooner.{joined};
 
 use wdl_typed::TInput;
 
-/// The input that begins first, of one that was found before and another one that counts where the test holds.
+/// The input that begins first, of one that was found before and another one that counts where the
+/// test holds.
 pub fn sooner_if<'a>(found: Option<&'a TInput>, input: &'a TInput, test: bool) -> Option<&'a TInput>
     ensures { option_copied result ≡ joined (option_copied found.entry) (if test then Some input.now else None) }
 {

@@ -1,7 +1,8 @@
-//! Workflows as the tests write them: their inputs between `;`, each by its name, where it begins in the text, and its type,
-//! with a `=` at the end where it has a default. A type is written in words between blanks, each behind the types that it
-//! is made of: `Int ?` is `Int?`, `Int []` is `Array[Int]`, `Int []+` is `Array[Int]+`, `Str Int {}` is `Map[String, Int]`,
-//! `Str Int ()` is `Pair[String, Int]`.
+//! Workflows as the tests write them: their inputs between `;`, each by its name, where it begins
+//! in the text, and its type, with a `=` at the end where it has a default. A type is written in
+//! words between blanks, each behind the types that it is made of: `Int ?` is `Int?`, `Int []` is
+//! `Array[Int]`, `Int []+` is `Array[Int]+`, `Str Int {}` is `Map[String, Int]`, `Str Int ()` is
+//! `Pair[String, Int]`.
 
 use std::alloc::Global;
 use std::test::Fail;

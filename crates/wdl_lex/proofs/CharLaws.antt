@@ -120,7 +120,7 @@ module _ (i : Inside) where
       ∙ ap (λ k. chars_from i k out (n + 1) (x ++ y)) (let e : length (b ∷ x) - 1 ≡ length x = omega arith in e) ∙ passes x y out (n + 1)
       ∙ ap (λ m. chars_from i 0 out m y) (let e : n + 1 + length x ≡ n + length (b ∷ x) = omega arith in e)
 
-backslash_goes_on : (i : Inside) (z : Bytes) → is_string i ≡ true → stops i (92 ∷ z) ≡ false
+pub backslash_goes_on : (i : Inside) (z : Bytes) → is_string i ≡ true → stops i (92 ∷ z) ≡ false
 backslash_goes_on (string Single) z h = no_hole (first z == 123)
   where
     no_hole : (t : Bool) → (false || is_some (cond t (cond false (Some Tilde) (cond false (Some Dollar) None)) None) || false || (true && false)) ≡ false

@@ -12,8 +12,8 @@ use Rattle.wdl_ast.specs.Spelled.{Open, inside_of, inside, in_hole, after, is_co
 use Rattle.wdl_ast.specs.Spelled.Classes.{Bytes, is_end}
 use Rattle.wdl_ast.specs.Spelled.Chars.{Inside, string, command}
 use Rattle.wdl_lex.specs.declared.fault.Flaw.{Flaw}
-use Rattle.wdl_lex.specs.declared.fault.Stop.{Stop}
-use Rattle.wdl_lex.specs.declared.fault.Stop.TheVariants as stop
+use Rattle.wdl_lex.specs.declared.fault.NoToken.{NoToken}
+use Rattle.wdl_lex.specs.declared.fault.NoToken.TheVariants as stop
 use Rattle.wdl_lex.specs.declared.fault.LexFault.{LexFault}
 use Rattle.wdl_lex.specs.declared.fault.LexFault.TheVariants as lex_fault
 pub use Rattle.wdl_lex.specs.Faults.{open_code}
@@ -68,12 +68,12 @@ module _ (limited : Bool) (doc : ℕ) where
   lex z = lex_from (suc (length z)) 0 false [] z
 
 -- where a stop stands in the document, with the token at a place
-abbrev pub stopped : ℕ → ℕ → Stop → LexFault
+abbrev pub stopped : ℕ → ℕ → NoToken → LexFault
 stopped doc at stop.NoMemory = lex_fault.NoMemory
 stopped doc at (stop.Flaw f) = lex_fault.Bad f.code (span_at doc (at + f.start) (at + f.end))
 
 -- it ends at most 4 bytes past n bytes
-abbrev pub IsNear : ℕ → Stop → Type 0
+abbrev pub IsNear : ℕ → NoToken → Type 0
 IsNear n stop.NoMemory = Unit {0}
 IsNear n (stop.Flaw f) = (f.start ≤ n) × (f.end ≤ n + 4)
 

@@ -1,6 +1,19 @@
 //! The tokens in strings and commands.
 
-ghost use Rattle.std.specs.Prelude.{◌≡◌, ◌++◌, ◌+◌, ◌^◌, ◌≤◌, ◌<◌, false, OnOk, IfOk, IfErr, Ok, length};
+ghost use Rattle.std.specs.Prelude.{
+  ◌≡◌,
+  ◌++◌,
+  ◌+◌,
+  ◌^◌,
+  ◌≤◌,
+  ◌<◌,
+  false,
+  OnOk,
+  IfOk,
+  IfErr,
+  Ok,
+  length,
+};
 ghost use Rattle.std.specs.Char.{encode_utf8};
 ghost use Rattle.std.specs.Str.{IsUtf8};
 ghost use Rattle.wdl_ast.specs.Spelled.Chars as form;
@@ -10,7 +23,7 @@ ghost use Rattle.wdl_lex.specs.Reading.Code.{Fails, Gives, rest};
 
 use crate::classes::{behind, first, second};
 use crate::escapes::escape;
-use crate::fault::{Flaw, Stop, flawed};
+use crate::fault::{Flaw, NoToken, flawed};
 use crate::text::text_of;
 use std::alloc::{AllocError, Global};
 use wdl_ast::{Fence, HoleMark, Kind, Quote};
@@ -112,7 +125,7 @@ fn is_backslash(inside: Inside, b: u8) -> bool
 }
 
 /// Appends what the first byte or escape means. Answers how many bytes it has behind the first.
-fn push_unit(out: &mut Vec<u8>, inside: Inside, z: &[u8], at: usize) -> Result<usize, Stop>
+fn push_unit(out: &mut Vec<u8>, inside: Inside, z: &[u8], at: usize) -> Result<usize, NoToken>
     requires some { 0 < length z.now }
     requires plain { form.stops (spec.inside inside) z.now ≡ false }
     requires room { at + 1 < 2 ^ 64 }
@@ -129,7 +142,7 @@ fn push_unit(out: &mut Vec<u8>, inside: Inside, z: &[u8], at: usize) -> Result<u
             push_char(out, c)?;
             Ok(len)
         }
-        None => Err(Stop::Flaw(Flaw {
+        None => Err(NoToken::Flaw(Flaw {
             code: 105,
             start: at,
             end: at + 1,
@@ -139,7 +152,7 @@ fn push_unit(out: &mut Vec<u8>, inside: Inside, z: &[u8], at: usize) -> Result<u
 
 /// What the characters up to where they stop mean, and their length.
 #[tactic(auto, unfolding(crate::specs::Reading::Chars::chars))]
-fn chars(alloc: Global, inside: Inside, z: &[u8]) -> Result<(Vec<u8>, usize), Stop>
+fn chars(alloc: Global, inside: Inside, z: &[u8]) -> Result<(Vec<u8>, usize), NoToken>
     ensures ok { IfOk result (λ r. spec.chars (spec.inside inside) z.now ≡ Ok (r.0.items, r.1)) }
     ensures err { IfErr result (Fails (spec.chars (spec.inside inside) z.now)) }
 {
@@ -161,7 +174,7 @@ fn chars(alloc: Global, inside: Inside, z: &[u8]) -> Result<(Vec<u8>, usize), St
 
 /// The token at the front, with its length.
 #[tactic(auto, unfolding(crate::specs::Reading::Chars::text_token, crate::specs::Reading::Chars::as_chars))]
-pub fn text_token(alloc: Global, inside: Inside, z: &[u8]) -> Result<(Kind, usize), Stop>
+pub fn text_token(alloc: Global, inside: Inside, z: &[u8]) -> Result<(Kind, usize), NoToken>
     requires { IsUtf8 z.now }
     ensures { Gives (spec.text_token (spec.inside inside) z.now) result }
 {

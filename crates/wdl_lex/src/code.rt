@@ -9,7 +9,7 @@ ghost use Rattle.wdl_lex.specs.Reading.Numbers as number;
 use crate::classes::{
     behind, char_len, digits_len, first, front, is_digit, is_letter, is_word_byte, word_len,
 };
-use crate::fault::{Stop, flawed};
+use crate::fault::{NoToken, flawed};
 use crate::marks::mark_at;
 use crate::numbers::{base_of, frac_len};
 use crate::text::{as_str, copied};
@@ -19,7 +19,7 @@ use wdl_ast::Kind;
 /// The bytes that a word may have.
 pub const MAX_WORD: usize = 128;
 
-fn word(alloc: Global, z: &[u8]) -> Result<(Kind, usize), Stop>
+fn word(alloc: Global, z: &[u8]) -> Result<(Kind, usize), NoToken>
     ensures { spec.Gives (spec.checked true z.now (Some (spec.word_at z.now))) result }
 {
     let len = word_len(z);
@@ -29,7 +29,7 @@ fn word(alloc: Global, z: &[u8]) -> Result<(Kind, usize), Stop>
     Ok((Kind::Word(copied(alloc, front(z, len))?), len))
 }
 
-fn frac(alloc: Global, z: &[u8], len: usize) -> Result<(Kind, usize), Stop>
+fn frac(alloc: Global, z: &[u8], len: usize) -> Result<(Kind, usize), NoToken>
     requires measured { len ≡ number.frac_len z.now }
     requires some { 0 < len }
     requires within { len ≤ length z.now }
@@ -42,7 +42,7 @@ fn frac(alloc: Global, z: &[u8], len: usize) -> Result<(Kind, usize), Stop>
 }
 
 #[tactic(auto, unfolding(crate::specs::Reading::Numbers::int_at))]
-fn int(z: &[u8]) -> Result<(Kind, usize), Stop>
+fn int(z: &[u8]) -> Result<(Kind, usize), NoToken>
     requires { is_digit_of 10 (first z.now) ≡ true }
     ensures { spec.Gives (spec.checked true z.now (Some (number.int_at z.now))) result }
 {
@@ -59,15 +59,15 @@ fn int(z: &[u8]) -> Result<(Kind, usize), Stop>
     }
 }
 
-/// The token at the front, with its length. Behind the word `command` (`awaits`) a `{` or `<<<` opens a command; in a
-/// placeholder without an open brace (`closes`) a `}` closes it.
+/// The token at the front, with its length. Behind the word `command` (`awaits`) a `{` or `<<<`
+/// opens a command; in a placeholder without an open brace (`closes`) a `}` closes it.
 #[tactic(auto, unfolding(crate::specs::Reading::Code::code_token, crate::specs::Reading::Code::longest_at))]
 pub fn code_token(
     alloc: Global,
     z: &[u8],
     awaits: bool,
     closes: bool,
-) -> Result<(Kind, usize), Stop>
+) -> Result<(Kind, usize), NoToken>
     ensures { spec.Gives (spec.code_token true awaits closes z.now) result }
 {
     let b = first(z);

@@ -81,8 +81,8 @@ fn triple(awaits: bool, b: u8, c: u8, d: u8) -> Option<Kind>
     }
 }
 
-/// The longest mark at the front, with its length. Behind the word `command` (`awaits`) a `{` or `<<<` opens a command;
-/// in a placeholder without an open brace (`closes`) a `}` closes it.
+/// The longest mark at the front, with its length. Behind the word `command` (`awaits`) a `{` or
+/// `<<<` opens a command; in a placeholder without an open brace (`closes`) a `}` closes it.
 pub fn mark_at(z: &[u8], awaits: bool, closes: bool) -> Option<(Kind, usize)>
     ensures { result ≡ mark_at awaits closes z.now }
 {

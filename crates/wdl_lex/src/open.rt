@@ -12,7 +12,7 @@ ghost use Rattle.wdl_lex.specs.Reading.Code.{Gives};
 
 use crate::chars::{Inside, text_token};
 use crate::code::code_token;
-use crate::fault::Stop;
+use crate::fault::NoToken;
 use crate::gaps::gap_len;
 use std::alloc::{AllocError, Global};
 use std::marker::Model;
@@ -151,7 +151,7 @@ impl Open {
     }
 
     /// The token at the front, with its length; `awaits` says that the word `command` came last.
-    pub fn token(&self, alloc: Global, z: &[u8], awaits: bool) -> Result<(Kind, usize), Stop>
+    pub fn token(&self, alloc: Global, z: &[u8], awaits: bool) -> Result<(Kind, usize), NoToken>
         requires { IsUtf8 z.now }
         ensures { Gives (spec.token true awaits self.now z.now) result }
     {

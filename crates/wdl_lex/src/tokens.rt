@@ -11,7 +11,7 @@ ghost use Rattle.wdl_lex.specs.Reading as spec;
 ghost use Rattle.wdl_lex.specs.Limits.{IsWithinLimits};
 
 use crate::classes::behind;
-use crate::fault::{LexFault, Stop};
+use crate::fault::{LexFault, NoToken};
 use crate::open::Open;
 use sqlite_items::Items;
 use std::alloc::Global;
@@ -47,14 +47,14 @@ fn is_command(kind: &Kind) -> bool
 }
 
 /// The fault of the token that begins at a place.
-fn stopped(stop: Stop, doc: u32, at: usize) -> LexFault
+fn stopped(stop: NoToken, doc: u32, at: usize) -> LexFault
     requires place { at ≤ MAX_DOCUMENT }
     requires near { spec.IsNear MAX_DOCUMENT stop }
     ensures { result ≡ spec.stopped doc at stop }
 {
     match stop {
-        Stop::NoMemory => LexFault::NoMemory,
-        Stop::Flaw(flaw) => LexFault::Bad {
+        NoToken::NoMemory => LexFault::NoMemory,
+        NoToken::Flaw(flaw) => LexFault::Bad {
             code: flaw.code,
             span: Span {
                 doc,
@@ -120,10 +120,12 @@ fn read(alloc: Global, z: &[u8], doc: u32) -> Result<Items<Token>, LexFault>
     })
 }
 
-/// The tokens of the text of document `doc`: exactly those that the text spells, where its limits are kept, and else
-/// `Bad` with a code that holds at its span. Where several codes hold, the first that is met is answered.
+/// The tokens of the text of document `doc`: exactly those that the text spells, where its limits
+/// are kept, and else `Bad` with a code that holds at its span. Where several codes hold, the first
+/// that is met is answered.
 ///
-/// (OpenWDL 1.1: "Whitespace", "Literals", "Strings", "Expression Placeholders", "Command Section".)
+/// (OpenWDL 1.1: "Whitespace", "Literals", "Strings", "Expression Placeholders", "Command
+/// Section".)
 pub fn lex(alloc: Global, bytes: &[u8], doc: u32) -> Result<Items<Token>, LexFault>
     // What is read is spelled so.
     ensures found { IfOk result (λ ts. Spelled doc bytes.now ts × IsWithinLimits bytes.now ts) }

@@ -59,7 +59,8 @@ version 1.1\n¦0..7 word version|8..11 frac 1.1|¶\
 ==!=<=>=&&||¦0..2 Equal|2..4 NotEqual|4..6 LessEqual|6..8 GreaterEqual|8..10 And|10..12 Or|¶\
 === <<=¦0..2 Equal|2..3 Assign|4..5 Less|5..7 LessEqual|";
 
-/// Integers and numbers with a point or an exponent; `0128` is followed by a digit, each text with its tokens or what is wrong with it.
+/// Integers and numbers with a point or an exponent; `0128` is followed by a digit, each text with
+/// its tokens or what is wrong with it.
 const NUMBERS: &str = "\
 0 7 42¦0..1 int 0|2..3 int 7|4..6 int 42|¶\
 010 0x1F 0XfF¦0..3 int 8|4..8 int 31|9..13 int 255|¶\
@@ -125,7 +126,8 @@ command <<<a>>¦bad 104 8..11 in 7¶\
 command {~{a¦bad 104 8..9 in 7¶\
 command {~{'a¦bad 103 11..12 in 7";
 
-/// Characters with which no token begins, and NUL, each text with its tokens or what is wrong with it.
+/// Characters with which no token begins, and NUL, each text with its tokens or what is wrong with
+/// it.
 const STRAYS: &str = "\
 _a¦bad 102 0..1 in 7¶\
 a \u{20ac}¦bad 102 2..5 in 7¶\

@@ -1,7 +1,7 @@
 -- Marks of documents, and circles of their links.
 use Rattle.std.proofs.Common.{◌≡◌, ◌⊎◌, ℕ, zero, suc, ◌+◌, ◌-◌, ◌<◌, ◌≤◌, Bool, true, false, not, ◌&&◌, List, [], ◌∷◌, ◌++◌, length, get_or, slice_get, slice_set, slice_index_or, refl, sym, ap, ◌∙◌, subst, arith, inl, inr, Option, Some, None}
 use Rattle.std.proofs.lemmas.Bool.{true≢false, false≢true, and_parts, and_from, not-true, cases_eq}
-use Rattle.std.proofs.lemmas.Option.{slice_get_within}
+use Rattle.std.proofs.lemmas.Option.{slice_get_within, same_Some}
 use Rattle.std.proofs.lemmas.List.{length-set}
 use Rattle.std.specs.Prelude.{Contains, if◌then◌else◌}
 use Rattle.std.specs.List.{list_all}
@@ -16,9 +16,7 @@ use Rattle.wdl_library.specs.Links.{is_at, are_links, has_links, links_in, links
 use Rattle.wdl_paths.specs.Resolve.{resolve}
 use Rattle.wdl_links.specs.Circles.{is_set, is_marked, all_marked, marked, unmarked, is_next, AreEnds, places, places_of, LeadsAt, IsChain, Leads, IsCircle, AreReached, AreBeingRead, first_endless, HasMarks, IsNextOpen, open_link}
 use Rattle.wdl_links.specs.Wants.{span_of}
-
-some_same : {A : Type 0} (x y : A) → Some x ≡ Some y → x ≡ y
-some_same x y e = cc
+use Rattle.wdl_base.proofs.Options.{all_at}
 
 -- ---- marks
 
@@ -54,7 +52,7 @@ set_there [] k below = absurd (omega arith)
 set_there (b ∷ bs) zero below = refl
 set_there (b ∷ bs) (suc k) below = set_there bs k (omega arith)
 
-set_keeps : (marks : List Bool) (k j : ℕ) → is_marked marks j ≡ true → is_marked (slice_set marks k true) j ≡ true
+pub set_keeps : (marks : List Bool) (k j : ℕ) → is_marked marks j ≡ true → is_marked (slice_set marks k true) j ≡ true
 set_keeps [] k j h = h
 set_keeps (b ∷ bs) zero zero h = refl
 set_keeps (b ∷ bs) zero (suc j) h = h
@@ -182,7 +180,7 @@ open_place marks (i ∷ is) (l ∷ ls) x h =
     elim (open_from (is_marked marks l.doc) (open_link marks is ls) (Some first) x h)
     as (λ c. (is_marked marks x.0 ≡ false) × Contains (places (i ∷ is) (l ∷ ls)) x) [
       | inl p ↦ let r = open_place marks is ls x p.1 in (r.0, contains_later x first (places is ls) r.1)
-      | inr p ↦ let e = some_same first x p.1 in (subst (λ (y : ℕ × Span). is_marked marks y.0 ≡ false) e p.0, (0, omega arith, e))
+      | inr p ↦ let e = same_Some first x p.1 in (subst (λ (y : ℕ × Span). is_marked marks y.0 ≡ false) e p.0, (0, omega arith, e))
     ]
 
 open_none_on : (marks : List Bool) (l : Link) (ls : List Link) (o : Option (ℕ × Span)) (x : ℕ × Span) (b : Bool) → is_marked marks l.doc ≡ b
@@ -201,7 +199,7 @@ open_none docs base marks (i ∷ is) (l ∷ ls) h k =
 
 -- ---- links lead to documents of the list
 
-at_some : (o : Option Doc) (p : Option (List ℕ)) → is_at o p ≡ true → o ≡ None → ⊥
+pub at_some : (o : Option Doc) (p : Option (List ℕ)) → is_at o p ≡ true → o ≡ None → ⊥
 at_some None p h e = false≢true h
 at_some (Some d) p h e = none_some_doc (sym e)
   where
@@ -227,14 +225,6 @@ place_within docs base (i ∷ is) (l ∷ ls) (suc k) x h below at =
 
 -- ---- the next document of a chain
 
-all_at : {A : Type 0} (p : A → Bool) (xs : List A) (k : ℕ) (x : A) → list_all p xs ≡ true → slice_get xs k ≡ Some x → p x ≡ true
-all_at p [] k x h e = absurd (none_some_at e)
-  where
-    none_some_at : None ≡ Some x → ⊥
-    none_some_at e = cc
-all_at p (y ∷ ys) zero x h e = subst (λ z. p z ≡ true) (some_same y x e) (and_parts (p y) (list_all p ys) h).0
-all_at p (y ∷ ys) (suc k) x h e = all_at p ys k x (and_parts (p y) (list_all p ys) h).1 e
-
 get_marked : (marks : List Bool) (j : ℕ) → j < length marks → is_marked marks j ≡ false → slice_get marks j ≡ Some false
 get_marked [] j below h = absurd (omega arith)
 get_marked (b ∷ bs) zero below h = ap Some h
@@ -243,7 +233,7 @@ get_marked (b ∷ bs) (suc j) below h = get_marked bs j (omega arith) h
 pub marked_get : (marks : List Bool) (j : ℕ) → slice_get marks j ≡ Some false → is_marked marks j ≡ false
 marked_get marks j h = ap is_set h
 
-not_and : (a b : Bool) → a ≡ false → not a && b ≡ false → b ≡ false
+pub not_and : (a b : Bool) → a ≡ false → not a && b ≡ false → b ≡ false
 not_and true b e h = absurd (true≢false e)
 not_and false b e h = h
 
@@ -269,7 +259,7 @@ open_stops test marks (i ∷ is) [] x h f = absurd (none_some x h)
 open_stops test marks (i ∷ is) (l ∷ ls) x h f =
     elim (open_from (is_marked marks l.doc) (open_link marks is ls) (Some (l.doc, span_of i)) x h) as (λ c. list_all (λ (y : Link). test y.doc) (l ∷ ls) ≡ false) [
       | inl p ↦ no_and (test l.doc) (list_all (λ (y : Link). test y.doc) ls) (open_stops test marks is ls x p.1 f)
-      | inr p ↦ ap (λ b. b && list_all (λ (y : Link). test y.doc) ls) (ap (λ (y : ℕ × Span). test y.0) (some_same (l.doc, span_of i) x p.1) ∙ f)
+      | inr p ↦ ap (λ b. b && list_all (λ (y : Link). test y.doc) ls) (ap (λ (y : ℕ × Span). test y.0) (same_Some (l.doc, span_of i) x p.1) ∙ f)
     ]
 
 open_next : (docs : List Doc) (marks : List Bool) (k : ℕ) (d : Doc) (x : ℕ × Span) → HasMarks docs marks → slice_get docs k ≡ Some d

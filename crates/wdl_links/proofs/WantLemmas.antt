@@ -1,6 +1,6 @@
 -- Names of files.
-use Rattle.std.proofs.Common.{◌≡◌, ◌≢◌, ℕ, ◌-◌, Bool, true, false, List, [], ◌∷◌, ◌++◌, ◌+◌, ◌<◌, take, drop, length, get_or, refl, sym, ap, ◌∙◌, codes, append_assoc, Ok, Err}
-use Rattle.std.proofs.lemmas.Bool.{cond-false}
+use Rattle.std.proofs.Common.{◌≡◌, ◌≢◌, ℕ, ◌-◌, List, [], ◌∷◌, ◌++◌, ◌+◌, ◌<◌, take, drop, length, get_or, refl, sym, ap, ◌∙◌, codes, append_assoc, Ok, Err}
+use Rattle.std.proofs.lemmas.Bool.{cond-false, false_from_ne_true}
 use Rattle.std.proofs.lemmas.List.{take-append-drop, drop_more}
 use Rattle.std.proofs.lemmas.Slice.Eq.{bytes_eq-Decides}
 use Rattle.std.specs.Str.{bytes_eq}
@@ -12,15 +12,11 @@ use Rattle.wdl_library.specs.Sections.{imports_in}
 use Rattle.wdl_links.specs.declared.want.Want.{Want}
 use Rattle.wdl_links.specs.Wants.{Outcome, and_then, want_of, wants_of}
 
-differs : (b : Bool) → (b ≡ true → ⊥) → b ≡ false
-differs true h = absurd (h refl)
-differs false h = refl
-
 -- a name that does not end in `.wdl`
 pub stem-other : (s : List ℕ) → ((front : List ℕ) → s ≢ front ++ codes ".wdl") → s ≡ stem s
 stem-other s h =
     sym (cond-false (bytes_eq (drop (length s - 4) s) (codes ".wdl")) _ _
-    (differs _ (λ e. h (take (length s - 4) s)
+    (false_from_ne_true _ (λ e. h (take (length s - 4) s)
     (sym (take-append-drop (length s - 4) s) ∙ ap (λ x. take (length s - 4) s ++ x) ((bytes_eq-Decides (drop (length s - 4) s) (codes ".wdl")).0 e)))))
 
 shift : (o : Outcome (List Want)) (done : List Want) (w : Want)

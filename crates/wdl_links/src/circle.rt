@@ -1,6 +1,18 @@
 //! Whether the links of documents form a circle.
 
-ghost use Rattle.std.specs.Prelude.{◌≡◌, ℕ, ◌<◌, true, false, length, slice_get, IfOk, IfSome, IfNone, Some};
+ghost use Rattle.std.specs.Prelude.{
+  ◌≡◌,
+  ℕ,
+  ◌<◌,
+  true,
+  false,
+  length,
+  slice_get,
+  IfOk,
+  IfSome,
+  IfNone,
+  Some,
+};
 ghost use Rattle.std.specs.List.{list_all};
 ghost use Rattle.wdl_library.specs.Links.{has_links, has_no_circle};
 ghost use Rattle.wdl_library.specs.Sections.{imports_in};
@@ -34,7 +46,8 @@ fn all_marked(marks: &[bool], links: &[Link]) -> bool
     true
 }
 
-/// The first document without a mark whose links all lead to marked ones, in time linear in the links.
+/// The first document without a mark whose links all lead to marked ones, in time linear in the
+/// links.
 pub fn next_end(docs: &[Doc], marks: &[bool]) -> Option<usize>
     ensures some { IfSome result (λ k. (k < length docs.now) × (spec.is_next docs.now marks.now k ≡ true)) }
     ensures none { IfNone result (spec.NoneIsNext docs.now marks.now) }
@@ -72,7 +85,8 @@ fn marks_of(alloc: Global, docs: &[Doc]) -> Result<Items<bool>, NoMemory>
     Ok(marks)
 }
 
-/// The first import that leads to a document without a mark: the number of that document, and where the import stands.
+/// The first import that leads to a document without a mark: the number of that document, and where
+/// the import stands.
 fn open_link(marks: &[bool], sections: &[Section], links: &[Link]) -> Option<(u32, Span)>
     ensures { result ≡ spec.open_link marks.now (imports_in sections.now) links.now }
 {
@@ -93,8 +107,8 @@ fn open_link(marks: &[bool], sections: &[Section], links: &[Link]) -> Option<(u3
     None
 }
 
-/// The first import of a document without a mark that leads to another such, which there is: the number of that document, and where
-/// the import stands.
+/// The first import of a document without a mark that leads to another such, which there is: the
+/// number of that document, and where the import stands.
 fn next_open(docs: &[Doc], marks: &[bool], at: usize) -> (u32, Span)
     requires marks { spec.HasMarks docs.now marks.now }
     requires here { slice_get marks.now at ≡ Some false }
@@ -111,7 +125,8 @@ fn next_open(docs: &[Doc], marks: &[bool], at: usize) -> (u32, Span)
     }
 }
 
-/// Where the imports from document 0, each the first that leads to a document without a mark, lead to a document for the second time.
+/// Where the imports from document 0, each the first that leads to a document without a mark, lead
+/// to a document for the second time.
 fn closing(alloc: Global, docs: &[Doc], marks: &[bool]) -> Result<Span, NoMemory>
     requires marks { spec.HasMarks docs.now marks.now }
     requires here { slice_get marks.now 0 ≡ Some false }
@@ -129,8 +144,9 @@ fn closing(alloc: Global, docs: &[Doc], marks: &[bool]) -> Result<Span, NoMemory
     }
 }
 
-/// Tests that the links form no circle. Documents are read depth first, in the order of the imports: 202 is answered at the first import
-/// that leads to a document that is being read. The time grows with the square of the number of documents, of which there are at most
+/// Tests that the links form no circle. Documents are read depth first, in the order of the
+/// imports: 202 is answered at the first import that leads to a document that is being read. The
+/// time grows with the square of the number of documents, of which there are at most
 /// 64.
 pub fn no_circle(alloc: Global, docs: &[Doc]) -> Result<(), LinkFault>
     requires some { 0 < length docs.now }

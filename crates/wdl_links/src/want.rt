@@ -14,7 +14,8 @@ use wdl_names::Words;
 use wdl_paths::{ResolveFault, file_name, resolve};
 use wdl_value::{Name, NameFault, NoMemory, Span, Text};
 
-/// An import that is resolved: the path of the document that it names, its namespace, and where its uri stands.
+/// An import that is resolved: the path of the document that it names, its namespace, and where its
+/// uri stands.
 #[derive(Drop)]
 pub struct Want {
     pub path: Text,
@@ -127,8 +128,9 @@ fn want_of(
     })
 }
 
-/// The imports of a document at that path, in their order. 201 is answered at an import whose uri holds `://`, 207 where it has no
-/// `as` and the file's name without `.wdl` is no name, and 203 where an earlier one has its namespace.
+/// The imports of a document at that path, in their order. 201 is answered at an import whose uri
+/// holds `://`, 207 where it has no `as` and the file's name without `.wdl` is no name, and 203
+/// where an earlier one has its namespace.
 pub fn wants_of(alloc: Global, base: &Text, sections: &[Section]) -> Result<Items<Want>, LinkFault>
     ensures { spec.Gives (spec.wants_of base.now [] (imports_in sections.now)) result }
 {

@@ -7,7 +7,8 @@ pub fn rule_of_values()
     ensures rule { FollowRule }
 {}
 
-/// The rows of a load give the answer of each of its calls to the first attempt at its place, and no other.
+/// The rows of a load give the answer of each of its calls to the first attempt at its place, and
+/// no other.
 pub fn what_the_table_gives()
     ensures gives { TableGives }
 {}

@@ -1,7 +1,14 @@
 ghost use Rattle.std.specs.Prelude.{◌≡◌, ◌≤◌, ◌<◌, [], length, map, IfOk};
 ghost use Rattle.std.specs.List.{range_with_len};
 ghost use Rattle.wdl_base.specs.declared.body.Body.TheVariants.{Bytes};
-ghost use Rattle.wdl_load.specs.Loads.{AreLoadRows, IsLoadAnswer, IsLoadRow, call_name, load_place, load_value};
+ghost use Rattle.wdl_load.specs.Loads.{
+  AreLoadRows,
+  IsLoadAnswer,
+  IsLoadRow,
+  call_name,
+  load_place,
+  load_value,
+};
 
 use crate::value::load_values;
 use std::alloc::Global;

@@ -4,20 +4,17 @@ use Rattle.std.proofs.lemmas.List.{append-nil}
 use Rattle.std.proofs.lemmas.Bool.Decides.{Decides-like, same_from_decides}
 use Rattle.std.proofs.lemmas.Slice.Eq.{bytes_eq-Decides}
 use Rattle.std.specs.Str.{bytes_eq}
+use Rattle.std.proofs.Math.Bool.{or-false}
 use Rattle.wdl_typed.specs.Lists.{are_distinct, has_name}
 use Rattle.wdl_names.specs.Fresh.{fresh}
 
-or_assoc : (a b c : Bool) → (a || (b || c)) ≡ ((a || b) || c)
+pub or_assoc : (a b c : Bool) → (a || (b || c)) ≡ ((a || b) || c)
 or_assoc true b c = refl
 or_assoc false b c = refl
 
-and_assoc : (a b c : Bool) → (a && (b && c)) ≡ ((a && b) && c)
+pub and_assoc : (a b c : Bool) → (a && (b && c)) ≡ ((a && b) && c)
 and_assoc true b c = refl
 and_assoc false b c = refl
-
-or_false : (a : Bool) → (a || false) ≡ a
-or_false true = refl
-or_false false = refl
 
 moved : (a b c d : Bool) → (not (a || b) && (c && not d)) ≡ ((not a && c) && not (b || d))
 moved true b c d = refl
@@ -42,7 +39,7 @@ pub record Reads {A : Type 0} (same : A → A → Bool) (has : A → List A → 
 
 module _ {A : Type 0} {same : A → A → Bool} {has : A → List A → Bool} {distinct : List A → Bool} {new : List A → List A → Bool} (reads : Reads same has distinct new) where
   has-push : (x y : A) (ts : List A) → has x (ts ++ y ∷ []) ≡ (has x ts || same y x)
-  has-push x y [] = reads.has_more x y [] ∙ ap (λ b. same y x || b) (reads.has_none x) ∙ or_false (same y x) ∙ sym (ap (λ b. b || same y x) (reads.has_none x))
+  has-push x y [] = reads.has_more x y [] ∙ ap (λ b. same y x || b) (reads.has_none x) ∙ or-false (same y x) ∙ sym (ap (λ b. b || same y x) (reads.has_none x))
   has-push x y (t ∷ ts) =
       reads.has_more x t (ts ++ y ∷ []) ∙ ap (λ b. same t x || b) (has-push x y ts)
       ∙ or_assoc (same t x) (has x ts) (same y x) ∙ sym (ap (λ b. b || same y x) (reads.has_more x t ts))
@@ -75,7 +72,7 @@ module _ {A : Type 0} {same : A → A → Bool} {has : A → List A → Bool} {d
   pub new-distinct : (xs : List A) → new [] xs ≡ distinct xs
   new-distinct xs = new-clear [] xs ∙ ap (λ b. b && distinct xs) (clear-none xs)
 
-bytes_eq-sym : (a b : List ℕ) → bytes_eq a b ≡ bytes_eq b a
+pub bytes_eq-sym : (a b : List ℕ) → bytes_eq a b ≡ bytes_eq b a
 bytes_eq-sym a b = same_from_decides _ _ (bytes_eq-Decides a b) (Decides-like _ sym sym (bytes_eq-Decides b a))
 
 pub fresh-distinct : (ns : List (List ℕ)) → fresh [] ns ≡ are_distinct ns

@@ -21,7 +21,8 @@ pub fn add(alloc: Global, words: &mut Words, name: &Name) -> Result<bool, NoMemo
     Ok(true)
 }
 
-/// Adds the names of a list. The answer is whether they differ from those before, and from each other.
+/// Adds the names of a list. The answer is whether they differ from those before, and from each
+/// other.
 pub fn add_all<T: Named>(alloc: Global, words: &mut Words, items: &[T]) -> Result<bool, NoMemory>
     ensures fresh { IfOk result (λ b. b ≡ spec.fresh words.old (map T.named items.now)) }
     ensures words { IfOk result (λ b. b ≡ true → words.new ≡ words.old ++ map T.named items.now) }

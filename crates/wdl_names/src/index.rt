@@ -10,7 +10,8 @@ use std::alloc::Global;
 use std::marker::Model;
 use wdl_value::{Items, Key, NoMemory};
 
-/// A list that grows, whose items are found by their keys in logarithmic time. Of two with one key the first counts.
+/// A list that grows, whose items are found by their keys in logarithmic time. Of two with one key
+/// the first counts.
 #[derive(Debug, Drop)]
 pub struct Index<T: Keyed + Drop> {
     items: Items<T>,

@@ -1,4 +1,14 @@
-ghost use Rattle.std.specs.Prelude.{◌≡◌, ◌<◌, ℕ, List, IfOk, IfSome, length, option_and_then, slice_get};
+ghost use Rattle.std.specs.Prelude.{
+  ◌≡◌,
+  ◌<◌,
+  ℕ,
+  List,
+  IfOk,
+  IfSome,
+  length,
+  option_and_then,
+  slice_get,
+};
 ghost use Rattle.std.specs.BTreeMap.{get_by_text};
 ghost use Rattle.std.specs.List.{find};
 ghost use Rattle.std.specs.Option.{option_copied};
@@ -11,7 +21,8 @@ use std::alloc::Global;
 use std::marker::Model;
 use wdl_value::{Name, NoMemory};
 
-/// A list, whose items are found by their names in logarithmic time. Of two with one name the first counts.
+/// A list, whose items are found by their names in logarithmic time. Of two with one name the first
+/// counts.
 #[derive(Drop)]
 pub struct Indexed<'a, T: Named> {
     items: &'a [T],
@@ -34,8 +45,8 @@ impl<'a, T: Named> Model for Indexed<'a, T> {
     ghost invariant = { λ s. (q : List ℕ) → get_by_text s.places.places q ≡ first_place_of (λ (x : T). bytes_eq (T.named x) q) s.items.now };
 }
 
-/// Where each name first stands. It goes from the last item to the first, so that an earlier one takes the place of a
-/// later one.
+/// Where each name first stands. It goes from the last item to the first, so that an earlier one
+/// takes the place of a later one.
 fn places_of<T: Named>(alloc: Global, items: &[T]) -> Result<NamePlaces, NoMemory>
     ensures { IfOk result (λ p. (q : List ℕ) → get_by_text p.places q ≡ first_place_of (λ x. bytes_eq (T.named x) q) items.now) }
 {

@@ -10,7 +10,8 @@ use std::alloc::Global;
 use std::collections::BTreeMap;
 use wdl_value::{Key, Name, NoMemory};
 
-/// Where keys stand, found by the text of the first name and then by that of the second, each in logarithmic time.
+/// Where keys stand, found by the text of the first name and then by that of the second, each in
+/// logarithmic time.
 #[derive(Debug, Drop)]
 pub(crate) struct KeyPlaces {
     alloc: Global,

@@ -1,4 +1,5 @@
-//! Names with their types, and lists of what has names, in which a name is found in logarithmic time.
+//! Names with their types, and lists of what has names, in which a name is found in logarithmic
+//! time.
 #![tactic(auto)]
 
 mod distinct;

@@ -6,8 +6,9 @@ use std::alloc::Global;
 use std::collections::BTreeMap;
 use wdl_value::{Name, NoMemory};
 
-/// Where names stand, found by their text: a look-up compares no more names than the logarithm of their count, whatever
-/// they are. No hash stands for a name, so a document has no names by which a look-up takes longer.
+/// Where names stand, found by their text: a look-up compares no more names than the logarithm of
+/// their count, whatever they are. No hash stands for a name, so a document has no names by which a
+/// look-up takes longer.
 #[derive(Debug, Drop)]
 pub(crate) struct NamePlaces {
     alloc: Global,

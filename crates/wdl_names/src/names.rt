@@ -1,4 +1,17 @@
-ghost use Rattle.std.specs.Prelude.{◌≡◌, ◌++◌, ◌∷◌, [], length, take, option_and_then, option_map, slice_get, OnOk, OnErr, MatchOption};
+ghost use Rattle.std.specs.Prelude.{
+  ◌≡◌,
+  ◌++◌,
+  ◌∷◌,
+  [],
+  length,
+  take,
+  option_and_then,
+  option_map,
+  slice_get,
+  OnOk,
+  OnErr,
+  MatchOption,
+};
 ghost use Rattle.std.specs.Option.{option_copied};
 ghost use Rattle.wdl_typed.specs.Scope as scope;
 ghost use Rattle.wdl_typed.specs.declared.scope.Bound.{Bound};
@@ -13,8 +26,8 @@ use std::marker::Model;
 use wdl_typed::Bound;
 use wdl_value::{Key, Name, NoMemory, Ty};
 
-/// The names that an expression may refer to, with their types, found by a look-up in logarithmic time. Of two with one
-/// key the first counts.
+/// The names that an expression may refer to, with their types, found by a look-up in logarithmic
+/// time. Of two with one key the first counts.
 #[derive(Debug, Drop)]
 pub struct Names {
     bounds: Index<Bound>,

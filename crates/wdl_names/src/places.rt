@@ -1,4 +1,18 @@
-ghost use Rattle.std.specs.Prelude.{◌≡◌, ◌&&◌, ◌==◌, ◌≤◌, nat_lt, ◌++◌, ◌∷◌, [], length, slice_index, OnOk, OnErr, MatchOption};
+ghost use Rattle.std.specs.Prelude.{
+  ◌≡◌,
+  ◌&&◌,
+  ◌==◌,
+  ◌≤◌,
+  nat_lt,
+  ◌++◌,
+  ◌∷◌,
+  [],
+  length,
+  slice_index,
+  OnOk,
+  OnErr,
+  MatchOption,
+};
 ghost use Rattle.wdl_names.specs.Marks.{first_place};
 
 use sqlite_items::Items;
@@ -52,7 +66,8 @@ impl Places {
         self.numbers.len()
     }
 
-    /// Where the number first stands, or how many numbers there are where it does not, in logarithmic time.
+    /// Where the number first stands, or how many numbers there are where it does not, in
+    /// logarithmic time.
     pub fn place(&self, number: u64) -> usize
         ensures place { result ≡ first_place number self.now }
         ensures within { result ≤ length self.now }

@@ -1,4 +1,16 @@
-ghost use Rattle.std.specs.Prelude.{◌≡◌, ◌++◌, ◌∷◌, [], length, take, option_and_then, slice_get, OnOk, OnErr, MatchOption};
+ghost use Rattle.std.specs.Prelude.{
+  ◌≡◌,
+  ◌++◌,
+  ◌∷◌,
+  [],
+  length,
+  take,
+  option_and_then,
+  slice_get,
+  OnOk,
+  OnErr,
+  MatchOption,
+};
 ghost use Rattle.std.specs.Str.{bytes_eq};
 ghost use Rattle.wdl_typed.specs.Lists as spec;
 ghost use Rattle.wdl_names.specs.Firsts.{passes};

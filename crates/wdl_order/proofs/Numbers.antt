@@ -5,6 +5,7 @@ use Rattle.std.proofs.lemmas.Cmp.{nat_eq_equiv}
 use Rattle.std.specs.Bool.{nat_eq}
 use Rattle.std.proofs.lemmas.Option.{same_Some}
 use Rattle.std.specs.List.{AllByRecursion, IsDistinct, list_all, list_any, range_with_len}
+use Rattle.std.proofs.Math.Bool.{or_assoc}
 use Rattle.wdl_typed.specs.Lists.{are_below, has_number, numbers_differ}
 
 pub has_first : (k : ℕ) (ns : List ℕ) → has_number k (k ∷ ns) ≡ true
@@ -15,10 +16,6 @@ has_later k n ns h = or_right (n == k) (has_number k ns) h
 
 pub has_cases : (k n : ℕ) (ns : List ℕ) → has_number k (n ∷ ns) ≡ true → (n ≡ k) ⊎ (has_number k ns ≡ true)
 has_cases k n ns h = elim (or_cases (n == k) (has_number k ns) h) [ inl e ↦ inl (eqb-true n k e) | inr e ↦ inr e ]
-
-pub or_assoc : (a b c : Bool) → ((a || b) || c) ≡ (a || (b || c))
-or_assoc true b c = refl
-or_assoc false b c = refl
 
 pub or_swap : (a b c : Bool) → ((a || b) || c) ≡ (b || (a || c))
 or_swap true true c = refl

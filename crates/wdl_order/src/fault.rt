@@ -7,7 +7,8 @@ use wdl_value::{NoMemory, Span};
 /// Why a list is not ordered.
 #[derive(Clone, Copy, Debug, PartialEq, Eq, Error)]
 pub enum OrderFault {
-    /// No order of the list has each member after those that it needs; the span is that of a member.
+    /// No order of the list has each member after those that it needs; the span is that of a
+    /// member.
     #[error("a declaration depends on itself")]
     Circular { span: Span },
     #[error("out of memory")]

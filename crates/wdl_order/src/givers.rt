@@ -1,4 +1,19 @@
-ghost use Rattle.std.specs.Prelude.{◌≡◌, ◌==◌, ◌||◌, ◌&&◌, ℕ, List, [], ◌∷◌, ◌++◌, if◌then◌else◌, length, map, IfOk, OnOk};
+ghost use Rattle.std.specs.Prelude.{
+  ◌≡◌,
+  ◌==◌,
+  ◌||◌,
+  ◌&&◌,
+  ℕ,
+  List,
+  [],
+  ◌∷◌,
+  ◌++◌,
+  if◌then◌else◌,
+  length,
+  map,
+  IfOk,
+  OnOk,
+};
 ghost use Rattle.std.specs.List.{flat_map};
 ghost use Rattle.std.specs.Str.{bytes_eq};
 ghost use Rattle.wdl_typed.specs.Lists.{has_name, has_number};
@@ -28,7 +43,8 @@ fn add_all(
     member: usize,
 ) -> Result<(), NoMemory>
     ensures { OnOk result ((x : List ℕ) → (q : ℕ) →
-        has_number q (givers_of givers.new x) ≡ (has_number q (givers_of givers.old x) || (has_name x names.now && member == q))) }
+        has_number q (givers_of givers.new x)
+        ≡ (has_number q (givers_of givers.old x) || (has_name x names.now && member == q))) }
 {
     for name in names {
         add(alloc, givers, name, member)?;
@@ -59,8 +75,8 @@ fn givers_of_each(alloc: Global, givers: &Givers, names: &[Name]) -> Result<Item
     Ok(Items::from_vec(members))
 }
 
-/// Which members each member needs: those that give a name that it refers to. The time grows with the names and with the
-/// pairs of which one needs the other.
+/// Which members each member needs: those that give a name that it refers to. The time grows with
+/// the names and with the pairs of which one needs the other.
 pub fn needs_of(alloc: Global, all: &[Uses]) -> Result<Vec<Items<usize>>, NoMemory>
     ensures count { IfOk result (λ rows. length rows.items ≡ length all.now) }
     ensures exact { IfOk result (λ rows. (p q : ℕ) → has rows.items p q ≡ needs_at (map as_needing all.now) p q) }

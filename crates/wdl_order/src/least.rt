@@ -16,8 +16,9 @@ pub enum Found {
     Stuck(usize),
 }
 
-/// The least order of members in which each stands after those that it needs: again and again the first in number of those
-/// that are ready. Where none is ready, each of the rest needs another of the rest.
+/// The least order of members in which each stands after those that it needs: again and again the
+/// first in number of those that are ready. Where none is ready, each of the rest needs another of
+/// the rest.
 pub fn least_order(alloc: Global, needs: Vec<Items<usize>>) -> Result<Found, NoMemory>
     requires { AreWithin needs.items }
     ensures { IfOk result (Answers (length needs.items) (has needs.items)) }

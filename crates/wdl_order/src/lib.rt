@@ -1,5 +1,5 @@
-//! The dependency order of statements, inputs and declarations: each stands after those that it needs, and otherwise in
-//! the order of the text.
+//! The dependency order of statements, inputs and declarations: each stands after those that it
+//! needs, and otherwise in the order of the text.
 #![tactic(auto)]
 
 mod fault;

@@ -1,7 +1,12 @@
 ghost use Rattle.std.specs.Prelude.{◌≡◌, IfOk};
 ghost use Rattle.wdl_typed.specs.Order.{Needing, statement_needing, input_needing};
 ghost use Rattle.wdl_base.specs.declared.span.Span.{Span};
-ghost use Rattle.wdl_order.specs.Members.{declaration_needing, declaration_span, input_span, statement_span};
+ghost use Rattle.wdl_order.specs.Members.{
+  declaration_needing,
+  declaration_span,
+  input_span,
+  statement_span,
+};
 ghost use Rattle.wdl_order.specs.Names.{as_needing};
 
 use crate::needing::{declaration_uses, input_uses, statement_uses};

@@ -1,7 +1,16 @@
 ghost use Rattle.std.specs.Prelude.{◌≡◌, ℕ, List, [], ◌∷◌, ◌++◌, ◌||◌, map, IfOk, OnOk};
 ghost use Rattle.std.specs.BTreeSet.{contains_text};
 ghost use Rattle.wdl_typed.specs.Lists.{has_name};
-ghost use Rattle.wdl_typed.specs.Order.{all_given, all_referred, args_referred, default_referred, input_needing, referred, statement_needing, without};
+ghost use Rattle.wdl_typed.specs.Order.{
+  all_given,
+  all_referred,
+  args_referred,
+  default_referred,
+  input_needing,
+  referred,
+  statement_needing,
+  without,
+};
 ghost use Rattle.wdl_order.specs.Members.{declaration_needing};
 ghost use Rattle.wdl_order.specs.Names.{as_needing};
 
@@ -147,8 +156,8 @@ fn body_uses(alloc: Global, body: &[Statement]) -> Result<Uses, NoMemory>
     Ok(Uses { gives, refers })
 }
 
-/// What a statement gives and refers to. A block gives what its body gives, and refers to what its body refers to and does
-/// not give.
+/// What a statement gives and refers to. A block gives what its body gives, and refers to what its
+/// body refers to and does not give.
 #[cycle(needing)]
 pub fn statement_uses(alloc: Global, statement: &Statement) -> Result<Uses, NoMemory>
     ensures { IfOk result (λ u. as_needing u ≡ statement_needing statement.now) }

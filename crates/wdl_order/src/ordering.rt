@@ -1,6 +1,11 @@
 ghost use Rattle.std.specs.Prelude.{◌≡◌, map, IfOk, IfErr};
 ghost use Rattle.wdl_typed.specs.Order.{IsOrdered, input_needing, statement_needing};
-ghost use Rattle.wdl_order.specs.Members.{declaration_needing, declaration_span, input_span, statement_span};
+ghost use Rattle.wdl_order.specs.Members.{
+  declaration_needing,
+  declaration_span,
+  input_span,
+  statement_span,
+};
 ghost use Rattle.wdl_order.specs.Names.{as_needing};
 ghost use Rattle.wdl_order.specs.Outcome.{IsFault};
 
@@ -37,10 +42,11 @@ fn ordered<M: Member>(alloc: Global, list: Items<M>) -> Result<Items<M>, OrderFa
     }
 }
 
-/// The statements in dependency order: each stands after those of the list that give a name that it refers to, and of all
-/// such orders this one's list of positions is the least, compared from the left. A block refers to what its body,
-/// collection or condition refers to from outside, and a call to the names of its arguments and those of `after`.
-/// (OpenWDL 1.1, "Workflow Definition", leaves the order to the names.)
+/// The statements in dependency order: each stands after those of the list that give a name that it
+/// refers to, and of all such orders this one's list of positions is the least, compared from the
+/// left. A block refers to what its body, collection or condition refers to from outside, and a
+/// call to the names of its arguments and those of `after`. (OpenWDL 1.1, "Workflow Definition",
+/// leaves the order to the names.)
 ///
 /// The list is dropped where no such order exists, and the error then has the span of a statement.
 pub fn order(alloc: Global, list: Items<Statement>) -> Result<Items<Statement>, OrderFault>
@@ -50,7 +56,8 @@ pub fn order(alloc: Global, list: Items<Statement>) -> Result<Items<Statement>, 
     ordered(alloc, list)
 }
 
-/// The inputs in dependency order, as `order` has it for statements; one without a default refers to nothing.
+/// The inputs in dependency order, as `order` has it for statements; one without a default refers
+/// to nothing.
 pub fn order_inputs(alloc: Global, inputs: Items<TInput>) -> Result<Items<TInput>, OrderFault>
     ensures ordered { IfOk result (IsOrdered input_needing inputs) }
     ensures fault { IfErr result (IsFault input_needing input_span inputs) }

@@ -1,4 +1,18 @@
-ghost use Rattle.std.specs.Prelude.{◌≡◌, ◌<◌, true, ℕ, [], ◌∷◌, ◌++◌, length, slice_set, vec_len, IfOk, OnOk, IfSome};
+ghost use Rattle.std.specs.Prelude.{
+  ◌≡◌,
+  ◌<◌,
+  true,
+  ℕ,
+  [],
+  ◌∷◌,
+  ◌++◌,
+  length,
+  slice_set,
+  vec_len,
+  IfOk,
+  OnOk,
+  IfSome,
+};
 ghost use Rattle.std.specs.List.{All};
 ghost use Rattle.wdl_order.specs.Rows.{row, is_set};
 

@@ -1,4 +1,23 @@
-ghost use Rattle.std.specs.Prelude.{◌≡◌, ◌<◌, true, false, ℕ, Bool, List, [], ◌∷◌, ◌⊎◌, length, replicate, slice_set, IfOk, OnOk, IfSome, IfNone, MatchOption};
+ghost use Rattle.std.specs.Prelude.{
+  ◌≡◌,
+  ◌<◌,
+  true,
+  false,
+  ℕ,
+  Bool,
+  List,
+  [],
+  ◌∷◌,
+  ◌⊎◌,
+  length,
+  replicate,
+  slice_set,
+  IfOk,
+  OnOk,
+  IfSome,
+  IfNone,
+  MatchOption,
+};
 ghost use Rattle.std.specs.BTreeSet.{contains, IsLowerBound, Updates};
 ghost use Rattle.std.specs.Ordering.{nat_cmp};
 ghost use Rattle.wdl_typed.specs.Lists.{has_number};
@@ -11,8 +30,8 @@ use std::alloc::Global;
 use std::collections::BTreeSet;
 use wdl_base::NoMemory;
 
-/// Members, by their numbers, on the way to an order: what each may still need, which others wait for it, whether it is
-/// placed, and those that are ready.
+/// Members, by their numbers, on the way to an order: what each may still need, which others wait
+/// for it, whether it is placed, and those that are ready.
 #[derive(Drop)]
 pub struct Working {
     pub left: Vec<Items<usize>>,
@@ -62,7 +81,8 @@ pub fn take_first(ready: &mut BTreeSet<usize>) -> Option<usize>
 }
 
 impl Working {
-    /// Finds what the member still waits for: one of its needs that is not placed, or else it is ready.
+    /// Finds what the member still waits for: one of its needs that is not placed, or else it is
+    /// ready.
     fn settle(&mut self, member: usize) -> Result<(), NoMemory>
         requires { (need : ℕ → ℕ → Bool) × (rest : List ℕ) × IsKept need self.old (member ∷ rest) }
         ensures flags { OnOk result (self.new.placed.items ≡ self.old.placed.items) }
@@ -100,7 +120,8 @@ impl Working {
         Ok(())
     }
 
-    /// Where none is ready, a member that needs itself by way of others: what one that is not placed waits for, and so on.
+    /// Where none is ready, a member that needs itself by way of others: what one that is not
+    /// placed waits for, and so on.
     pub fn on_circle(&self) -> usize
         requires some { 0 < length self.now.left.items }
         requires sized { AreSized self.now.left.items self.now.waiting.items self.now.placed.items }
@@ -122,7 +143,8 @@ impl Working {
         ensures count { IfOk result (λ w. w.left.items ≡ needs.items) }
         ensures placed { IfOk result (λ w. w.placed.items ≡ replicate (length needs.items) false) }
         ensures kept { IfOk result (λ w. (rest : List ℕ) → AllBelow (length needs.items) rest
-            → ((p : ℕ) → p < length needs.items → has_number p rest ≡ true) → IsKept (has needs.items) w rest) }
+            → ((p : ℕ) → p < length needs.items → has_number p rest ≡ true)
+            → IsKept (has needs.items) w rest) }
     {
         let waiting = empty_rows(alloc, needs.len())?;
         let placed = Vec::from_elem(alloc, false, needs.len())?;

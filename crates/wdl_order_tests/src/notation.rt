@@ -1,5 +1,6 @@
-//! Members as the tests write them, in words between blanks: `b=a,c` declares `b` by `a` and `c`, `c!x.out;d` calls `c` with
-//! `x.out` after the call `d`, `[ .. ]i=xs` is a scatter over `xs` with the item `i`, and `[ .. ]?a` a condition on `a`.
+//! Members as the tests write them, in words between blanks: `b=a,c` declares `b` by `a` and `c`,
+//! `c!x.out;d` calls `c` with `x.out` after the call `d`, `[ .. ]i=xs` is a scatter over `xs` with
+//! the item `i`, and `[ .. ]?a` a condition on `a`.
 
 use std::alloc::Global;
 use std::test::Fail;

@@ -39,7 +39,8 @@ fn is_among(numbers: &str, number: u32) -> bool {
     false
 }
 
-/// Whether the outcome is that order, or `circle` with the numbers of its members, of which the error names one.
+/// Whether the outcome is that order, or `circle` with the numbers of its members, of which the
+/// error names one.
 fn is(outcome: Result<Items<Statement>, OrderFault>, expected: &str) -> bool {
     match outcome {
         Ok(list) => stands(list.as_slice(), expected),

@@ -10,8 +10,8 @@ use Rattle.wdl_ast.specs.DocumentWords.{each, section_words, document_words}
 use Rattle.token_reading.specs.declared.fault.Fault.{Fault}
 use Rattle.token_reading.specs.declared.fault.Refusal.{Refusal}
 use Rattle.token_reading.specs.declared.fault.Refusal.TheVariants.{Missing, Bad}
-use Rattle.token_reading.specs.declared.fault.Stop.{Stop}
-use Rattle.token_reading.specs.declared.fault.Stop.TheVariants as stop
+use Rattle.token_reading.specs.declared.fault.RuleStop.{RuleStop}
+use Rattle.token_reading.specs.declared.fault.RuleStop.TheVariants as stop
 use Rattle.token_reading.specs.declared.fault.ParseFault.{ParseFault}
 use Rattle.token_reading.specs.declared.fault.ParseFault.TheVariants as fault
 use Rattle.token_reading.specs.Outcome.{Fails}
@@ -77,7 +77,7 @@ placed : (ts : Words) (v n : Span) (rest : Words) (s : Span) → BehindVersion t
 placed ts v n rest s e (inl empty) = (let q = sym e ∙ empty in let z : ⊥ = cc in absurd z)
 placed ts v n rest s e (inr at) = at
 
-pub refused : (ts : Words) (v n : Span) (rest : Words) → BehindVersion ts v n rest → (s : Stop) (f : ParseFault) → FaultOf ts s f → Fails (sections rest) s → IfBad {A = Document} (RefusesDocument ts) (Err f)
+pub refused : (ts : Words) (v n : Span) (rest : Words) → BehindVersion ts v n rest → (s : RuleStop) (f : ParseFault) → FaultOf ts s f → Fails (sections rest) s → IfBad {A = Document} (RefusesDocument ts) (Err f)
 refused ts v n rest e stop.NoMemory f q h = subst (λ z. IfBad {A = Document} (RefusesDocument ts) (Err z)) (sym q) tt
 refused ts v n rest e (stop.Refused Missing) f q h =
     subst (λ z. IfBad {A = Document} (RefusesDocument ts) (Err z)) (sym q.1) (unread ts v n rest Missing e h, inr (has_version ts v n rest e, inl (refl, placed ts v n rest q.0 e q.2)))

@@ -3,14 +3,14 @@
 ghost use Rattle.std.specs.Prelude.{◌≡◌, ◌∷◌, Err, IfOk};
 ghost use Rattle.token_reading.specs.Outcome.{Reads};
 ghost use Rattle.token_reading.specs.declared.fault.Refusal.TheVariants.{Missing};
-ghost use Rattle.token_reading.specs.declared.fault.Stop.TheVariants.{Refused};
+ghost use Rattle.token_reading.specs.declared.fault.RuleStop.TheVariants.{Refused};
 ghost use Rattle.wdl_parse_doc.specs.Reading.Blocks as spec;
 
 use crate::stack::Stack;
 use crate::statement::simple;
 use sqlite_items::Items;
 use std::alloc::{AllocError, Global};
-use token_reading::{Cursor, Stop, missing};
+use token_reading::{Cursor, RuleStop, missing};
 use wdl_ast::{Mark, Statement};
 use wdl_parse_parts::{BlockHead, closed, head};
 use wdl_value::Span;
@@ -107,7 +107,7 @@ fn ended(block: Block, span: Span) -> Result<Turn, AllocError>
 
 /// The head of a block, or a statement.
 #[tactic(auto, using(std::proofs::lemmas::Grind::common_steps), unfolding(token_reading::specs::Outcome::then_, token_reading::specs::Outcome::found, crate::specs::Reading::Blocks::opening))]
-fn opening(alloc: Global, tokens: &mut Cursor<'_>, block: Block) -> Result<Turn, Stop>
+fn opening(alloc: Global, tokens: &mut Cursor<'_>, block: Block) -> Result<Turn, RuleStop>
     ensures { Reads (spec.opening block tokens.old) result tokens.new }
 {
     if let Some(head) = head(alloc, tokens)? {
@@ -118,7 +118,7 @@ fn opening(alloc: Global, tokens: &mut Cursor<'_>, block: Block) -> Result<Turn,
 }
 
 #[tactic(auto, using(std::proofs::lemmas::Grind::common_steps), unfolding(token_reading::specs::Outcome::then_, token_reading::specs::Outcome::found, crate::specs::Reading::Blocks::turn_at))]
-fn take_turn(alloc: Global, tokens: &mut Cursor<'_>, block: Block) -> Result<Turn, Stop>
+fn take_turn(alloc: Global, tokens: &mut Cursor<'_>, block: Block) -> Result<Turn, RuleStop>
     ensures { Reads (spec.turn_at block tokens.old) result tokens.new }
 {
     match tokens.eat(Mark::CloseBrace) {
@@ -128,7 +128,7 @@ fn take_turn(alloc: Global, tokens: &mut Cursor<'_>, block: Block) -> Result<Tur
 }
 
 /// The tokens end within a block.
-fn unended(_block: Block) -> Result<Statement, Stop>
+fn unended(_block: Block) -> Result<Statement, RuleStop>
     ensures { result ≡ Err (Refused Missing) }
 {
     missing()
@@ -140,7 +140,7 @@ pub fn read_block(
     alloc: Global,
     tokens: &mut Cursor<'_>,
     head: BlockHead,
-) -> Result<Statement, Stop>
+) -> Result<Statement, RuleStop>
     ensures { Reads (spec.block_at head tokens.old) result tokens.new }
 {
     let mut block = Block {

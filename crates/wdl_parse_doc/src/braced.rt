@@ -6,7 +6,7 @@ ghost use Rattle.wdl_parse_doc.specs.Reading.Sections as spec;
 
 use crate::part_list::{Part, read_braced};
 use std::alloc::Global;
-use token_reading::{Cursor, Stop};
+use token_reading::{Cursor, RuleStop};
 use wdl_ast::{
     Attribute, Declaration, Expr, InputDeclaration, InputSection, Mark, MetaSection, MetaValue,
     OutputSection, RuntimeSection,
@@ -22,7 +22,7 @@ impl Part for InputDeclaration {
     ghost reading = { parts.until mark.CloseBrace decls.input };
 
     #[tactic(auto, using(std::proofs::lemmas::Grind::common_steps), unfolding(token_reading::specs::Outcome::then_, token_reading::specs::Outcome::found, wdl_parse_parts::specs::Reading::Parts::until))]
-    fn read(alloc: Global, tokens: &mut Cursor<'_>) -> Result<Option<InputDeclaration>, Stop> {
+    fn read(alloc: Global, tokens: &mut Cursor<'_>) -> Result<Option<InputDeclaration>, RuleStop> {
         if tokens.sees(Mark::CloseBrace) {
             return Ok(None);
         }
@@ -38,7 +38,7 @@ impl Part for Declaration {
     ghost reading = { parts.until mark.CloseBrace decls.declaration };
 
     #[tactic(auto, using(std::proofs::lemmas::Grind::common_steps), unfolding(token_reading::specs::Outcome::then_, token_reading::specs::Outcome::found, wdl_parse_parts::specs::Reading::Parts::until))]
-    fn read(alloc: Global, tokens: &mut Cursor<'_>) -> Result<Option<Declaration>, Stop> {
+    fn read(alloc: Global, tokens: &mut Cursor<'_>) -> Result<Option<Declaration>, RuleStop> {
         if tokens.sees(Mark::CloseBrace) {
             return Ok(None);
         }
@@ -54,7 +54,7 @@ impl Part for Attribute<Expr> {
     ghost reading = { parts.until mark.CloseBrace (parts.attribute expr.read_expr) };
 
     #[tactic(auto, using(std::proofs::lemmas::Grind::common_steps), unfolding(token_reading::specs::Outcome::then_, token_reading::specs::Outcome::found, wdl_parse_parts::specs::Reading::Parts::until))]
-    fn read(alloc: Global, tokens: &mut Cursor<'_>) -> Result<Option<Attribute<Expr>>, Stop> {
+    fn read(alloc: Global, tokens: &mut Cursor<'_>) -> Result<Option<Attribute<Expr>>, RuleStop> {
         if tokens.sees(Mark::CloseBrace) {
             return Ok(None);
         }
@@ -70,14 +70,21 @@ impl Part for Attribute<MetaValue> {
 
     ghost reading = { parts.until mark.CloseBrace (parts.attribute (values.meta_at max_meta_depth)) };
 
-    fn read(alloc: Global, tokens: &mut Cursor<'_>) -> Result<Option<Attribute<MetaValue>>, Stop> {
+    fn read(
+        alloc: Global,
+        tokens: &mut Cursor<'_>,
+    ) -> Result<Option<Attribute<MetaValue>>, RuleStop> {
         meta_attribute(alloc, tokens)
     }
 }
 
 /// Reads a section of inputs, behind its word.
 #[tactic(auto, using(std::proofs::lemmas::Grind::common_steps), unfolding(token_reading::specs::Outcome::then_, token_reading::specs::Outcome::found, crate::specs::Reading::Sections::inputs))]
-pub fn inputs(alloc: Global, tokens: &mut Cursor<'_>, keyword: Span) -> Result<InputSection, Stop>
+pub fn inputs(
+    alloc: Global,
+    tokens: &mut Cursor<'_>,
+    keyword: Span,
+) -> Result<InputSection, RuleStop>
     ensures { Reads (spec.inputs keyword tokens.old) result tokens.new }
 {
     let braced = read_braced::<InputDeclaration>(alloc, tokens)?;
@@ -91,7 +98,11 @@ pub fn inputs(alloc: Global, tokens: &mut Cursor<'_>, keyword: Span) -> Result<I
 
 /// Reads a section of outputs, behind its word.
 #[tactic(auto, using(std::proofs::lemmas::Grind::common_steps), unfolding(token_reading::specs::Outcome::then_, token_reading::specs::Outcome::found, crate::specs::Reading::Sections::outputs))]
-pub fn outputs(alloc: Global, tokens: &mut Cursor<'_>, keyword: Span) -> Result<OutputSection, Stop>
+pub fn outputs(
+    alloc: Global,
+    tokens: &mut Cursor<'_>,
+    keyword: Span,
+) -> Result<OutputSection, RuleStop>
     ensures { Reads (spec.outputs keyword tokens.old) result tokens.new }
 {
     let braced = read_braced::<Declaration>(alloc, tokens)?;
@@ -109,7 +120,7 @@ pub fn runtime(
     alloc: Global,
     tokens: &mut Cursor<'_>,
     keyword: Span,
-) -> Result<RuntimeSection, Stop>
+) -> Result<RuntimeSection, RuleStop>
     ensures { Reads (spec.runtime keyword tokens.old) result tokens.new }
 {
     let braced = read_braced::<Attribute<Expr>>(alloc, tokens)?;
@@ -123,7 +134,11 @@ pub fn runtime(
 
 /// Reads a section of metadata, behind its word.
 #[tactic(auto, using(std::proofs::lemmas::Grind::common_steps), unfolding(token_reading::specs::Outcome::then_, token_reading::specs::Outcome::found, crate::specs::Reading::Sections::metadata))]
-pub fn metadata(alloc: Global, tokens: &mut Cursor<'_>, keyword: Span) -> Result<MetaSection, Stop>
+pub fn metadata(
+    alloc: Global,
+    tokens: &mut Cursor<'_>,
+    keyword: Span,
+) -> Result<MetaSection, RuleStop>
     ensures { Reads (spec.metadata keyword tokens.old) result tokens.new }
 {
     let braced = read_braced::<Attribute<MetaValue>>(alloc, tokens)?;

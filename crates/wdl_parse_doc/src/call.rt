@@ -7,7 +7,7 @@ ghost use Rattle.wdl_parse_parts.specs.Reading.Parts as parts;
 
 use crate::part_list::{Part, many};
 use std::alloc::Global;
-use token_reading::{Cursor, Stop, missing};
+use token_reading::{Cursor, RuleStop, missing};
 use wdl_ast::{
     After, Argument, Call, CallBody, CallInputs, CallTarget, ListItem, Mark, Renaming, TargetMember,
 };
@@ -15,7 +15,7 @@ use wdl_parse_parts::{assigned, comma_or, commas_fit, take, take_name};
 use wdl_value::Span;
 
 #[tactic(auto, using(std::proofs::lemmas::Grind::common_steps), unfolding(token_reading::specs::Outcome::then_, token_reading::specs::Outcome::found, crate::specs::Reading::Calls::target_member))]
-fn target_member(alloc: Global, tokens: &mut Cursor<'_>) -> Result<Option<TargetMember>, Stop>
+fn target_member(alloc: Global, tokens: &mut Cursor<'_>) -> Result<Option<TargetMember>, RuleStop>
     ensures { Reads (spec.target_member tokens.old) result tokens.new }
 {
     let Some(dot) = tokens.eat(Mark::Dot) else {
@@ -26,7 +26,7 @@ fn target_member(alloc: Global, tokens: &mut Cursor<'_>) -> Result<Option<Target
 }
 
 #[tactic(auto, using(std::proofs::lemmas::Grind::common_steps), unfolding(token_reading::specs::Outcome::then_, token_reading::specs::Outcome::found, crate::specs::Reading::Calls::target))]
-fn target(alloc: Global, tokens: &mut Cursor<'_>) -> Result<CallTarget, Stop>
+fn target(alloc: Global, tokens: &mut Cursor<'_>) -> Result<CallTarget, RuleStop>
     ensures { Reads (spec.target tokens.old) result tokens.new }
 {
     let first = take_name(alloc, tokens)?;
@@ -36,7 +36,7 @@ fn target(alloc: Global, tokens: &mut Cursor<'_>) -> Result<CallTarget, Stop>
 
 /// Reads `as name`, if it stands there.
 #[tactic(auto, using(std::proofs::lemmas::Grind::common_steps), unfolding(token_reading::specs::Outcome::then_, token_reading::specs::Outcome::found, crate::specs::Reading::Calls::renaming))]
-pub fn renaming(alloc: Global, tokens: &mut Cursor<'_>) -> Result<Option<Renaming>, Stop>
+pub fn renaming(alloc: Global, tokens: &mut Cursor<'_>) -> Result<Option<Renaming>, RuleStop>
     ensures { Reads (spec.renaming tokens.old) result tokens.new }
 {
     let Some(as_word) = tokens.eat_word("as") else {
@@ -53,7 +53,7 @@ impl Part for After {
 
     /// `after` may be the name of a struct too: `after y = 1` is a declaration.
     #[tactic(auto, using(std::proofs::lemmas::Grind::common_steps), unfolding(token_reading::specs::Outcome::then_, token_reading::specs::Outcome::found, crate::specs::Reading::Calls::after_at))]
-    fn read(alloc: Global, tokens: &mut Cursor<'_>) -> Result<Option<After>, Stop> {
+    fn read(alloc: Global, tokens: &mut Cursor<'_>) -> Result<Option<After>, RuleStop> {
         let before = tokens.rest();
         let Some(keyword) = tokens.eat_word("after") else {
             return Ok(None);
@@ -71,7 +71,7 @@ impl Part for After {
 }
 
 #[tactic(auto, using(std::proofs::lemmas::Grind::common_steps), unfolding(token_reading::specs::Outcome::then_, token_reading::specs::Outcome::found, crate::specs::Reading::Calls::argument))]
-fn argument(alloc: Global, tokens: &mut Cursor<'_>) -> Result<Argument, Stop>
+fn argument(alloc: Global, tokens: &mut Cursor<'_>) -> Result<Argument, RuleStop>
     ensures { Reads (spec.argument tokens.old) result tokens.new }
 {
     let name = take_name(alloc, tokens)?;
@@ -80,7 +80,7 @@ fn argument(alloc: Global, tokens: &mut Cursor<'_>) -> Result<Argument, Stop>
 }
 
 #[tactic(auto, using(std::proofs::lemmas::Grind::common_steps), unfolding(token_reading::specs::Outcome::then_, token_reading::specs::Outcome::found, wdl_parse_parts::specs::Reading::Parts::item))]
-fn argument_item(alloc: Global, tokens: &mut Cursor<'_>) -> Result<ListItem<Argument>, Stop>
+fn argument_item(alloc: Global, tokens: &mut Cursor<'_>) -> Result<ListItem<Argument>, RuleStop>
     ensures { Reads (parts.item spec.argument tokens.old) result tokens.new }
 {
     let item = argument(alloc, tokens)?;
@@ -96,7 +96,10 @@ impl Part for ListItem<Argument> {
     ghost reading = { parts.until mark.CloseBrace (parts.item spec.argument) };
 
     #[tactic(auto, using(std::proofs::lemmas::Grind::common_steps), unfolding(token_reading::specs::Outcome::then_, token_reading::specs::Outcome::found, wdl_parse_parts::specs::Reading::Parts::until))]
-    fn read(alloc: Global, tokens: &mut Cursor<'_>) -> Result<Option<ListItem<Argument>>, Stop> {
+    fn read(
+        alloc: Global,
+        tokens: &mut Cursor<'_>,
+    ) -> Result<Option<ListItem<Argument>>, RuleStop> {
         if tokens.sees(Mark::CloseBrace) {
             return Ok(None);
         }
@@ -105,7 +108,7 @@ impl Part for ListItem<Argument> {
 }
 
 #[tactic(auto, using(std::proofs::lemmas::Grind::common_steps), unfolding(token_reading::specs::Outcome::then_, token_reading::specs::Outcome::found, crate::specs::Reading::Calls::call_inputs))]
-fn call_inputs(alloc: Global, tokens: &mut Cursor<'_>) -> Result<Option<CallInputs>, Stop>
+fn call_inputs(alloc: Global, tokens: &mut Cursor<'_>) -> Result<Option<CallInputs>, RuleStop>
     ensures { Reads (spec.call_inputs tokens.old) result tokens.new }
 {
     let Some(keyword) = tokens.eat_word("input") else {
@@ -124,7 +127,7 @@ fn call_inputs(alloc: Global, tokens: &mut Cursor<'_>) -> Result<Option<CallInpu
 }
 
 #[tactic(auto, using(std::proofs::lemmas::Grind::common_steps), unfolding(token_reading::specs::Outcome::then_, token_reading::specs::Outcome::found, crate::specs::Reading::Calls::call_body))]
-fn call_body(alloc: Global, tokens: &mut Cursor<'_>) -> Result<Option<CallBody>, Stop>
+fn call_body(alloc: Global, tokens: &mut Cursor<'_>) -> Result<Option<CallBody>, RuleStop>
     ensures { Reads (spec.call_body tokens.old) result tokens.new }
 {
     let Some(opening) = tokens.eat(Mark::OpenBrace) else {
@@ -141,7 +144,7 @@ fn call_body(alloc: Global, tokens: &mut Cursor<'_>) -> Result<Option<CallBody>,
 
 /// Reads a call, behind its word.
 #[tactic(auto, using(std::proofs::lemmas::Grind::common_steps), unfolding(token_reading::specs::Outcome::then_, token_reading::specs::Outcome::found, crate::specs::Reading::Calls::call))]
-pub fn call(alloc: Global, tokens: &mut Cursor<'_>, keyword: Span) -> Result<Call, Stop>
+pub fn call(alloc: Global, tokens: &mut Cursor<'_>, keyword: Span) -> Result<Call, RuleStop>
     ensures { Reads (spec.call keyword tokens.old) result tokens.new }
 {
     let target = target(alloc, tokens)?;

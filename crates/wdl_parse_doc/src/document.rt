@@ -54,11 +54,12 @@ fn version(tokens: &[Token]) -> Result<(Span, Span, &[Token]), Span>
     }
 }
 
-/// The document of a list of tokens, in time linear in it (OpenWDL 1.1, "WDL documents"). 112 is answered where the
-/// tokens do not begin with `version 1.1`, at 0 to 0 of document 0 where there are none; 111 where a depth is past
-/// its limit: 64 of an expression or a value of metadata, and 8 of a type; 120 to 123 at a form that is left out: fractions,
-/// objects, and the functions that need them, `sub`, `read_json` and `write_json`; 110 where no document has the tokens
-/// for another reason. Blocks may stand in one another to any depth, and take no stack.
+/// The document of a list of tokens, in time linear in it (OpenWDL 1.1, "WDL documents"). 112 is
+/// answered where the tokens do not begin with `version 1.1`, at 0 to 0 of document 0 where there
+/// are none; 111 where a depth is past its limit: 64 of an expression or a value of metadata, and 8
+/// of a type; 120 to 123 at a form that is left out: fractions, objects, and the functions that
+/// need them, `sub`, `read_json` and `write_json`; 110 where no document has the tokens for another
+/// reason. Blocks may stand in one another to any depth, and take no stack.
 pub fn parse(alloc: Global, tokens: &[Token]) -> Result<Document, ParseFault>
     // The tokens are those of the document, which is in the grammar.
     ensures found { IfOk result (λ d. Written tokens.now d) }

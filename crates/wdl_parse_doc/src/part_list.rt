@@ -7,7 +7,7 @@ ghost use Rattle.wdl_parse_parts.specs.Reading.Parts as parts;
 
 use sqlite_items::Items;
 use std::alloc::Global;
-use token_reading::{Cursor, Stop};
+use token_reading::{Cursor, RuleStop};
 use wdl_ast::Mark;
 use wdl_parse_parts::take;
 use wdl_value::Span;
@@ -28,10 +28,11 @@ pub trait Part: Sized {
     ghost reading: { Parser (Option Self) };
 
     /// Reads one more, where one stands there.
-    fn read(alloc: Global, tokens: &mut Cursor<'_>) -> Result<Option<Self>, Stop>
+    fn read(alloc: Global, tokens: &mut Cursor<'_>) -> Result<Option<Self>, RuleStop>
         ensures { Reads (reading tokens.old) result tokens.new };
 
-    /// Whether no list has the next token behind these parts, which is refused once the list is read.
+    /// Whether no list has the next token behind these parts, which is refused once the list is
+    /// read.
     fn is_misplaced(_before: &[Self], _tokens: &Cursor<'_>) -> bool {
         false
     }
@@ -39,7 +40,7 @@ pub trait Part: Sized {
 
 /// Reads part after part.
 #[tactic(auto, using(std::proofs::lemmas::Grind::common_steps), unfolding(token_reading::specs::Outcome::then_, wdl_parse_parts::specs::Reading::Parts::many_from))]
-pub fn many<P: Part + Drop>(alloc: Global, tokens: &mut Cursor<'_>) -> Result<Items<P>, Stop>
+pub fn many<P: Part + Drop>(alloc: Global, tokens: &mut Cursor<'_>) -> Result<Items<P>, RuleStop>
     ensures { Reads (parts.many P.reading tokens.old) result tokens.new }
 {
     let mut parts = Items::new(alloc);
@@ -60,7 +61,7 @@ pub fn many<P: Part + Drop>(alloc: Global, tokens: &mut Cursor<'_>) -> Result<It
 pub fn read_braced<P: Part + Drop>(
     alloc: Global,
     tokens: &mut Cursor<'_>,
-) -> Result<Braced<P>, Stop>
+) -> Result<Braced<P>, RuleStop>
     ensures { Reads (spec.braced P.reading tokens.old) result tokens.new }
 {
     let opening = take(tokens, Mark::OpenBrace)?;

@@ -10,7 +10,7 @@ use crate::task::task;
 use crate::workflow::workflow;
 use sqlite_items::Items;
 use std::alloc::Global;
-use token_reading::{Cursor, Stop, missing, read_plain};
+use token_reading::{Cursor, RuleStop, missing, read_plain};
 use wdl_ast::{Alias, Import, Mark, Section, StructMember, StructSection};
 use wdl_parse_expr::read_type;
 use wdl_parse_parts::{take_name, take_word};
@@ -22,7 +22,7 @@ impl Part for Alias {
     ghost reading = { spec.alias_at };
 
     #[tactic(auto, using(std::proofs::lemmas::Grind::common_steps), unfolding(token_reading::specs::Outcome::then_, token_reading::specs::Outcome::found, crate::specs::Reading::Documents::alias_at))]
-    fn read(alloc: Global, tokens: &mut Cursor<'_>) -> Result<Option<Alias>, Stop> {
+    fn read(alloc: Global, tokens: &mut Cursor<'_>) -> Result<Option<Alias>, RuleStop> {
         let Some(keyword) = tokens.eat_word("alias") else {
             return Ok(None);
         };
@@ -39,7 +39,7 @@ impl Part for Alias {
 }
 
 #[tactic(auto, using(std::proofs::lemmas::Grind::common_steps), unfolding(token_reading::specs::Outcome::then_, token_reading::specs::Outcome::found, crate::specs::Reading::Documents::import_))]
-fn import(alloc: Global, tokens: &mut Cursor<'_>, keyword: Span) -> Result<Import, Stop>
+fn import(alloc: Global, tokens: &mut Cursor<'_>, keyword: Span) -> Result<Import, RuleStop>
     ensures { Reads (spec.import_ keyword tokens.old) result tokens.new }
 {
     let uri = read_plain(alloc, tokens)?;
@@ -54,7 +54,7 @@ fn import(alloc: Global, tokens: &mut Cursor<'_>, keyword: Span) -> Result<Impor
 }
 
 #[tactic(auto, using(std::proofs::lemmas::Grind::common_steps), unfolding(token_reading::specs::Outcome::then_, token_reading::specs::Outcome::found, crate::specs::Reading::Documents::struct_member))]
-fn struct_member(alloc: Global, tokens: &mut Cursor<'_>) -> Result<StructMember, Stop>
+fn struct_member(alloc: Global, tokens: &mut Cursor<'_>) -> Result<StructMember, RuleStop>
     ensures { Reads (spec.struct_member tokens.old) result tokens.new }
 {
     let ty = read_type(alloc, tokens)?;
@@ -70,7 +70,7 @@ impl Part for StructMember {
     ghost reading = { parts.until mark.CloseBrace spec.struct_member };
 
     #[tactic(auto, using(std::proofs::lemmas::Grind::common_steps), unfolding(token_reading::specs::Outcome::then_, token_reading::specs::Outcome::found, wdl_parse_parts::specs::Reading::Parts::until))]
-    fn read(alloc: Global, tokens: &mut Cursor<'_>) -> Result<Option<StructMember>, Stop> {
+    fn read(alloc: Global, tokens: &mut Cursor<'_>) -> Result<Option<StructMember>, RuleStop> {
         if tokens.sees(Mark::CloseBrace) {
             return Ok(None);
         }
@@ -79,7 +79,11 @@ impl Part for StructMember {
 }
 
 #[tactic(auto, using(std::proofs::lemmas::Grind::common_steps), unfolding(token_reading::specs::Outcome::then_, token_reading::specs::Outcome::found, crate::specs::Reading::Documents::struct_))]
-fn structure(alloc: Global, tokens: &mut Cursor<'_>, keyword: Span) -> Result<StructSection, Stop>
+fn structure(
+    alloc: Global,
+    tokens: &mut Cursor<'_>,
+    keyword: Span,
+) -> Result<StructSection, RuleStop>
     ensures { Reads (spec.struct_ keyword tokens.old) result tokens.new }
 {
     let name = take_name(alloc, tokens)?;
@@ -94,7 +98,7 @@ fn structure(alloc: Global, tokens: &mut Cursor<'_>, keyword: Span) -> Result<St
 }
 
 #[tactic(auto, using(std::proofs::lemmas::Grind::common_steps), unfolding(token_reading::specs::Outcome::then_, token_reading::specs::Outcome::found, crate::specs::Reading::Documents::section_at))]
-fn section(alloc: Global, tokens: &mut Cursor<'_>) -> Result<Section, Stop>
+fn section(alloc: Global, tokens: &mut Cursor<'_>) -> Result<Section, RuleStop>
     ensures { Reads (spec.section_at tokens.old) result tokens.new }
 {
     if let Some(keyword) = tokens.eat_word("import") {
@@ -118,7 +122,7 @@ impl Part for Section {
     ghost reading = { spec.section_part };
 
     #[tactic(auto, using(std::proofs::lemmas::Grind::common_steps), unfolding(token_reading::specs::Outcome::then_, token_reading::specs::Outcome::found, crate::specs::Reading::Documents::section_part))]
-    fn read(alloc: Global, tokens: &mut Cursor<'_>) -> Result<Option<Section>, Stop> {
+    fn read(alloc: Global, tokens: &mut Cursor<'_>) -> Result<Option<Section>, RuleStop> {
         if tokens.rest().is_empty() {
             return Ok(None);
         }
@@ -128,7 +132,7 @@ impl Part for Section {
 
 /// Reads all sections, up to the end of the tokens.
 #[tactic(auto, using(std::proofs::lemmas::Grind::common_steps), unfolding(token_reading::specs::Outcome::then_, token_reading::specs::Outcome::found, crate::specs::Reading::Documents::sections))]
-pub fn sections(alloc: Global, tokens: &mut Cursor<'_>) -> Result<Items<Section>, Stop>
+pub fn sections(alloc: Global, tokens: &mut Cursor<'_>) -> Result<Items<Section>, RuleStop>
     ensures { Reads (spec.sections tokens.old) result tokens.new }
 {
     let sections = many::<Section>(alloc, tokens)?;

@@ -9,14 +9,14 @@ ghost use Rattle.wdl_parse_doc.specs.Reading.Tasks as spec;
 use crate::braced::{inputs, metadata, outputs, runtime};
 use crate::part_list::{Part, read_braced};
 use std::alloc::Global;
-use token_reading::{Cursor, Stop, is_word, missing};
+use token_reading::{Cursor, RuleStop, is_word, missing};
 use wdl_ast::{Kind, Mark, TaskElement, TaskSection};
 use wdl_parse_parts::{command, declaration, is_section, take_name};
 use wdl_value::Span;
 
 /// Reads a section of a task, or a private declaration.
 #[tactic(auto, using(std::proofs::lemmas::Grind::common_steps), unfolding(token_reading::specs::Outcome::then_, token_reading::specs::Outcome::found, crate::specs::Reading::Tasks::task_element))]
-fn task_element(alloc: Global, tokens: &mut Cursor<'_>) -> Result<TaskElement, Stop>
+fn task_element(alloc: Global, tokens: &mut Cursor<'_>) -> Result<TaskElement, RuleStop>
     ensures { Reads (spec.task_element tokens.old) result tokens.new }
 {
     if let Some(keyword) = tokens.eat_word("input") {
@@ -48,7 +48,7 @@ impl Part for TaskElement {
     ghost reading = { parts.until mark.CloseBrace spec.task_element };
 
     #[tactic(auto, using(std::proofs::lemmas::Grind::common_steps), unfolding(token_reading::specs::Outcome::then_, token_reading::specs::Outcome::found, wdl_parse_parts::specs::Reading::Parts::until))]
-    fn read(alloc: Global, tokens: &mut Cursor<'_>) -> Result<Option<TaskElement>, Stop> {
+    fn read(alloc: Global, tokens: &mut Cursor<'_>) -> Result<Option<TaskElement>, RuleStop> {
         if tokens.sees(Mark::CloseBrace) {
             return Ok(None);
         }
@@ -163,7 +163,7 @@ fn are_task_sections(elements: &[TaskElement]) -> bool
 
 /// Reads a task, behind its word.
 #[tactic(auto, using(std::proofs::lemmas::Grind::common_steps), unfolding(token_reading::specs::Outcome::then_, token_reading::specs::Outcome::found, crate::specs::Reading::Tasks::task))]
-pub fn task(alloc: Global, tokens: &mut Cursor<'_>, keyword: Span) -> Result<TaskSection, Stop>
+pub fn task(alloc: Global, tokens: &mut Cursor<'_>, keyword: Span) -> Result<TaskSection, RuleStop>
     ensures { Reads (spec.task keyword tokens.old) result tokens.new }
 {
     let name = take_name(alloc, tokens)?;

@@ -9,14 +9,14 @@ use crate::braced::{inputs, metadata, outputs};
 use crate::part_list::{Part, read_braced};
 use crate::statement::statement;
 use std::alloc::Global;
-use token_reading::{Cursor, Stop, is_word, missing};
+use token_reading::{Cursor, RuleStop, is_word, missing};
 use wdl_ast::{Kind, Mark, Workflow, WorkflowElement};
 use wdl_parse_parts::{is_section, take_name};
 use wdl_value::Span;
 
 /// Reads a section of a workflow, or a statement.
 #[tactic(auto, using(std::proofs::lemmas::Grind::common_steps), unfolding(token_reading::specs::Outcome::then_, token_reading::specs::Outcome::found, crate::specs::Reading::Tasks::workflow_element))]
-fn workflow_element(alloc: Global, tokens: &mut Cursor<'_>) -> Result<WorkflowElement, Stop>
+fn workflow_element(alloc: Global, tokens: &mut Cursor<'_>) -> Result<WorkflowElement, RuleStop>
     ensures { Reads (spec.workflow_element tokens.old) result tokens.new }
 {
     if let Some(keyword) = tokens.eat_word("input") {
@@ -42,7 +42,7 @@ impl Part for WorkflowElement {
     ghost reading = { parts.until mark.CloseBrace spec.workflow_element };
 
     #[tactic(auto, using(std::proofs::lemmas::Grind::common_steps), unfolding(token_reading::specs::Outcome::then_, token_reading::specs::Outcome::found, wdl_parse_parts::specs::Reading::Parts::until))]
-    fn read(alloc: Global, tokens: &mut Cursor<'_>) -> Result<Option<WorkflowElement>, Stop> {
+    fn read(alloc: Global, tokens: &mut Cursor<'_>) -> Result<Option<WorkflowElement>, RuleStop> {
         if tokens.sees(Mark::CloseBrace) {
             return Ok(None);
         }
@@ -133,7 +133,7 @@ fn are_workflow_sections(elements: &[WorkflowElement]) -> bool
 
 /// Reads a workflow, behind its word.
 #[tactic(auto, using(std::proofs::lemmas::Grind::common_steps), unfolding(token_reading::specs::Outcome::then_, token_reading::specs::Outcome::found, crate::specs::Reading::Tasks::workflow))]
-pub fn workflow(alloc: Global, tokens: &mut Cursor<'_>, keyword: Span) -> Result<Workflow, Stop>
+pub fn workflow(alloc: Global, tokens: &mut Cursor<'_>, keyword: Span) -> Result<Workflow, RuleStop>
     ensures { Reads (spec.workflow keyword tokens.old) result tokens.new }
 {
     let name = take_name(alloc, tokens)?;

@@ -31,8 +31,8 @@ fn text(alloc: Global, piece: &str) -> Result<Text, NoMemory> {
     }
 }
 
-/// The token that a piece of a row stands for: `"` and `;` begin and end a string, `#` is characters, `~` and `!` begin and
-/// end a placeholder, and `<<<` and `>>>` a command.
+/// The token that a piece of a row stands for: `"` and `;` begin and end a string, `#` is
+/// characters, `~` and `!` begin and end a placeholder, and `<<<` and `>>>` a command.
 fn kind(alloc: Global, piece: &str) -> Result<Kind, NoMemory> {
     if let Some(mark) = mark(piece) {
         return Ok(Kind::Mark(mark));
@@ -147,7 +147,8 @@ String x = sub ( \" # ; , \" # ; , \" # ; ) }¦122 at 8¶\
 Int x = read_json ( y ) }¦123 at 8¶\
 Int x = write_json ( y ) }¦123 at 8";
 
-/// Documents that are refused where a token fits nothing, or where they end, which the last token stands for.
+/// Documents that are refused where a token fits nothing, or where they end, which the last token
+/// stands for.
 const SECTION_MISFITS: &str = "\
 version 1.1 }¦110 at 2¶\
 version 1.1 foo¦110 at 2¶\

@@ -6,8 +6,8 @@ use Rattle.wdl_ast.specs.Words.{Words, words, type_words}
 use Rattle.token_reading.specs.declared.fault.Fault.{Fault}
 use Rattle.token_reading.specs.declared.fault.Refusal.{Refusal}
 use Rattle.token_reading.specs.declared.fault.Refusal.TheVariants.{Missing, Bad}
-use Rattle.token_reading.specs.declared.fault.Stop.{Stop}
-use Rattle.token_reading.specs.declared.fault.Stop.TheVariants as stop
+use Rattle.token_reading.specs.declared.fault.RuleStop.{RuleStop}
+use Rattle.token_reading.specs.declared.fault.RuleStop.TheVariants as stop
 use Rattle.token_reading.specs.declared.fault.ParseFault.{ParseFault}
 use Rattle.token_reading.specs.declared.tall.Tall.{Tall}
 use Rattle.token_reading.specs.declared.tall.Rule.TheVariants as rule
@@ -70,7 +70,7 @@ is_blamed ts b h =
     let C : Fault → Type 0 = λ f. Points (ExprCause max_depth AtStart f.code) ts f.span in
     blamed C (Takes Whole tall_words ts) _ b (expr_sound max_depth AtStart ts C (λ f p. p) max_depth rule.Expr ts ([], 0, refl, root an_expr [] (refl, refl), omega arith)) h
 
-pub refused : (all ts : Words) (s : Stop) (f : ParseFault) → FaultOf all s f → Fails (expr max_depth rule.Expr ts) s → IfBad {A = Expr} (RefusesExpr all ts) (Err f)
+pub refused : (all ts : Words) (s : RuleStop) (f : ParseFault) → FaultOf all s f → Fails (expr max_depth rule.Expr ts) s → IfBad {A = Expr} (RefusesExpr all ts) (Err f)
 refused all ts stop.NoMemory f q h = subst (λ z. IfBad {A = Expr} (RefusesExpr all ts) (Err z)) (sym q) tt
 refused all ts (stop.Refused Missing) f q h = subst (λ z. IfBad {A = Expr} (RefusesExpr all ts) (Err z)) (sym q.1) (inl (refl, q.2, starts_none ts h))
 refused all ts (stop.Refused (Bad b)) f q h = subst (λ z. IfBad {A = Expr} (RefusesExpr all ts) (Err z)) (sym q) (inr (is_blamed ts b h, may_go_on ts b h))
@@ -102,7 +102,7 @@ type_blamed ts b h =
     let C : Fault → Type 0 = λ f. Points (TypeCause AtFront f.code) ts f.span in
     blamed C (Takes IsType type_words ts) (type_at max_type_depth ts) b (type_sound AtFront ts C (λ f p. p) max_type_depth ts ([], 0, refl, type_root [] refl, refl)) h
 
-pub refused_type : (all ts : Words) (s : Stop) (f : ParseFault) → FaultOf all s f → Fails (type_at max_type_depth ts) s → IfBad {A = TypeTree} (RefusesType all ts) (Err f)
+pub refused_type : (all ts : Words) (s : RuleStop) (f : ParseFault) → FaultOf all s f → Fails (type_at max_type_depth ts) s → IfBad {A = TypeTree} (RefusesType all ts) (Err f)
 refused_type all ts stop.NoMemory f q h = subst (λ z. IfBad {A = TypeTree} (RefusesType all ts) (Err z)) (sym q) tt
 refused_type all ts (stop.Refused Missing) f q h = subst (λ z. IfBad {A = TypeTree} (RefusesType all ts) (Err z)) (sym q.1) (inl (refl, q.2), no_type ts Missing h)
 refused_type all ts (stop.Refused (Bad b)) f q h =

@@ -15,8 +15,8 @@ use Rattle.wdl_ast.specs.Words.{Words, words, type_words}
 use Rattle.token_reading.specs.declared.fault.ParseFault.{ParseFault}
 use Rattle.token_reading.specs.declared.fault.ParseFault.TheVariants as fault
 use Rattle.token_reading.specs.declared.fault.Refusal.TheVariants as refusal
-use Rattle.token_reading.specs.declared.fault.Stop.{Stop}
-use Rattle.token_reading.specs.declared.fault.Stop.TheVariants as stop
+use Rattle.token_reading.specs.declared.fault.RuleStop.{RuleStop}
+use Rattle.token_reading.specs.declared.fault.RuleStop.TheVariants as stop
 use Rattle.token_reading.specs.declared.tall.Rule.TheVariants as rule
 use Rattle.token_reading.specs.Outcome.{Parser, then_}
 use Rattle.token_reading.specs.Operators.{looseness, binary_of}
@@ -129,7 +129,7 @@ unfoldable pub read_parts : Parser (List (StringPart Expr))
 read_parts ts = then_ (parts (expr max_depth) ts) (λ x rest. Ok (x.tree, rest))
 
 -- what a refusal of reading these tokens is to the caller
-abbrev pub FaultOf : Words → Stop → ParseFault → Type 0
+abbrev pub FaultOf : Words → RuleStop → ParseFault → Type 0
 FaultOf ts stop.NoMemory f = f ≡ fault.NoMemory
 FaultOf ts (stop.Refused refusal.Missing) f = (s : Span) × (f ≡ fault.Bad 110 s) × IsPlaced ts s
 FaultOf ts (stop.Refused (refusal.Bad b)) f = f ≡ fault.Bad b.code b.span

@@ -17,7 +17,7 @@ mod string;
 mod whole;
 
 use std::alloc::Global;
-use token_reading::{Cursor, Rule, Stop, Tall, grown};
+use token_reading::{Cursor, Rule, RuleStop, Tall, grown};
 use wdl_ast::Expr;
 use wdl_value::Span;
 pub use whole::expr;
@@ -32,8 +32,8 @@ pub struct Grammar<F> {
     pub expr: F,
 }
 
-impl<F: Fn(Global, &mut Cursor<'_>, usize, Rule) -> Result<Tall<Expr>, Stop>> Grammar<F> {
-    fn inner(&self, tokens: &mut Cursor<'_>, rule: Rule) -> Result<Tall<Expr>, Stop>
+impl<F: Fn(Global, &mut Cursor<'_>, usize, Rule) -> Result<Tall<Expr>, RuleStop>> Grammar<F> {
+    fn inner(&self, tokens: &mut Cursor<'_>, rule: Rule) -> Result<Tall<Expr>, RuleStop>
         requires { Nests self.now.depth (F.pre self.now.expr) (F.post self.now.expr) }
         ensures { Reads (spec.expr self.now.depth rule tokens.old) result tokens.new }
     {
@@ -41,7 +41,7 @@ impl<F: Fn(Global, &mut Cursor<'_>, usize, Rule) -> Result<Tall<Expr>, Stop>> Gr
     }
 
     /// A node that counts once, over parts of that depth.
-    fn grown(&self, span: Span, inside: usize, tree: Expr) -> Result<Tall<Expr>, Stop>
+    fn grown(&self, span: Span, inside: usize, tree: Expr) -> Result<Tall<Expr>, RuleStop>
         requires { Nests self.now.depth (F.pre self.now.expr) (F.post self.now.expr) }
         ensures { (ts : List Token) → Reads (outcome.grown self.now.depth span 0 inside tree ts) result ts }
     {

@@ -2,11 +2,20 @@ ghost use Rattle.std.specs.Prelude.{◌≡◌, ◌≤◌, length, drop, Ok, IfOk
 ghost use Rattle.wdl_ast.specs.Words.{words, type_words};
 ghost use Rattle.wdl_parse_expr.specs.Grammar.{IsExpr};
 ghost use Rattle.token_reading.specs.TypeGrammar.{IsType};
-ghost use Rattle.wdl_parse_expr.specs.Contract.{Fronts, IsLongest, IsPlaced, IfBad, RefusesExpr, RefusesType, FaultOf, read_expr};
+ghost use Rattle.wdl_parse_expr.specs.Contract.{
+  Fronts,
+  IsLongest,
+  IsPlaced,
+  IfBad,
+  RefusesExpr,
+  RefusesType,
+  FaultOf,
+  read_expr,
+};
 
 use crate::grammar::expr;
 use std::alloc::Global;
-use token_reading::{Cursor, ParseFault, Refusal, Rule, Stop, type_at};
+use token_reading::{Cursor, ParseFault, Refusal, Rule, RuleStop, type_at};
 use wdl_ast::{Expr, Token, TypeTree};
 use wdl_value::Span;
 
@@ -47,18 +56,18 @@ fn span_from(tokens: &[Token], left: usize) -> Span
     }
 }
 
-/// What a refusal of reading is to the caller. `left` tells how many tokens were left from the first one on that fits
-/// nothing.
-pub fn fault_of(stop: Stop, tokens: &[Token], left: usize) -> ParseFault
+/// What a refusal of reading is to the caller. `left` tells how many tokens were left from the
+/// first one on that fits nothing.
+pub fn fault_of(stop: RuleStop, tokens: &[Token], left: usize) -> ParseFault
     ensures { FaultOf tokens.now stop result }
 {
     match stop {
-        Stop::NoMemory => ParseFault::NoMemory,
-        Stop::Refused(Refusal::Missing) => ParseFault::Bad {
+        RuleStop::NoMemory => ParseFault::NoMemory,
+        RuleStop::Refused(Refusal::Missing) => ParseFault::Bad {
             code: 110,
             span: span_from(tokens, left),
         },
-        Stop::Refused(Refusal::Bad(fault)) => ParseFault::Bad {
+        RuleStop::Refused(Refusal::Bad(fault)) => ParseFault::Bad {
             code: fault.code,
             span: fault.span,
         },
@@ -73,10 +82,11 @@ fn cursor_at(tokens: &[Token], at: usize) -> Cursor<'_>
     Cursor::new(&tokens[at..])
 }
 
-/// The longest expression that starts at a place of the tokens, in time linear in its tokens (OpenWDL 1.1,
-/// "Expressions"). Its depth is at most 64: a literal, name, call, string, or anything in brackets counts once, an `if` once,
-/// and an operator, a member or an index once. Fractions, objects, and the functions that need them are refused by
-/// codes of their own where reading meets them.
+/// The longest expression that starts at a place of the tokens, in time linear in its tokens
+/// (OpenWDL 1.1, "Expressions"). Its depth is at most 64: a literal, name, call, string, or
+/// anything in brackets counts once, an `if` once, and an operator, a member or an index once.
+/// Fractions, objects, and the functions that need them are refused by codes of their own where
+/// reading meets them.
 pub fn parse_expr(alloc: Global, tokens: &[Token], at: usize) -> Result<ParsedExpr, ParseFault>
     requires { at ≤ length tokens.now }
     ensures within { IfOk result (λ r. r.next ≤ length tokens.now) }
@@ -84,9 +94,11 @@ pub fn parse_expr(alloc: Global, tokens: &[Token], at: usize) -> Result<ParsedEx
     ensures found { IfOk result (λ r. Fronts IsExpr words (drop at tokens.now) r.expr (drop r.next tokens.now)) }
     // No other one does that is as long.
     ensures longest { IfOk result (λ r. IsLongest IsExpr words (drop at tokens.now) r.expr (drop r.next tokens.now)) }
-    // It is what reading to the end of it gives: no shorter one is answered where a code holds behind that.
+    // It is what reading to the end of it gives: no shorter one is answered where a code holds
+    // behind that.
     ensures read { IfOk result (λ r. read_expr (drop at tokens.now) ≡ Ok (r.expr, drop r.next tokens.now)) }
-    // 110, at one of the tokens, where none starts there; any other code is true of a token, and each that starts there may go on.
+    // 110, at one of the tokens, where none starts there; any other code is true of a token, and
+    // each that starts there may go on.
     ensures refused { IfBad (RefusesExpr tokens.now (drop at tokens.now)) result }
 {
     let mut cursor = cursor_at(tokens, at);
@@ -102,8 +114,9 @@ pub fn parse_expr(alloc: Global, tokens: &[Token], at: usize) -> Result<ParsedEx
     }
 }
 
-/// The longest type that starts at a place of the tokens, in time linear in its tokens (OpenWDL 1.1, "Types"). Its
-/// depth is at most 8, each type inside another counting once. `Float` and `Object` are refused by codes of their own.
+/// The longest type that starts at a place of the tokens, in time linear in its tokens (OpenWDL
+/// 1.1, "Types"). Its depth is at most 8, each type inside another counting once. `Float` and
+///   `Object` are refused by codes of their own.
 pub fn parse_type(alloc: Global, tokens: &[Token], at: usize) -> Result<ParsedType, ParseFault>
     requires { at ≤ length tokens.now }
     ensures within { IfOk result (λ r. r.next ≤ length tokens.now) }

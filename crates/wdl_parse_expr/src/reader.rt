@@ -8,12 +8,12 @@ use crate::grammar::{Grammar, expr};
 use crate::parse::{MAX_DEPTH, MAX_TYPE_DEPTH};
 use sqlite_items::Items;
 use std::alloc::Global;
-use token_reading::{Cursor, Rule, Stop, type_at};
+use token_reading::{Cursor, Rule, RuleStop, type_at};
 use wdl_ast::{Expr, StringPart, TypeTree};
 
 /// Reads the longest expression at the cursor, of a depth of at most 64.
 #[tactic(auto, using(std::proofs::lemmas::Grind::common_steps), unfolding(token_reading::specs::Outcome::then_, crate::specs::Contract::read_expr))]
-pub fn read_expr(alloc: Global, tokens: &mut Cursor<'_>) -> Result<Expr, Stop>
+pub fn read_expr(alloc: Global, tokens: &mut Cursor<'_>) -> Result<Expr, RuleStop>
     ensures { Reads (contract.read_expr tokens.old) result tokens.new }
 {
     let tall = expr(alloc, tokens, MAX_DEPTH, Rule::Expr)?;
@@ -22,7 +22,7 @@ pub fn read_expr(alloc: Global, tokens: &mut Cursor<'_>) -> Result<Expr, Stop>
 
 /// Reads the longest type at the cursor, of a depth of at most 8.
 #[tactic(auto, unfolding(crate::specs::Contract::read_type))]
-pub fn read_type(alloc: Global, tokens: &mut Cursor<'_>) -> Result<TypeTree, Stop>
+pub fn read_type(alloc: Global, tokens: &mut Cursor<'_>) -> Result<TypeTree, RuleStop>
     ensures { Reads (contract.read_type tokens.old) result tokens.new }
 {
     type_at(alloc, tokens, MAX_TYPE_DEPTH)
@@ -30,7 +30,10 @@ pub fn read_type(alloc: Global, tokens: &mut Cursor<'_>) -> Result<TypeTree, Sto
 
 /// Reads the characters and placeholders of a command, up to its end.
 #[tactic(auto, using(std::proofs::lemmas::Grind::common_steps), unfolding(token_reading::specs::Outcome::then_, crate::specs::Contract::read_parts))]
-pub fn read_parts(alloc: Global, tokens: &mut Cursor<'_>) -> Result<Items<StringPart<Expr>>, Stop>
+pub fn read_parts(
+    alloc: Global,
+    tokens: &mut Cursor<'_>,
+) -> Result<Items<StringPart<Expr>>, RuleStop>
     ensures { Reads (contract.read_parts tokens.old) result tokens.new }
 {
     let grammar = Grammar {

@@ -43,8 +43,8 @@ fn text(alloc: Global, letter: u8) -> Result<Text, NoMemory> {
     }
 }
 
-/// The mark that a byte of a row stands for: itself, or of those with two bytes `@` for `==`, `_` for `!=`, `l` for `<=`,
-/// `g` for `>=`, `&` for `&&` and `|` for `||`.
+/// The mark that a byte of a row stands for: itself, or of those with two bytes `@` for `==`, `_`
+/// for `!=`, `l` for `<=`, `g` for `>=`, `&` for `&&` and `|` for `||`.
 fn mark(byte: u8) -> Option<Mark> {
     Some(match byte {
         b'{' => Mark::OpenBrace,
@@ -76,8 +76,8 @@ fn mark(byte: u8) -> Option<Mark> {
     })
 }
 
-/// The token that a byte of a row stands for: `"` and `'` begin and end a string, `#` is its characters, `$` and `~` begin and
-/// end a placeholder, and `^` is a fraction.
+/// The token that a byte of a row stands for: `"` and `'` begin and end a string, `#` is its
+/// characters, `$` and `~` begin and end a placeholder, and `^` is a fraction.
 fn kind(alloc: Global, byte: u8) -> Result<Kind, NoMemory> {
     if let Some(mark) = mark(byte) {
         return Ok(Kind::Mark(mark));
@@ -178,8 +178,8 @@ fn expr_shape(alloc: Global, row: &str) -> Result<String, Fail> {
     }
 }
 
-/// Expressions, each with the place behind the longest one, or with its code. A part that is wrong leaves what stands
-/// before it, or nothing.
+/// Expressions, each with the place behind the longest one, or with its code. A part that is wrong
+/// leaves what stands before it, or nothing.
 const EXPRESSIONS: &str = "\
 1|2 3;1|) 1;1&2 3;1&) 1;1@2 3;1_2 3;1@) 1;1<2 3;1l2 3;1>2 3;1g2 3;1<) 1;1+2 3;1-2 3;1+) 1;1*2 3;\
 1/2 3;1%2 3;1*) 1;!T 2;-1 2;+1 2;--1 3;a.b 3;a. 1;a[0] 4;a[0 1;a[ 1;a.b[0].c 8;T 1;X 1;V 1;1 1;\
@@ -201,7 +201,8 @@ const TYPES: &str = "\
 B 1;N 1;W 1;I 1;S 1;A[N] 4;A[N]+ 5;M[N,W] 6;P[B,S] 6;N? 2;N?? 3;N+ 1;A[N]+? 6;A[N]?+ 5;\
 M[N,A[S?]]? 11;F 120 at 0;A[O] 121 at 2";
 
-/// Texts that are refused where a token fits no expression, or where they end, which the last token stands for.
+/// Texts that are refused where a token fits no expression, or where they end, which the last token
+/// stands for.
 const MISFITS: &str = "\
 F 110 at 0;O 110 at 0;\
 iTt1 110 at 3;iT 110 at 1;! 110 at 0;N 110 at 0;i 110 at 0;) 110 at 0; 110 at 0;(1 110 at 1;\
@@ -312,7 +313,8 @@ fn is_past(alloc: Global, row: &str, times: usize, table: Table) -> Result<bool,
     is_read(alloc, text.as_str(), "111", table)
 }
 
-/// The first row that is not read whole at that depth, or does not meet the limit one past it, or in a mebibyte.
+/// The first row that is not read whole at that depth, or does not meet the limit one past it, or
+/// in a mebibyte.
 fn unlimited(
     alloc: Global,
     rows: &'static str,

@@ -8,7 +8,7 @@ ghost use Rattle.wdl_parse_parts.specs.Reading.Declarations as spec;
 
 use crate::token::{comma, take, take_key, take_name};
 use std::alloc::Global;
-use token_reading::{Cursor, Stop, missing};
+use token_reading::{Cursor, RuleStop, missing};
 use wdl_ast::{
     Assigned, Attribute, CommandSection, Declaration, Expr, Fence, InputDeclaration, Kind, Mark,
 };
@@ -17,7 +17,7 @@ use wdl_value::Span;
 
 /// Reads `Type name = expr`.
 #[tactic(auto, using(std::proofs::lemmas::Grind::common_steps), unfolding(token_reading::specs::Outcome::then_, token_reading::specs::Outcome::found, crate::specs::Reading::Declarations::declaration))]
-pub fn declaration(alloc: Global, tokens: &mut Cursor<'_>) -> Result<Declaration, Stop>
+pub fn declaration(alloc: Global, tokens: &mut Cursor<'_>) -> Result<Declaration, RuleStop>
     ensures { Reads (spec.declaration tokens.old) result tokens.new }
 {
     let ty = read_type(alloc, tokens)?;
@@ -34,7 +34,7 @@ pub fn declaration(alloc: Global, tokens: &mut Cursor<'_>) -> Result<Declaration
 
 /// Reads `= expr`, if it stands there.
 #[tactic(auto, using(std::proofs::lemmas::Grind::common_steps), unfolding(token_reading::specs::Outcome::then_, token_reading::specs::Outcome::found, crate::specs::Reading::Declarations::assigned))]
-pub fn assigned(alloc: Global, tokens: &mut Cursor<'_>) -> Result<Option<Assigned>, Stop>
+pub fn assigned(alloc: Global, tokens: &mut Cursor<'_>) -> Result<Option<Assigned>, RuleStop>
     ensures { Reads (spec.assigned tokens.old) result tokens.new }
 {
     let Some(assign) = tokens.eat(Mark::Assign) else {
@@ -46,7 +46,7 @@ pub fn assigned(alloc: Global, tokens: &mut Cursor<'_>) -> Result<Option<Assigne
 
 /// Reads `Type name`, with `= expr` where that stands there.
 #[tactic(auto, using(std::proofs::lemmas::Grind::common_steps), unfolding(token_reading::specs::Outcome::then_, token_reading::specs::Outcome::found, crate::specs::Reading::Declarations::input))]
-pub fn input(alloc: Global, tokens: &mut Cursor<'_>) -> Result<InputDeclaration, Stop>
+pub fn input(alloc: Global, tokens: &mut Cursor<'_>) -> Result<InputDeclaration, RuleStop>
     ensures { Reads (spec.input tokens.old) result tokens.new }
 {
     let ty = read_type(alloc, tokens)?;
@@ -57,7 +57,10 @@ pub fn input(alloc: Global, tokens: &mut Cursor<'_>) -> Result<InputDeclaration,
 
 /// Reads a runtime attribute.
 #[tactic(auto, using(std::proofs::lemmas::Grind::common_steps), unfolding(token_reading::specs::Outcome::then_, token_reading::specs::Outcome::found, crate::specs::Reading::Parts::attribute))]
-pub fn runtime_attribute(alloc: Global, tokens: &mut Cursor<'_>) -> Result<Attribute<Expr>, Stop>
+pub fn runtime_attribute(
+    alloc: Global,
+    tokens: &mut Cursor<'_>,
+) -> Result<Attribute<Expr>, RuleStop>
     ensures { Reads (parts.attribute expr.read_expr tokens.old) result tokens.new }
 {
     let key = take_key(alloc, tokens)?;
@@ -74,7 +77,7 @@ pub fn runtime_attribute(alloc: Global, tokens: &mut Cursor<'_>) -> Result<Attri
 
 /// Takes the opening of a command.
 #[tactic(auto, using(std::proofs::lemmas::Grind::common_steps), unfolding(crate::specs::Reading::Declarations::fence_at))]
-fn take_fence(tokens: &mut Cursor<'_>) -> Result<(Fence, Span), Stop>
+fn take_fence(tokens: &mut Cursor<'_>) -> Result<(Fence, Span), RuleStop>
     ensures { Reads (spec.fence_at tokens.old) result tokens.new }
 {
     let [first, rest @ ..] = tokens.rest() else {
@@ -89,7 +92,7 @@ fn take_fence(tokens: &mut Cursor<'_>) -> Result<(Fence, Span), Stop>
 
 /// Takes the end of a command.
 #[tactic(auto, using(std::proofs::lemmas::Grind::common_steps), unfolding(crate::specs::Reading::Declarations::fence_end_at))]
-fn take_fence_end(tokens: &mut Cursor<'_>) -> Result<Span, Stop>
+fn take_fence_end(tokens: &mut Cursor<'_>) -> Result<Span, RuleStop>
     ensures { Reads (spec.fence_end_at tokens.old) result tokens.new }
 {
     let [first, rest @ ..] = tokens.rest() else {
@@ -108,7 +111,7 @@ pub fn command(
     alloc: Global,
     tokens: &mut Cursor<'_>,
     keyword: Span,
-) -> Result<CommandSection, Stop>
+) -> Result<CommandSection, RuleStop>
     ensures { Reads (spec.command keyword tokens.old) result tokens.new }
 {
     let (fence, opening) = take_fence(tokens)?;

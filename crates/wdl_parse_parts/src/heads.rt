@@ -7,7 +7,7 @@ ghost use Rattle.wdl_parse_parts.specs.Reading.Heads as spec;
 use crate::token::{take, take_name, take_word};
 use sqlite_items::Items;
 use std::alloc::Global;
-use token_reading::{Cursor, Stop};
+use token_reading::{Cursor, RuleStop};
 use wdl_ast::{Conditional, Expr, Ident, Mark, Scatter, Statement};
 use wdl_parse_expr::read_expr;
 use wdl_value::Span;
@@ -32,7 +32,8 @@ pub struct ConditionalHead {
     pub opening: Span,
 }
 
-/// One call wherever a head is let go: the glue of its expression stands here, and not at each early return.
+/// One call wherever a head is let go: the glue of its expression stands here, and not at each
+/// early return.
 impl Drop for ScatterHead {
     fn drop(self) {
         let ScatterHead {
@@ -121,7 +122,11 @@ pub enum BlockHead {
 }
 
 #[tactic(auto, using(std::proofs::lemmas::Grind::common_steps), unfolding(token_reading::specs::Outcome::then_, token_reading::specs::Outcome::found, crate::specs::Reading::Heads::scatter_head))]
-fn scatter_head(alloc: Global, tokens: &mut Cursor<'_>, keyword: Span) -> Result<BlockHead, Stop>
+fn scatter_head(
+    alloc: Global,
+    tokens: &mut Cursor<'_>,
+    keyword: Span,
+) -> Result<BlockHead, RuleStop>
     ensures { Reads (spec.scatter_head keyword tokens.old) result tokens.new }
 {
     let opening_paren = take(tokens, Mark::OpenParen)?;
@@ -146,7 +151,7 @@ fn conditional_head(
     alloc: Global,
     tokens: &mut Cursor<'_>,
     keyword: Span,
-) -> Result<BlockHead, Stop>
+) -> Result<BlockHead, RuleStop>
     ensures { Reads (spec.conditional_head keyword tokens.old) result tokens.new }
 {
     let opening_paren = take(tokens, Mark::OpenParen)?;
@@ -164,7 +169,7 @@ fn conditional_head(
 
 /// Reads the head of a block, if one stands there.
 #[tactic(auto, using(std::proofs::lemmas::Grind::common_steps), unfolding(token_reading::specs::Outcome::then_, token_reading::specs::Outcome::found, crate::specs::Reading::Heads::head_at))]
-pub fn head(alloc: Global, tokens: &mut Cursor<'_>) -> Result<Option<BlockHead>, Stop>
+pub fn head(alloc: Global, tokens: &mut Cursor<'_>) -> Result<Option<BlockHead>, RuleStop>
     ensures { Reads (spec.head_at tokens.old) result tokens.new }
 {
     if let Some(keyword) = tokens.eat_word("scatter") {

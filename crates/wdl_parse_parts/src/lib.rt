@@ -1,4 +1,5 @@
-//! Reads the parts of sections from tokens: declarations, commands, values of metadata and heads of blocks.
+//! Reads the parts of sections from tokens: declarations, commands, values of metadata and heads of
+//! blocks.
 #![tactic(auto)]
 
 mod declarations;

@@ -1,4 +1,5 @@
-//! Values of metadata. The rules take the reader of the values inside as a parameter, so that each is proved by itself.
+//! Values of metadata. The rules take the reader of the values inside as a parameter, so that each
+//! is proved by itself.
 
 ghost use Rattle.std.specs.Prelude.{◌≡◌, [], length, MatchOption, IfOk, Some, None};
 ghost use Rattle.token_reading.specs.Outcome.{Reads};
@@ -11,7 +12,7 @@ ghost use Rattle.wdl_ast.specs.declared.token.Mark.TheVariants as mark;
 use crate::token::{comma, comma_or, commas_fit, take, take_key};
 use sqlite_items::Items;
 use std::alloc::Global;
-use token_reading::{Cursor, Stop, missing, read_plain, too_deep};
+use token_reading::{Cursor, RuleStop, missing, read_plain, too_deep};
 use wdl_ast::{Attribute, Kind, ListItem, Mark, MetaValue, Number};
 use wdl_value::{NoMemory, Span};
 
@@ -52,7 +53,7 @@ fn number(alloc: Global, tokens: &mut Cursor<'_>) -> Result<Option<Number>, NoMe
 
 /// A number with a minus before it.
 #[tactic(auto, using(std::proofs::lemmas::Grind::common_steps), unfolding(token_reading::specs::Outcome::then_, token_reading::specs::Outcome::found, crate::specs::Reading::Parts::need, crate::specs::Reading::Metadata::negative))]
-fn negative(alloc: Global, tokens: &mut Cursor<'_>, minus: Span) -> Result<MetaValue, Stop>
+fn negative(alloc: Global, tokens: &mut Cursor<'_>, minus: Span) -> Result<MetaValue, RuleStop>
     ensures { Reads (spec.negative minus tokens.old) result tokens.new }
 {
     match number(alloc, tokens)? {
@@ -66,7 +67,7 @@ fn negative(alloc: Global, tokens: &mut Cursor<'_>, minus: Span) -> Result<MetaV
 
 /// A number or a string.
 #[tactic(auto, using(std::proofs::lemmas::Grind::common_steps), unfolding(token_reading::specs::Outcome::then_, token_reading::specs::Outcome::found, crate::specs::Reading::Metadata::meta_leaf))]
-fn leaf(alloc: Global, tokens: &mut Cursor<'_>) -> Result<MetaValue, Stop>
+fn leaf(alloc: Global, tokens: &mut Cursor<'_>) -> Result<MetaValue, RuleStop>
     ensures { Reads (spec.meta_leaf tokens.old) result tokens.new }
 {
     if let Some(number) = number(alloc, tokens)? {
@@ -81,7 +82,7 @@ fn leaf(alloc: Global, tokens: &mut Cursor<'_>) -> Result<MetaValue, Stop>
 
 /// What begins with a word, a number or a string.
 #[tactic(auto, using(std::proofs::lemmas::Grind::common_steps), unfolding(token_reading::specs::Outcome::then_, token_reading::specs::Outcome::found, crate::specs::Reading::Metadata::meta_word))]
-fn word(alloc: Global, tokens: &mut Cursor<'_>) -> Result<MetaValue, Stop>
+fn word(alloc: Global, tokens: &mut Cursor<'_>) -> Result<MetaValue, RuleStop>
     ensures { Reads (spec.meta_word tokens.old) result tokens.new }
 {
     if let Some(span) = tokens.eat_word("null") {
@@ -96,8 +97,8 @@ fn word(alloc: Global, tokens: &mut Cursor<'_>) -> Result<MetaValue, Stop>
     leaf(alloc, tokens)
 }
 
-impl<F: Fn(Global, &mut Cursor<'_>, usize) -> Result<MetaValue, Stop>> MetaReader<F> {
-    fn inner(&self, tokens: &mut Cursor<'_>) -> Result<MetaValue, Stop>
+impl<F: Fn(Global, &mut Cursor<'_>, usize) -> Result<MetaValue, RuleStop>> MetaReader<F> {
+    fn inner(&self, tokens: &mut Cursor<'_>) -> Result<MetaValue, RuleStop>
         requires { Nests self.now.depth (F.pre self.now.inner) (F.post self.now.inner) }
         ensures { Reads (spec.meta_at self.now.depth tokens.old) result tokens.new }
     {
@@ -105,7 +106,7 @@ impl<F: Fn(Global, &mut Cursor<'_>, usize) -> Result<MetaValue, Stop>> MetaReade
     }
 
     #[tactic(auto, using(std::proofs::lemmas::Grind::common_steps), unfolding(token_reading::specs::Outcome::then_, token_reading::specs::Outcome::found, crate::specs::Reading::Parts::attribute))]
-    fn attribute(&self, tokens: &mut Cursor<'_>) -> Result<Attribute<MetaValue>, Stop>
+    fn attribute(&self, tokens: &mut Cursor<'_>) -> Result<Attribute<MetaValue>, RuleStop>
         requires { Nests self.now.depth (F.pre self.now.inner) (F.post self.now.inner) }
         ensures { Reads (parts.attribute (spec.meta_at self.now.depth) tokens.old) result tokens.new }
     {
@@ -122,7 +123,7 @@ impl<F: Fn(Global, &mut Cursor<'_>, usize) -> Result<MetaValue, Stop>> MetaReade
     }
 
     #[tactic(auto, using(std::proofs::lemmas::Grind::common_steps), unfolding(token_reading::specs::Outcome::then_, token_reading::specs::Outcome::found, crate::specs::Reading::Parts::item))]
-    fn item(&self, tokens: &mut Cursor<'_>) -> Result<ListItem<MetaValue>, Stop>
+    fn item(&self, tokens: &mut Cursor<'_>) -> Result<ListItem<MetaValue>, RuleStop>
         requires { Nests self.now.depth (F.pre self.now.inner) (F.post self.now.inner) }
         ensures { Reads (parts.item (spec.meta_at self.now.depth) tokens.old) result tokens.new }
     {
@@ -132,7 +133,10 @@ impl<F: Fn(Global, &mut Cursor<'_>, usize) -> Result<MetaValue, Stop>> MetaReade
     }
 
     #[tactic(auto, using(std::proofs::lemmas::Grind::common_steps), unfolding(token_reading::specs::Outcome::then_, token_reading::specs::Outcome::found, crate::specs::Reading::Parts::until))]
-    fn next_attribute(&self, tokens: &mut Cursor<'_>) -> Result<Option<Attribute<MetaValue>>, Stop>
+    fn next_attribute(
+        &self,
+        tokens: &mut Cursor<'_>,
+    ) -> Result<Option<Attribute<MetaValue>>, RuleStop>
         requires { Nests self.now.depth (F.pre self.now.inner) (F.post self.now.inner) }
         ensures { Reads (parts.until mark.CloseBrace (parts.attribute (spec.meta_at self.now.depth)) tokens.old) result tokens.new }
     {
@@ -143,7 +147,7 @@ impl<F: Fn(Global, &mut Cursor<'_>, usize) -> Result<MetaValue, Stop>> MetaReade
     }
 
     #[tactic(auto, using(std::proofs::lemmas::Grind::common_steps), unfolding(token_reading::specs::Outcome::then_, token_reading::specs::Outcome::found, crate::specs::Reading::Parts::until))]
-    fn next_item(&self, tokens: &mut Cursor<'_>) -> Result<Option<ListItem<MetaValue>>, Stop>
+    fn next_item(&self, tokens: &mut Cursor<'_>) -> Result<Option<ListItem<MetaValue>>, RuleStop>
         requires { Nests self.now.depth (F.pre self.now.inner) (F.post self.now.inner) }
         ensures { Reads (parts.until mark.CloseBracket (parts.item (spec.meta_at self.now.depth)) tokens.old) result tokens.new }
     {
@@ -154,7 +158,7 @@ impl<F: Fn(Global, &mut Cursor<'_>, usize) -> Result<MetaValue, Stop>> MetaReade
     }
 
     #[tactic(auto, using(std::proofs::lemmas::Grind::common_steps), unfolding(token_reading::specs::Outcome::then_, token_reading::specs::Outcome::found, crate::specs::Reading::Parts::many_from))]
-    fn attributes(&self, tokens: &mut Cursor<'_>) -> Result<Items<Attribute<MetaValue>>, Stop>
+    fn attributes(&self, tokens: &mut Cursor<'_>) -> Result<Items<Attribute<MetaValue>>, RuleStop>
         requires { Nests self.now.depth (F.pre self.now.inner) (F.post self.now.inner) }
         ensures { Reads (parts.many (parts.until mark.CloseBrace (parts.attribute (spec.meta_at self.now.depth))) tokens.old) result tokens.new }
     {
@@ -169,7 +173,7 @@ impl<F: Fn(Global, &mut Cursor<'_>, usize) -> Result<MetaValue, Stop>> MetaReade
     }
 
     #[tactic(auto, using(std::proofs::lemmas::Grind::common_steps), unfolding(token_reading::specs::Outcome::then_, token_reading::specs::Outcome::found, crate::specs::Reading::Parts::many_from))]
-    fn items(&self, tokens: &mut Cursor<'_>) -> Result<Items<ListItem<MetaValue>>, Stop>
+    fn items(&self, tokens: &mut Cursor<'_>) -> Result<Items<ListItem<MetaValue>>, RuleStop>
         requires { Nests self.now.depth (F.pre self.now.inner) (F.post self.now.inner) }
         ensures { Reads (parts.many (parts.until mark.CloseBracket (parts.item (spec.meta_at self.now.depth))) tokens.old) result tokens.new }
     {
@@ -184,7 +188,7 @@ impl<F: Fn(Global, &mut Cursor<'_>, usize) -> Result<MetaValue, Stop>> MetaReade
     }
 
     #[tactic(auto, using(std::proofs::lemmas::Grind::common_steps), unfolding(token_reading::specs::Outcome::then_, token_reading::specs::Outcome::found, crate::specs::Reading::Metadata::meta_object))]
-    fn object(&self, tokens: &mut Cursor<'_>, opening: Span) -> Result<MetaValue, Stop>
+    fn object(&self, tokens: &mut Cursor<'_>, opening: Span) -> Result<MetaValue, RuleStop>
         requires { Nests self.now.depth (F.pre self.now.inner) (F.post self.now.inner) }
         ensures { Reads (spec.meta_object (spec.meta_at self.now.depth) opening tokens.old) result tokens.new }
     {
@@ -198,7 +202,7 @@ impl<F: Fn(Global, &mut Cursor<'_>, usize) -> Result<MetaValue, Stop>> MetaReade
     }
 
     #[tactic(auto, using(std::proofs::lemmas::Grind::common_steps), unfolding(token_reading::specs::Outcome::then_, token_reading::specs::Outcome::found, crate::specs::Reading::Metadata::meta_list))]
-    fn list(&self, tokens: &mut Cursor<'_>, opening: Span) -> Result<MetaValue, Stop>
+    fn list(&self, tokens: &mut Cursor<'_>, opening: Span) -> Result<MetaValue, RuleStop>
         requires { Nests self.now.depth (F.pre self.now.inner) (F.post self.now.inner) }
         ensures { Reads (spec.meta_list (spec.meta_at self.now.depth) opening tokens.old) result tokens.new }
     {
@@ -215,7 +219,7 @@ impl<F: Fn(Global, &mut Cursor<'_>, usize) -> Result<MetaValue, Stop>> MetaReade
     }
 
     #[tactic(auto, using(std::proofs::lemmas::Grind::common_steps), unfolding(token_reading::specs::Outcome::then_, token_reading::specs::Outcome::found, crate::specs::Reading::Metadata::meta_over))]
-    fn value(&self, tokens: &mut Cursor<'_>) -> Result<MetaValue, Stop>
+    fn value(&self, tokens: &mut Cursor<'_>) -> Result<MetaValue, RuleStop>
         requires { Nests self.now.depth (F.pre self.now.inner) (F.post self.now.inner) }
         ensures { Reads (spec.meta_over (spec.meta_at self.now.depth) tokens.old) result tokens.new }
     {
@@ -233,7 +237,7 @@ impl<F: Fn(Global, &mut Cursor<'_>, usize) -> Result<MetaValue, Stop>> MetaReade
 }
 
 /// Reads a value of at most that depth.
-fn value(alloc: Global, tokens: &mut Cursor<'_>, depth: usize) -> Result<MetaValue, Stop>
+fn value(alloc: Global, tokens: &mut Cursor<'_>, depth: usize) -> Result<MetaValue, RuleStop>
     ensures { Reads (spec.meta_at depth tokens.old) result tokens.new }
 {
     if depth == 0 {
@@ -247,11 +251,12 @@ fn value(alloc: Global, tokens: &mut Cursor<'_>, depth: usize) -> Result<MetaVal
     .value(tokens)
 }
 
-/// Reads `key: value` of a section of metadata, with the comma behind it, unless the section ends there.
+/// Reads `key: value` of a section of metadata, with the comma behind it, unless the section ends
+/// there.
 pub fn meta_attribute(
     alloc: Global,
     tokens: &mut Cursor<'_>,
-) -> Result<Option<Attribute<MetaValue>>, Stop>
+) -> Result<Option<Attribute<MetaValue>>, RuleStop>
     ensures { Reads (parts.until mark.CloseBrace (parts.attribute (spec.meta_at max_meta_depth)) tokens.old) result tokens.new }
 {
     MetaReader {

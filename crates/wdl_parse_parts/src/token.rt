@@ -6,13 +6,13 @@ ghost use Rattle.wdl_parse_parts.specs.Grammar as grammar;
 ghost use Rattle.wdl_parse_parts.specs.Reading.Parts as spec;
 
 use std::alloc::Global;
-use token_reading::{Cursor, Stop, is_word, missing};
+use token_reading::{Cursor, RuleStop, is_word, missing};
 use wdl_ast::{Ident, Kind, ListItem, Mark, Word};
 use wdl_value::Span;
 
 /// Takes a mark.
 #[tactic(auto, using(std::proofs::lemmas::Grind::common_steps), unfolding(crate::specs::Reading::Parts::need, crate::specs::Reading::Parts::mark_at))]
-pub fn take(tokens: &mut Cursor<'_>, mark: Mark) -> Result<Span, Stop>
+pub fn take(tokens: &mut Cursor<'_>, mark: Mark) -> Result<Span, RuleStop>
     ensures { Reads (spec.mark_at mark tokens.old) result tokens.new }
 {
     match tokens.eat(mark) {
@@ -23,7 +23,7 @@ pub fn take(tokens: &mut Cursor<'_>, mark: Mark) -> Result<Span, Stop>
 
 /// Takes a word.
 #[tactic(auto, using(std::proofs::lemmas::Grind::common_steps), unfolding(crate::specs::Reading::Parts::need, crate::specs::Reading::Parts::word_at))]
-pub fn take_word(tokens: &mut Cursor<'_>, word: &str) -> Result<Span, Stop>
+pub fn take_word(tokens: &mut Cursor<'_>, word: &str) -> Result<Span, RuleStop>
     ensures { Reads (spec.word_at word.now tokens.old) result tokens.new }
 {
     match tokens.eat_word(word) {
@@ -34,7 +34,7 @@ pub fn take_word(tokens: &mut Cursor<'_>, word: &str) -> Result<Span, Stop>
 
 /// Takes a name.
 #[tactic(auto, using(std::proofs::lemmas::Grind::common_steps), unfolding(crate::specs::Reading::Parts::need, crate::specs::Reading::Parts::name_at))]
-pub fn take_name(alloc: Global, tokens: &mut Cursor<'_>) -> Result<Ident, Stop>
+pub fn take_name(alloc: Global, tokens: &mut Cursor<'_>) -> Result<Ident, RuleStop>
     ensures { Reads (spec.name_at tokens.old) result tokens.new }
 {
     match tokens.ident(alloc)? {
@@ -45,7 +45,7 @@ pub fn take_name(alloc: Global, tokens: &mut Cursor<'_>) -> Result<Ident, Stop>
 
 /// Takes a word, a reserved one too.
 #[tactic(auto, using(std::proofs::lemmas::Grind::common_steps), unfolding(crate::specs::Reading::Parts::key_at))]
-pub fn take_key(alloc: Global, tokens: &mut Cursor<'_>) -> Result<Word, Stop>
+pub fn take_key(alloc: Global, tokens: &mut Cursor<'_>) -> Result<Word, RuleStop>
     ensures { Reads (spec.key_at tokens.old) result tokens.new }
 {
     let [first, rest @ ..] = tokens.rest() else {
@@ -70,7 +70,8 @@ pub fn comma(tokens: &mut Cursor<'_>) -> Option<Span>
     tokens.eat(Mark::Comma)
 }
 
-/// Takes the comma behind an element of a list. Only the last one may lack it, before the mark that closes the list.
+/// Takes the comma behind an element of a list. Only the last one may lack it, before the mark that
+/// closes the list.
 #[tactic(auto, using(std::proofs::lemmas::Grind::common_steps), unfolding(token_reading::specs::Outcome::found, crate::specs::Reading::Parts::comma_at))]
 pub fn comma_or(tokens: &mut Cursor<'_>, close: Mark) -> Option<Span>
     ensures { spec.comma_at tokens.old ≡ Ok (result, tokens.new) }

@@ -1,29 +1,29 @@
 -- What is kept of the segments of a path.
 use Rattle.std.proofs.Common.{◌≡◌, ℕ, Bool, true, false, ◌&&◌, not, suc, ◌<◌, ◌-◌, length, slice_get, arith, Option, Some, None, IsSome, Result, Ok, Err, IfOk, List, [], ◌∷◌, ◌++◌, refl, sym, ap, ◌∙◌, subst, append_assoc, append-nil, codes}
-use Rattle.std.proofs.lemmas.Bool.{false≢true, cond-true, cond-false, and_parts, and_from, not-true}
+use Rattle.std.proofs.lemmas.Bool.{false≢true, cond-true, cond-false, and_parts, and_from, not-true, or_from, or_parts}
 use Rattle.std.proofs.lemmas.Slice.Eq.{bytes_eq-Decides}
 use Rattle.std.specs.Option.{option_to_list}
 use denote.Ref.{Bor}
 use Rattle.wdl_base.specs.Plain.{has_nul}
 use Rattle.wdl_paths.specs.Resolve.{is_here, is_up, is_folder, settle, settled, has_slash, segments, folder, file_name, joined, path_from}
 use Rattle.wdl_paths.specs.Keeping.{Segments, texts, any_nul, is_settled, ends_folder, Keeps, KeepsFolder, Follows}
-use Rattle.wdl_paths.proofs.Slashes.{or_left, or_right, segments-cut, segments-alone, folder-cut, folder-alone, folder-file_name, has_slash-file_name, has_nul-parts}
+use Rattle.wdl_paths.proofs.Slashes.{segments-cut, segments-alone, folder-cut, folder-alone, folder-file_name, has_slash-file_name, has_nul-parts}
 
 pub settled-append : (xs a b : Segments) → settled a ≡ settled b → settled (xs ++ a) ≡ settled (xs ++ b)
 settled-append [] a b e = e
 settled-append (x ∷ xs) a b e = ap (settle x) (settled-append xs a b e)
 
 any_nul-push : (xs : Segments) (s : List ℕ) → any_nul xs ≡ false → has_nul s ≡ false → any_nul (xs ++ s ∷ []) ≡ false
-any_nul-push [] s h k = or_right (has_nul s) false k refl
+any_nul-push [] s h k = or_from (has_nul s) false k refl
 any_nul-push (x ∷ xs) s h k =
-    let p = or_left (has_nul x) (any_nul xs) h in
-    or_right (has_nul x) (any_nul (xs ++ s ∷ [])) p.0 (any_nul-push xs s p.1 k)
+    let p = or_parts (has_nul x) (any_nul xs) h in
+    or_from (has_nul x) (any_nul (xs ++ s ∷ [])) p.0 (any_nul-push xs s p.1 k)
 
 any_nul-front : (xs : Segments) (s : List ℕ) → any_nul (xs ++ s ∷ []) ≡ false → any_nul xs ≡ false
 any_nul-front [] s h = refl
 any_nul-front (x ∷ xs) s h =
-    let p = or_left (has_nul x) (any_nul (xs ++ s ∷ [])) h in
-    or_right (has_nul x) (any_nul xs) p.0 (any_nul-front xs s p.1)
+    let p = or_parts (has_nul x) (any_nul (xs ++ s ∷ [])) h in
+    or_from (has_nul x) (any_nul xs) p.0 (any_nul-front xs s p.1)
 
 -- ---- a segment `.`
 

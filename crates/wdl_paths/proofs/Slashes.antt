@@ -1,26 +1,14 @@
 -- Texts at their slashes.
-use Rattle.std.proofs.Common.{◌≡◌, ◌≢◌, ℕ, suc, ◌<◌, Bool, true, false, ◌||◌, ◌==◌, List, [], ◌∷◌, ◌++◌, length, get_or, refl, ap, ◌∙◌, arith, Option, Some, None, MatchOption}
-use Rattle.std.proofs.lemmas.Bool.{true≢false, cond-true, cond-false, ne_eqb}
+use Rattle.std.proofs.Common.{◌≡◌, ◌≢◌, ℕ, suc, ◌<◌, Bool, true, false, ◌==◌, List, [], ◌∷◌, ◌++◌, length, get_or, refl, ap, ◌∙◌, arith, Option, Some, None, MatchOption}
+use Rattle.std.proofs.lemmas.Bool.{cond-true, cond-false, ne_eqb, or_from, or_parts, or_right}
 use denote.Ref.{Bor}
 use Rattle.wdl_base.specs.Plain.{has_nul}
 use Rattle.wdl_paths.specs.Resolve.{is_slash, has_slash, segments, folder, file_name}
 use Rattle.wdl_paths.specs.Keeping.{IsCut}
 
-pub or_right : (b c : Bool) → b ≡ false → c ≡ false → b || c ≡ false
-or_right true c h k = absurd (true≢false h)
-or_right false c h k = k
-
-pub or_left : (b c : Bool) → b || c ≡ false → (b ≡ false) × (c ≡ false)
-or_left true c h = absurd (true≢false h)
-or_left false c h = (refl, h)
-
-or_second : (b c : Bool) → c ≡ true → b || c ≡ true
-or_second true c h = refl
-or_second false c h = h
-
 no_slash : (s : List ℕ) → ((i : ℕ) → i < length s → get_or s i 0 ≢ 47) → has_slash s ≡ false
 no_slash [] h = refl
-no_slash (b ∷ bs) h = or_right (is_slash b) (has_slash bs) (ne_eqb b 47 (h 0 (omega arith))) (no_slash bs (λ i l. h (suc i) (omega arith)))
+no_slash (b ∷ bs) h = or_from (is_slash b) (has_slash bs) (ne_eqb b 47 (h 0 (omega arith))) (no_slash bs (λ i l. h (suc i) (omega arith)))
 
 -- what a cut at the first slash gives
 pub is_cut : (s : List ℕ) (r : Option (Bor (List ℕ) × Bor (List ℕ)))
@@ -33,18 +21,18 @@ is_cut s (Some x) h = (h.0, no_slash x.0.now h.1)
 
 has_slash-middle : (f m : List ℕ) → has_slash (f ++ (47 ∷ m)) ≡ true
 has_slash-middle [] m = refl
-has_slash-middle (b ∷ f) m = or_second (is_slash b) (has_slash (f ++ (47 ∷ m))) (has_slash-middle f m)
+has_slash-middle (b ∷ f) m = or_right (is_slash b) (has_slash (f ++ (47 ∷ m))) (has_slash-middle f m)
 
 pub segments-cut : (f m : List ℕ) → has_slash f ≡ false → segments (f ++ (47 ∷ m)) ≡ f ∷ segments m
 segments-cut [] m h = refl
 segments-cut (b ∷ f) m h =
-    let p = or_left (is_slash b) (has_slash f) h in
+    let p = or_parts (is_slash b) (has_slash f) h in
     cond-false (is_slash b) _ _ p.0 ∙ rw (segments-cut f m p.1) refl
 
 pub segments-alone : (s : List ℕ) → has_slash s ≡ false → segments s ≡ s ∷ []
 segments-alone [] h = refl
 segments-alone (b ∷ s) h =
-    let p = or_left (is_slash b) (has_slash s) h in
+    let p = or_parts (is_slash b) (has_slash s) h in
     cond-false (is_slash b) _ _ p.0 ∙ rw (segments-alone s p.1) refl
 
 pub folder-cut : (f m : List ℕ) → folder (f ++ (47 ∷ m)) ≡ f ++ (47 ∷ folder m)
@@ -91,6 +79,6 @@ has_slash-file_name (b ∷ s) =
 pub has_nul-parts : (xs ys : List ℕ) → has_nul (xs ++ ys) ≡ false → (has_nul xs ≡ false) × (has_nul ys ≡ false)
 has_nul-parts [] ys h = (refl, h)
 has_nul-parts (x ∷ xs) ys h =
-    let p = or_left (x == 0) (has_nul (xs ++ ys)) h in
+    let p = or_parts (x == 0) (has_nul (xs ++ ys)) h in
     let q = has_nul-parts xs ys p.1 in
-    (or_right (x == 0) (has_nul xs) p.0 q.0, q.1)
+    (or_from (x == 0) (has_nul xs) p.0 q.0, q.1)

@@ -50,9 +50,10 @@ fn path_from(alloc: Global, base: &str, uri: &str) -> Result<Text, NoMemory>
     joined(alloc, kept.as_slice())
 }
 
-/// The path of the document that `uri` names in the document at `base`. A uri that begins with `/` stands as it is.
-/// Any other follows `base` up to its last `/`; then the segments `.` go, and, as long as there is one, a segment
-/// that is neither empty nor `..` and that `..` follows goes with it. It is `Scheme` exactly where the uri holds `://`.
+/// The path of the document that `uri` names in the document at `base`. A uri that begins with `/`
+/// stands as it is. Any other follows `base` up to its last `/`; then the segments `.` go, and, as
+/// long as there is one, a segment that is neither empty nor `..` and that `..` follows goes with
+/// it. It is `Scheme` exactly where the uri holds `://`.
 ///
 /// The time is linear in the two texts. (OpenWDL 1.1, "Import statements".)
 pub fn resolve(alloc: Global, base: &str, uri: &str) -> Result<Text, ResolveFault>

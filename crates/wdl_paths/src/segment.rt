@@ -9,7 +9,8 @@ ghost use Rattle.wdl_paths.specs.Keeping.{IsCut, Keeps, KeepsFolder, any_nul, en
 use std::alloc::Global;
 use wdl_base::{NoMemory, Text};
 
-/// What stands before the first slash of a text and what stands behind it; none where there is no slash.
+/// What stands before the first slash of a text and what stands behind it; none where there is no
+/// slash.
 pub fn cut(text: &str) -> Option<(&str, &str)>
     ensures { IsCut text.now result }
 {
@@ -56,7 +57,8 @@ fn is_here(segment: &str) -> bool
     segment == "."
 }
 
-/// Puts a segment behind those that are kept: `.` is not kept, and `..` takes a folder before it away.
+/// Puts a segment behind those that are kept: `.` is not kept, and `..` takes a folder before it
+/// away.
 pub fn put<'a>(kept: &mut Vec<&'a str>, segment: &'a str) -> Result<(), NoMemory>
     ensures { OnOk result (Keeps (texts kept.old.items) segment.now (texts kept.new.items)) }
 {

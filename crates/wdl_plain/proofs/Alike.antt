@@ -1,6 +1,5 @@
 -- The value of an expression hangs on the values of its own names alone.
-use Rattle.std.proofs.Common.{◌≡◌, Bool, true, false, ◌||◌, List, [], ◌∷◌, ◌++◌, map, sym, ap, ◌∙◌, subst, refl}
-use Rattle.std.proofs.lemmas.Bool.{false≢true, or_left, or_right}
+use Rattle.std.proofs.Common.{◌≡◌, true, List, [], ◌∷◌, ◌++◌, map, sym, ap, ◌∙◌, subst, refl}
 use Rattle.wdl_base.specs.declared.name.Key.{Key}
 use Rattle.wdl_value.specs.declared.env.Bind.{Bind}
 use Rattle.wdl_value.specs.declared.value.Value.{Value}
@@ -13,26 +12,9 @@ use Rattle.wdl_typed.specs.declared.expr.TPart.{TPart}
 use Rattle.wdl_typed.specs.declared.expr.TPart.TheVariants as part
 use Rattle.wdl_typed.specs.Evaluation.{Met, found, met, node_step, settled, then_, value_met, value_of, value_step}
 use Rattle.wdl_typed.specs.Requests.{before}
-use Rattle.wdl_typed.specs.Scope.{all_names, field_names, is_among, lookup, names_of, names_step, part_names, row_names, same_key}
+use Rattle.wdl_typed.specs.Scope.{all_names, field_names, is_among, lookup, names_of, names_step, part_names, row_names}
 use Rattle.wdl_eval.proofs.PartMaps.{part_of, parts_map}
-use Rattle.flow_soundness.proofs.NewNames.{same_key-refl}
-
--- ---- names among others
-
-either : (b c d : Bool) → (c ≡ true → d ≡ true) → (b || c) ≡ true → (b || d) ≡ true
-either true c d f h = refl
-either false c d f h = f h
-
-pub among_left : (key : Key) (xs ys : List Key) → is_among key xs ≡ true → is_among key (xs ++ ys) ≡ true
-among_left key [] ys h = absurd (false≢true h)
-among_left key (x ∷ xs) ys h = either (same_key x key) (is_among key xs) (is_among key (xs ++ ys)) (among_left key xs ys) h
-
-pub among_right : (key : Key) (xs ys : List Key) → is_among key ys ≡ true → is_among key (xs ++ ys) ≡ true
-among_right key [] ys h = h
-among_right key (x ∷ xs) ys h = or_right (same_key x key) (is_among key (xs ++ ys)) (among_right key xs ys h)
-
-among_one : (key : Key) → is_among key (key ∷ []) ≡ true
-among_one key = or_left (same_key key key) false (same_key-refl key)
+use Rattle.wdl_eval.proofs.Names.{among_left, among_right, among_one}
 
 -- ---- values over two environments
 

@@ -7,6 +7,7 @@ use Rattle.wdl_plain.specs.Referring.{are_known, pick, picked, picks}
 use Rattle.wdl_flow.specs.Views.{knowns_of}
 use Rattle.wdl_typed.specs.Flow.{is_known}
 use Rattle.std.specs.List.{list_all}
+use Rattle.wdl_names.proofs.FreshLemmas.{and_assoc}
 
 module _ (ks : List Known) where
   pub picked_is : (env : List Bind) (keys : List Key) → picked ks env keys ≡ picks ks env keys
@@ -40,10 +41,6 @@ module _ (ks : List Known) where
   picked_two n m l xs ys zs d e f = e ∙ ap (λ k. picked ks k ys) d ∙ sym (picked_append n xs ys) ∙ ap (picked ks n) (sym f)
 
 -- ---- whether names are known
-
-and_assoc : (a b c : Bool) → (a && (b && c)) ≡ ((a && b) && c)
-and_assoc true b c = refl
-and_assoc false b c = refl
 
 module _ (ks : List Known) where
   pub known_is : (keys : List Key) → are_known ks keys ≡ list_all (is_known (knowns_of ks)) keys

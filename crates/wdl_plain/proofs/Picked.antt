@@ -19,22 +19,7 @@ use Rattle.flow_soundness.proofs.NewNames.{same_key-refl}
 use Rattle.wdl_plain.proofs.Alike.{Agree, values_alike}
 use Rattle.wdl_flow.proofs.MarkLemmas.{same_key-true}
 use Rattle.wdl_plain.proofs.PickLemmas.{picked_is}
-
-lookup_front : (env more : List Bind) (key : Key) (x : Value) → lookup env key ≡ Some x → lookup (env ++ more) key ≡ Some x
-lookup_front [] more key x h = absurd (cc)
-lookup_front (b ∷ bs) more key x h = by_test (same_key b.key key) h (lookup_front bs more key x)
-  where
-    by_test : (s : Bool) → cond s (Some b.value) (lookup bs key) ≡ Some x → (lookup bs key ≡ Some x → lookup (bs ++ more) key ≡ Some x) → cond s (Some b.value) (lookup (bs ++ more) key) ≡ Some x
-    by_test true h rest = h
-    by_test false h rest = rest h
-
-lookup_back : (env more : List Bind) (key : Key) → lookup env key ≡ None → lookup (env ++ more) key ≡ lookup more key
-lookup_back [] more key h = refl
-lookup_back (b ∷ bs) more key h = by_test (same_key b.key key) h (lookup_back bs more key)
-  where
-    by_test : (s : Bool) → cond s (Some b.value) (lookup bs key) ≡ None → (lookup bs key ≡ None → lookup (bs ++ more) key ≡ lookup more key) → cond s (Some b.value) (lookup (bs ++ more) key) ≡ lookup more key
-    by_test true h rest = absurd (cc)
-    by_test false h rest = rest h
+use Rattle.wdl_task.proofs.Fit.{value_kept as lookup_front, value_later as lookup_back}
 
 module _ (ks : List Known) where
   abbrev full : List Bind

@@ -41,7 +41,8 @@ fn have_ended(after: &[Name], sight: &Sight) -> bool
     true
 }
 
-/// Whether the names of a call's arguments all have a value, and the calls that it comes after have ended.
+/// Whether the names of a call's arguments all have a value, and the calls that it comes after have
+/// ended.
 pub fn may_begin(call: &TCall, sight: &Sight) -> bool
     ensures { result ≡ (flow.args_known (knowns_of sight.now.names) call.now.args && list_all (flow.has_ended (endeds_of sight.now.calls)) call.now.after) }
 {

@@ -5,7 +5,12 @@ ghost use Rattle.wdl_typed.specs.Declarations.{plain_key};
 ghost use Rattle.wdl_typed.specs.Flow as flow;
 ghost use Rattle.wdl_typed.specs.Scope.{lookup};
 ghost use Rattle.wdl_flow.specs.Flows.{Flows};
-ghost use Rattle.flow_soundness.specs.Readiness.{AreDeclsReady, AreInputsReady, IsDeclReady, IsInputReady};
+ghost use Rattle.flow_soundness.specs.Readiness.{
+  AreDeclsReady,
+  AreInputsReady,
+  IsDeclReady,
+  IsInputReady,
+};
 ghost use Rattle.wdl_flow.specs.Views.{env_in, flowing_of, sight_of};
 
 use crate::valued::{may_evaluate, value_now};

@@ -15,9 +15,9 @@ use wdl_flow::{Answers, AskedJob, Flowing, Ground, Known, Names, PlainFault, Ter
 use wdl_typed::{Checked, FlowDef, TDecl};
 use wdl_value::{Bind, Entry, Env, Fault, Items, Key, NoMemory, Place, Request, Steps, Text};
 
-/// What a workflow gives over a journal: the names with a value, the requests, for each of these the terms of its job, the
-/// faults and the places that wait for an answer, each in the order of the definition, and the outputs where there are no
-/// faults and no waits.
+/// What a workflow gives over a journal: the names with a value, the requests, for each of these
+/// the terms of its job, the faults and the places that wait for an answer, each in the order of
+/// the definition, and the outputs where there are no faults and no waits.
 #[derive(Debug, Drop)]
 pub struct Flow {
     pub known: Items<Bind>,
@@ -126,8 +126,9 @@ fn shown(alloc: Global, main: &FlowDef, flow: Flowing) -> Result<Flow, NoMemory>
     })
 }
 
-/// What the main workflow gives for its inputs over a journal, evaluated from scratch. `TooMany` exactly where it has more
-/// than 20,000 jobs or more than 1,000,000 instances of statements. There are as many terms as requests.
+/// What the main workflow gives for its inputs over a journal, evaluated from scratch. `TooMany`
+/// exactly where it has more than 20,000 jobs or more than 1,000,000 instances of statements. There
+/// are as many terms as requests.
 pub fn flow_now<L: Ledger>(
     alloc: Global,
     checked: &Checked,

@@ -1,4 +1,5 @@
-//! The flow of a workflow over a finished journal, evaluated from scratch: its program follows the definition.
+//! The flow of a workflow over a finished journal, evaluated from scratch: its program follows the
+//! definition.
 #![tactic(auto)]
 
 mod arguments;

@@ -21,8 +21,8 @@ pub fn may_evaluate(e: &TExpr, names: &Names) -> bool
     all_known(e, names)
 }
 
-/// The value of an expression whose names all have a value. It is evaluated over its own names alone, so its time does not
-/// grow with the number of names that are seen.
+/// The value of an expression whose names all have a value. It is evaluated over its own names
+/// alone, so its time does not grow with the number of names that are seen.
 pub fn value_now<L: Ledger>(
     alloc: Global,
     e: &TExpr,

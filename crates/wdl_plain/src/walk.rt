@@ -9,7 +9,13 @@ ghost use Rattle.wdl_typed.specs.Flow as flow;
 ghost use Rattle.wdl_task.specs.Readiness.{are_given};
 ghost use Rattle.wdl_flow.specs.Flows.{Flows};
 ghost use Rattle.wdl_flow.specs.Views.{env_in, flowing_of, given_of, run_of, sight_of};
-ghost use Rattle.flow_soundness.specs.Readiness.{AreItemsReady, IsBodyReady, IsCalleeReady, IsFlowReady, IsStatementReady};
+ghost use Rattle.flow_soundness.specs.Readiness.{
+  AreItemsReady,
+  IsBodyReady,
+  IsCalleeReady,
+  IsFlowReady,
+  IsStatementReady,
+};
 ghost use Rattle.flow_soundness.specs.StatementFlow as statements;
 ghost use Rattle.wdl_plain.specs.Walk as spec;
 
@@ -30,7 +36,8 @@ use wdl_task::CallFault;
 use wdl_typed::{FlowDef, Statement, TCall, TIf, TScatter, Target};
 use wdl_value::{Env, Place, Segment, Steps, Value};
 
-/// How many blocks and calls may still stand in one another, and how deep workflows may still call workflows.
+/// How many blocks and calls may still stand in one another, and how deep workflows may still call
+/// workflows.
 #[derive(Clone, Copy, Debug)]
 pub struct Reach {
     pub levels: u32,

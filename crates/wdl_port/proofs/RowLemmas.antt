@@ -68,7 +68,7 @@ kept_put row (next ∷ rows) h k =
     let r : are_kept rows ≡ true = grind (arith, k) in
     kept_placed (row_order row next) row next rows (put_row row rows) h n r (kept_put row rows h r)
 
-less : (o : Ordering) → is_lt o ≡ true → o ≡ Less
+pub less : (o : Ordering) → is_lt o ≡ true → o ≡ Less
 less Less h = refl
 less Equal h = grind arith
 less Greater h = grind arith

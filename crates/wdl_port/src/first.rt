@@ -58,7 +58,8 @@ fn scan<'a>(place: &[Segment], attempt: u32, rows: &'a [TableRow]) -> Option<&'a
     None
 }
 
-/// The answer of the first row of a place and attempt. It goes over the rows from the first one of the place.
+/// The answer of the first row of a place and attempt. It goes over the rows from the first one of
+/// the place.
 pub(crate) fn answer_of<'a>(
     alloc: Global,
     place: &Place,

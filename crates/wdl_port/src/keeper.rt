@@ -1,4 +1,18 @@
-ghost use Rattle.std.specs.Prelude.{◌≡◌, ℕ, List, Option, Some, None, true, false, IfOk, OnOk, OnErr, IsErrOf, IsSome};
+ghost use Rattle.std.specs.Prelude.{
+  ◌≡◌,
+  ℕ,
+  List,
+  Option,
+  Some,
+  None,
+  true,
+  false,
+  IfOk,
+  OnOk,
+  OnErr,
+  IsErrOf,
+  IsSome,
+};
 ghost use Rattle.wdl_port.specs.Causes.{HasCauseOf};
 ghost use Rattle.wdl_port.specs.Rows.{are_kept, rises, with_entry, ToldRise, AreRows};
 ghost use Rattle.wdl_base.specs.Plain.{has_nul};
@@ -9,11 +23,11 @@ use sqlite_items::Items;
 use std::alloc::Global;
 use wdl_value::Entry;
 
-/// What keeps the journal of a run: its rows are entries with the source `Kept`, at most one for a place and attempt,
-/// in strictly rising order of the text of the place and then of the attempt.
+/// What keeps the journal of a run: its rows are entries with the source `Kept`, at most one for a
+/// place and attempt, in strictly rising order of the text of the place and then of the attempt.
 ///
-/// `Failed` comes only where the count of faults rose in that call, or stands at the last value of `u64`. A call that
-/// fails, or that wants memory, leaves the rows as they were.
+/// `Failed` comes only where the count of faults rose in that call, or stands at the last value of
+/// `u64`. A call that fails, or that wants memory, leaves the rows as they were.
 pub trait Keeper {
     /// The rows, where the keeper tells them.
     ghost kept: { Self → Option (List Row) };
@@ -24,8 +38,8 @@ pub trait Keeper {
     /// How often it has failed.
     ghost faults: { Self → ℕ };
 
-    /// Begins the use of the journal of that path. From then on the keeper is started on this path, after `Failed`
-    /// too; after `NoMemory` it is not started.
+    /// Begins the use of the journal of that path. From then on the keeper is started on this path,
+    /// after `Failed` too; after `NoMemory` it is not started.
     fn start(&mut self, alloc: Global, at: &str) -> Result<(), KeepFault>
         requires fresh { path self.old ≡ None }
         requires plain { has_nul at.now ≡ false }
@@ -46,8 +60,8 @@ pub trait Keeper {
         ensures path { path self.new ≡ path self.old }
         ensures cause { HasCauseOf (faults self.old) (faults self.new) result KeepFault.Failed };
 
-    /// Replaces the row of the entry's place and attempt, or adds it, in a keeper that was started. No other row is
-    /// changed. The row is the entry with the source `Kept`.
+    /// Replaces the row of the entry's place and attempt, or adds it, in a keeper that was started.
+    /// No other row is changed. The row is the entry with the source `Kept`.
     fn put(&mut self, alloc: Global, entry: &Entry) -> Result<(), KeepFault>
         requires { IsSome (path self.old) }
         ensures kept { OnOk result (kept self.new ≡ with_entry (kept self.old) entry.now) }

@@ -1,5 +1,6 @@
-//! The outside of the program: the traits of a shelf of files, a sink of bytes, a launcher of commands and a keeper of
-//! the journal, whose meanings are ghost members, and implementations in memory.
+//! The outside of the program: the traits of a shelf of files, a sink of bytes, a launcher of
+//! commands and a keeper of the journal, whose meanings are ghost members, and implementations in
+//! memory.
 #![tactic(auto)]
 
 mod fault;

@@ -9,8 +9,8 @@ use sqlite_items::Items;
 use std::alloc::Global;
 use wdl_value::{Entry, Text};
 
-/// A journal in memory, which tells its rows. The calls with the listed numbers fail; calls are numbered from 1.
-/// A `put` looks its place up by halves.
+/// A journal in memory, which tells its rows. The calls with the listed numbers fail; calls are
+/// numbered from 1. A `put` looks its place up by halves.
 #[derive(Debug, Drop)]
 pub struct MapKeeper {
     pub rows: Vec<Entry>,
@@ -40,7 +40,8 @@ impl MapKeeper {
         }
     }
 
-    /// A keeper with the same rows that was not started. Its calls are numbered from 1 again. It takes no memory.
+    /// A keeper with the same rows that was not started. Its calls are numbered from 1 again. It
+    /// takes no memory.
     pub fn again(self, fails: Items<u64>) -> MapKeeper
         ensures rows { result.rows.items ≡ self.rows.items }
         ensures fails { result.fails ≡ fails }

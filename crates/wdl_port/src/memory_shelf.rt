@@ -17,7 +17,8 @@ pub struct PathFile {
     pub bytes: Items<u8>,
 }
 
-/// Files in a list: the first file of a path counts. The calls with the listed numbers fail; calls are numbered from
+/// Files in a list: the first file of a path counts. The calls with the listed numbers fail; calls
+/// are numbered from
 /// 1. A read goes over the list once.
 #[derive(Debug, Drop)]
 pub struct MemoryShelf {
@@ -56,8 +57,8 @@ pub(crate) fn is_listed(number: u64, numbers: &[u64]) -> bool
     false
 }
 
-/// The most bytes that a shelf gives of a file: one more than the 1,048,576 of a document. It is a call, since the
-/// proofs would unfold `take` of a numeral that often.
+/// The most bytes that a shelf gives of a file: one more than the 1,048,576 of a document. It is a
+/// call, since the proofs would unfold `take` of a numeral that often.
 #[tactic(auto, unfolding(crate::specs::Files::read_limit))]
 pub fn read_limit() -> usize
     ensures { result ≡ spec_limit }

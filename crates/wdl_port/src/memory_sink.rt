@@ -1,4 +1,18 @@
-ghost use Rattle.std.specs.Prelude.{◌≡◌, ◌+◌, ◌-◌, ◌≤◌, ◌<◌, ◌++◌, [], Some, IfOk, OnErr, length, vec_len, vec_capacity};
+ghost use Rattle.std.specs.Prelude.{
+  ◌≡◌,
+  ◌+◌,
+  ◌-◌,
+  ◌≤◌,
+  ◌<◌,
+  ◌++◌,
+  [],
+  Some,
+  IfOk,
+  OnErr,
+  length,
+  vec_len,
+  vec_capacity,
+};
 ghost use Rattle.std.specs.Result.{result_ok};
 ghost use Rattle.wdl_port.specs.Causes.{HasCause};
 ghost use Rattle.wdl_port.specs.Memory as spec;
@@ -11,8 +25,8 @@ use sqlite_items::Items;
 use std::alloc::Global;
 use wdl_value::NoMemory;
 
-/// Bytes in memory. A write takes what fits into the room that is left, and fails where none is left. The calls with
-/// the listed numbers fail too; calls are numbered from 1.
+/// Bytes in memory. A write takes what fits into the room that is left, and fails where none is
+/// left. The calls with the listed numbers fail too; calls are numbered from 1.
 #[derive(Debug, Drop)]
 pub struct MemorySink {
     pub bytes: Vec<u8>,

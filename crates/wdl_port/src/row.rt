@@ -2,7 +2,12 @@ ghost use Rattle.std.specs.Prelude.{◌≡◌, true, IfOk, OnOk, OnErr};
 ghost use Rattle.std.specs.Cmp.Lexicographic.{slice_cmp};
 ghost use Rattle.std.specs.Ordering.{is_lt, nat_cmp, ordering_then};
 ghost use Rattle.wdl_base.specs.Places.{place_text as spec_text};
-ghost use Rattle.wdl_port.specs.Rows.{kept_row, put_row as spec_put, rises as spec_rises, row_order};
+ghost use Rattle.wdl_port.specs.Rows.{
+  kept_row,
+  put_row as spec_put,
+  rises as spec_rises,
+  row_order,
+};
 ghost use Rattle.wdl_port.specs.Spots.{IsSpot};
 
 use sqlite_items::Items;
@@ -10,7 +15,8 @@ use std::alloc::Global;
 use std::cmp::Ordering;
 use wdl_value::{Entry, NoMemory, Request, Source, Text, place_text};
 
-/// Where a row belongs in rows that rise: in the place of the row of its place and attempt, or before a row.
+/// Where a row belongs in rows that rise: in the place of the row of its place and attempt, or
+/// before a row.
 enum Spot {
     At(usize),
     Before(usize),

@@ -7,7 +7,8 @@ use crate::fault::ReadFault;
 use sqlite_items::Items;
 use std::alloc::Global;
 
-/// Files by path. No call changes what it tells of them, nor which paths it refuses; its count of faults never falls.
+/// Files by path. No call changes what it tells of them, nor which paths it refuses; its count of
+/// faults never falls.
 pub trait Shelf {
     /// The bytes of the file at a path, where the shelf tells them.
     ghost tells: { Self → List ℕ → Option (List ℕ) };
@@ -18,8 +19,9 @@ pub trait Shelf {
     /// How often it has failed.
     ghost faults: { Self → ℕ };
 
-    /// The bytes of the file, cut after the first 1,048,577. `Failed` comes only for a path that the shelf refuses, and
-    /// only where the count of faults rose in this call, or stands at the last value of `u64`.
+    /// The bytes of the file, cut after the first 1,048,577. `Failed` comes only for a path that
+    /// the shelf refuses, and only where the count of faults rose in this call, or stands at the
+    /// last value of `u64`.
     fn read(&mut self, alloc: Global, path: &str) -> Result<Items<u8>, ReadFault>
         ensures bytes { IfOk result (IsFile (tells self.old path.now)) }
         ensures refused { IsErrOf result ReadFault.Failed → refuses self.old path.now }

@@ -12,9 +12,9 @@ pub trait Sink {
     /// How often it has failed.
     ghost faults: { Self → ℕ };
 
-    /// Appends the first bytes of the piece, and says how many: at least one of a piece that is not empty. A fault comes
-    /// only where the count of faults rose in this call, or stands at the last value of `u64`, and then nothing was
-    /// appended. It takes no memory.
+    /// Appends the first bytes of the piece, and says how many: at least one of a piece that is not
+    /// empty. A fault comes only where the count of faults rose in this call, or stands at the last
+    /// value of `u64`, and then nothing was appended. It takes no memory.
     fn write(&mut self, piece: &[u8]) -> Result<usize, WriteFault>
         ensures within { IfOk result (λ n. n ≤ length piece.now) }
         ensures some { IfOk result (λ n. 0 < length piece.now → 0 < n) }

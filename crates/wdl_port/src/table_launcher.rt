@@ -12,8 +12,8 @@ use std::alloc::Global;
 use std::collections::BTreeMap;
 use wdl_value::{Answer, NoMemory, Place, Request, Segment, same_place};
 
-/// Answers in a table: the first row of a place and attempt counts. It refuses exactly the listed places and those
-/// without a row. A launch goes over the listed places, and looks its row up.
+/// Answers in a table: the first row of a place and attempt counts. It refuses exactly the listed
+/// places and those without a row. A launch goes over the listed places, and looks its row up.
 #[derive(Debug, Drop)]
 pub struct TableLauncher {
     pub rows: Items<TableRow>,

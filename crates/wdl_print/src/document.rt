@@ -89,9 +89,10 @@ fn tokens_text(alloc: Global, tokens: &[Token]) -> Result<Text, NoMemory>
     Ok(text)
 }
 
-/// The text of a document: its tokens in order, escaped where they stand in strings, with a line for each brace and each
-/// command. It is refused as `TooLong` exactly where it has more than [`PRINT_LIMIT`] bytes. The tokens are listed once, and
-/// the text is written in one pass over them. (OpenWDL 1.1: "Document", "Strings", "Command Section".)
+/// The text of a document: its tokens in order, escaped where they stand in strings, with a line
+/// for each brace and each command. It is refused as `TooLong` exactly where it has more than
+/// [`PRINT_LIMIT`] bytes. The tokens are listed once, and the text is written in one pass over
+/// them. (OpenWDL 1.1: "Document", "Strings", "Command Section".)
 pub fn document_text(alloc: Global, document: &Document) -> Result<Text, PrintFault>
     ensures value { IfOk result (λ text. text ≡ spec.printed_document document.now) }
     ensures short { IfOk result (λ text. length text ≤ 1048576) }

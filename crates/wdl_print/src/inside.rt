@@ -6,7 +6,8 @@ use std::alloc::{AllocError, Global};
 use std::marker::Model;
 use wdl_ast::{Fence, Kind, Quote};
 
-/// What is open behind a token: the characters of a string or of a command, or a placeholder in them.
+/// What is open behind a token: the characters of a string or of a command, or a placeholder in
+/// them.
 #[derive(Clone, Copy, Debug, PartialEq, Eq)]
 pub enum Open {
     Quoted(Quote),

@@ -1,4 +1,5 @@
-//! Documents as texts: the tokens of a tree, written one behind the other (OpenWDL 1.1, "Document").
+//! Documents as texts: the tokens of a tree, written one behind the other (OpenWDL 1.1,
+//! "Document").
 #![tactic(auto)]
 
 mod document;

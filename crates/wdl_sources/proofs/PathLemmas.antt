@@ -8,17 +8,12 @@ use Rattle.std.specs.Str.{bytes_eq}
 use Rattle.std.specs.String.{string_eq}
 use Rattle.std.proofs.lemmas.List.{map-append}
 use Rattle.std.proofs.lemmas.Slice.Eq.{bytes_eq-Decides}
+use Rattle.std.proofs.lemmas.Option.{same_Some, none-some}
 use Rattle.indexmap.specs.IndexMap.{IndexMap, insert_entry}
 use Rattle.indexmap.proofs.CallerLemmas.{insert_entry-new}
 use Rattle.wdl_base.specs.Names.{is_among}
 use Rattle.wdl_sources.specs.declared.source.Source.{Source}
 use Rattle.wdl_sources.specs.Walks.{paths}
-
-some_same : {A : Type 0} (x y : A) → Some x ≡ Some y → x ≡ y
-some_same x y e = cc
-
-none_some : {A : Type 0} (x : A) → None ≡ Some x → ⊥
-none_some x e = cc
 
 is_none : {A : Type 0} (o : Option A) → is_some o ≡ false → o ≡ None
 is_none None h = refl
@@ -53,7 +48,7 @@ found_path path es h = found_among path es ∙ ap (is_among path) h
 
 -- the document that is found has the path
 has_path : (path : List ℕ) (es : Entries) (s : Source) → AreByPath es → at_path path es ≡ Some s → s.path ≡ path
-has_path path [] s h f = absurd (none_some s f)
+has_path path [] s h f = absurd (none-some s f)
 has_path path (e ∷ es) s h f = on (λ g. has_path path es s (heads h).1 g) (bytes_eq path (string_bytes e.0)) refl f
   where
     heads : string_bytes e.0 ∷ map (λ k. string_bytes k) (keys_of es) ≡ e.1.path ∷ paths (values_of es)
@@ -61,7 +56,7 @@ has_path path (e ∷ es) s h f = on (λ g. has_path path es s (heads h).1 g) (by
     heads q = ((cc), (cc))
 
     on : (at_path path es ≡ Some s → s.path ≡ path) → (b : Bool) → bytes_eq path (string_bytes e.0) ≡ b → cond b (Some e.1) (at_path path es) ≡ Some s → s.path ≡ path
-    on more true is g = ap (λ (x : Source). x.path) (sym (some_same e.1 s g)) ∙ sym (heads h).0 ∙ sym ((bytes_eq-Decides path (string_bytes e.0)).0 is)
+    on more true is g = ap (λ (x : Source). x.path) (sym (same_Some e.1 s g)) ∙ sym (heads h).0 ∙ sym ((bytes_eq-Decides path (string_bytes e.0)).0 is)
     on more false is g = more g
 
 value_at : (es : Entries) (k : ℕ) → k < length es → (s : Source) × (slice_get (values_of es) k ≡ Some s) × (slice_get (paths (values_of es)) k ≡ Some s.path)

@@ -1,6 +1,6 @@
 -- Documents in the order in which they are read.
-use Rattle.std.proofs.Common.{◌≡◌, ℕ, suc, Bool, true, false, ◌||◌, List, [], ◌∷◌, ◌++◌, length, reverse, refl, sym, ap, ◌∙◌, subst, inl, inr, append_assoc, append-nil, Option, Some, None, take, if◌then◌else◌}
-use Rattle.std.proofs.lemmas.Bool.{true≢false, cond-true, cond-false}
+use Rattle.std.proofs.Common.{◌≡◌, ℕ, suc, Bool, true, false, List, [], ◌∷◌, ◌++◌, length, reverse, refl, sym, ap, ◌∙◌, subst, inl, inr, append_assoc, append-nil, Option, Some, None, take, if◌then◌else◌}
+use Rattle.std.proofs.lemmas.Bool.{cond-true, cond-false, or_parts}
 use Rattle.std.proofs.lemmas.List.{reverse-append, map-append}
 use Rattle.std.proofs.lemmas.Slice.Eq.{bytes_eq-Decides}
 use Rattle.std.specs.Str.{bytes_eq}
@@ -44,10 +44,6 @@ walk_more files read waiting (x ∷ xs) rest s next w step = (
 pub with_bytes : Files → List ℕ → List ℕ → Files
 with_bytes files p bytes q = if bytes_eq q p then bytes else files q
 
-or_left : (b c : Bool) → b || c ≡ false → (b ≡ false) × (c ≡ false)
-or_left true c h = absurd (true≢false h)
-or_left false c h = (refl, h)
-
 other_bytes : (files : Files) (p bytes q : List ℕ) → bytes_eq q p ≡ false → with_bytes files p bytes q ≡ files q
 unfolding with_bytes
 other_bytes files p bytes q h = cond-false (bytes_eq q p) _ _ h
@@ -69,7 +65,7 @@ walk_other : (files : Files) (p bytes : List ℕ) (read : List (List ℕ)) (wait
     → is_among p (paths ss) ≡ false → Walk files read waiting ss rest → Walk (with_bytes files p bytes) read waiting ss rest
 walk_other files p bytes read waiting [] rest h w = w
 walk_other files p bytes read waiting (s ∷ ss) rest h w =
-    let k = or_left (bytes_eq s.path p) (is_among p (paths ss)) h in
+    let k = or_parts (bytes_eq s.path p) (is_among p (paths ss)) h in
     let step = w.1 in (
       w.0,
       record {

@@ -21,7 +21,8 @@ pub struct Source {
     pub document: Document,
 }
 
-/// The document that bytes are, whose spans have this number. Where there are no tokens the fault has it too.
+/// The document that bytes are, whose spans have this number. Where there are no tokens the fault
+/// has it too.
 pub fn document_of(alloc: Global, bytes: &[u8], number: u32) -> Result<Document, ParseFault>
     ensures { spec.IsOutcome number bytes.now result }
 {

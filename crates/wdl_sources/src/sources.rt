@@ -1,6 +1,19 @@
 //! The documents that were read.
 
-ghost use Rattle.std.specs.Prelude.{◌≡◌, ◌<◌, ◌++◌, ◌∷◌, [], false, length, slice_get, Some, IfSome, IfNone, OnOk};
+ghost use Rattle.std.specs.Prelude.{
+  ◌≡◌,
+  ◌<◌,
+  ◌++◌,
+  ◌∷◌,
+  [],
+  false,
+  length,
+  slice_get,
+  Some,
+  IfSome,
+  IfNone,
+  OnOk,
+};
 ghost use Rattle.wdl_base.specs.Names.{is_among};
 ghost use Rattle.wdl_sources.specs.Walks as spec;
 

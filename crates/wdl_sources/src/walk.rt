@@ -1,6 +1,18 @@
 //! The documents that imports lead to, depth first.
 
-ghost use Rattle.std.specs.Prelude.{◌≡◌, ◌↔◌, ◌≤◌, ◌++◌, ℕ, List, false, length, reverse, IfOk, OnOk};
+ghost use Rattle.std.specs.Prelude.{
+  ◌≡◌,
+  ◌↔◌,
+  ◌≤◌,
+  ◌++◌,
+  ℕ,
+  List,
+  false,
+  length,
+  reverse,
+  IfOk,
+  OnOk,
+};
 ghost use Rattle.wdl_base.specs.Names.{is_among};
 ghost use Rattle.wdl_base.specs.Plain.{has_nul};
 ghost use Rattle.wdl_sources.specs.Walks as spec;
@@ -18,7 +30,8 @@ use wdl_value::{NoMemory, Span, Text};
 /// The most documents of a library.
 const MAX_DOCUMENTS: usize = 64;
 
-/// A document that is to be read: its path, and the path and the place of the import that leads to it.
+/// A document that is to be read: its path, and the path and the place of the import that leads to
+/// it.
 #[derive(Drop)]
 pub struct Step {
     pub path: Text,
@@ -39,7 +52,8 @@ fn step_of(alloc: Global, base: &Text, want: Want) -> Result<Step, NoMemory>
     Ok(Step { path, base, span })
 }
 
-/// Puts the documents that a document imports before the steps that wait; the next step stands last.
+/// Puts the documents that a document imports before the steps that wait; the next step stands
+/// last.
 fn put_before(
     alloc: Global,
     base: &Text,
@@ -90,8 +104,8 @@ fn with_wants(alloc: Global, source: Source) -> Result<(Source, Items<Want>), Im
     }
 }
 
-/// Reads the document at a step, whose path was not read yet, and puts what it imports before the steps that wait. 205 is answered
-/// where there are 64 documents.
+/// Reads the document at a step, whose path was not read yet, and puts what it imports before the
+/// steps that wait. 205 is answered where there are 64 documents.
 fn take<F: Shelf>(
     alloc: Global,
     shelf: &mut F,
@@ -123,9 +137,10 @@ fn take<F: Shelf>(
     Ok(())
 }
 
-/// All documents that the one at a path leads to, depth first in the order of the imports, each once. `Read` is answered only for a
-/// path that the shelf refuses, and only where its count of faults rose; it is the given path, or that of an import of a document
-/// that was read before. With documents, or with `Bad`, each read succeeded: the shelf has counted no fault.
+/// All documents that the one at a path leads to, depth first in the order of the imports, each
+/// once. `Read` is answered only for a path that the shelf refuses, and only where its count of
+/// faults rose; it is the given path, or that of an import of a document that was read before. With
+/// documents, or with `Bad`, each read succeeded: the shelf has counted no fault.
 pub fn read_all<F: Shelf>(alloc: Global, shelf: &mut F, path: &str) -> Result<Sources, ImportFault>
     requires { has_nul path.now ≡ false }
     ensures outcome { spec.Gathers (F.tells shelf.old) (F.refuses shelf.old) (Rose (F.faults shelf.old) (F.faults shelf.new)) path.now result }

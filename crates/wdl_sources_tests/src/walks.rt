@@ -8,7 +8,8 @@ use wdl_port::{MemoryShelf, PathFile};
 use wdl_sources::{ImportFault, Source, read_all};
 use wdl_value::{Span, Text};
 
-/// A file of a path and its text; one that begins with `-` stands as it is behind that, and others follow the version.
+/// A file of a path and its text; one that begins with `-` stands as it is behind that, and others
+/// follow the version.
 fn file_of(alloc: Global, path: &str, text: &str) -> Result<PathFile, Fail> {
     let path = Text::new(alloc, path)?;
     let whole = match text.strip_prefix('-') {

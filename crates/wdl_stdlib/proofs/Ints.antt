@@ -1,5 +1,5 @@
 -- Numbers in the range of Int.
-use Rattle.std.proofs.Common.{◌≡◌, ◌<◌, ◌^◌, true, false, cond, Ok, Err, ℤ, pos, negsuc, ap, sym, ◌∙◌, refl, arith}
+use Rattle.std.proofs.Common.{◌≡◌, ◌<◌, ◌^◌, false, cond, Ok, Err, ℤ, pos, negsuc, ap, sym, ◌∙◌, refl, arith}
 use lib.Signed.{mag_rem, rem_z, quot_z}
 use mir.Val.{SFits, of_z}
 use mir.Syntax.{w64}
@@ -10,11 +10,7 @@ use Rattle.wdl_value.specs.declared.value.Value.TheVariants as v
 use Rattle.wdl_base.specs.declared.fault.EvalCode.TheVariants.{Overflow, ZeroDivisor}
 use Rattle.wdl_value.specs.Fits.{is_int}
 use Rattle.wdl_value.specs.Operate.{int_of, is_zero, quotient, remainder}
-
-pub is_int-fits : (z : ℤ) → SFits w64 z → is_int z ≡ true
-unfolding is_int
-is_int-fits (pos n) h = let k = h.sfits in grind (arith, nat_tests)
-is_int-fits (negsuc n) h = let k = h.sfits in grind (arith, nat_tests)
+use Rattle.wdl_value.proofs.ValueTextLemmas.{is_int-fits}
 
 is_int-not : (z : ℤ) → (SFits w64 z → ⊥) → is_int z ≡ false
 unfolding is_int

@@ -11,6 +11,7 @@ use Rattle.std.specs.BTreeSet.{BTreeSet, contains_text}
 use Rattle.std.specs.Global.{Global, Vec}
 use Rattle.std.specs.List.{filter, list_any}
 use Rattle.std.specs.Str.{bytes_eq}
+use Rattle.std.proofs.Math.Bool.{or_assoc}
 use Rattle.wdl_value.specs.declared.value.Value.{Value}
 use Rattle.wdl_value.specs.declared.value.Value.TheVariants as v
 use Rattle.wdl_value.specs.declared.value.MapRow.{MapRow}
@@ -32,16 +33,12 @@ AreLeft groups pairs = (key : List ℕ) (g : Vec Value) → get_by_text groups k
 
 -- ---- a key that is repeated
 
-regroup : (a b c d : Bool) → (cond a true b || (c || d)) ≡ ((b || c) || (a || d))
+pub regroup : (a b c d : Bool) → (cond a true b || (c || d)) ≡ ((b || c) || (a || d))
 regroup true true c d = refl
 regroup true false true d = refl
 regroup true false false d = refl
 regroup false true c d = refl
 regroup false false c d = refl
-
-or_assoc : (a b c : Bool) → ((a || b) || c) ≡ (a || (b || c))
-or_assoc true b c = refl
-or_assoc false b c = refl
 
 abbrev Adds : BTreeSet (String Global) → BTreeSet (String Global) → List ℕ → Type 0
 Adds seen more key = (other : List ℕ) → contains_text more other ≡ cond (bytes_eq key other) true (contains_text seen other)
@@ -92,7 +89,7 @@ filter_comm f g (x ∷ xs) = by_tests (filter_comm f g xs) (f x) refl (g x) refl
     by_tests e false h true k = rw (h, k) (rw h e)
     by_tests e false h false k = rw (h, k) e
 
-bytes_eq-refl : (xs : List ℕ) → bytes_eq xs xs ≡ true
+pub bytes_eq-refl : (xs : List ℕ) → bytes_eq xs xs ≡ true
 bytes_eq-refl xs = (bytes_eq-Decides xs xs).1 refl
 
 -- each of the first pairs has a key that one of the pairs has

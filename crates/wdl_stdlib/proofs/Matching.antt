@@ -1,6 +1,7 @@
 -- A pattern is matched from left to right by keeping the ends of the name that are left to match.
 use Rattle.std.proofs.Common.{◌≡◌, ℕ, suc, ◌+◌, ◌==◌, Bool, true, false, cond, ◌&&◌, ◌||◌, List, [], ◌∷◌, length, map, get_or, refl, sym, ap, ◌∙◌, arith}
 use Rattle.std.proofs.lemmas.Bool.{and_right}
+use Rattle.std.proofs.Math.Bool.{or-false, or_assoc, and_assoc}
 use Rattle.wdl_value.specs.Paths.{any_end, takes, one_then, wild}
 use Rattle.wdl_stdlib.specs.Glob.{first_row, moved, spread}
 
@@ -10,10 +11,6 @@ any_from [] test cs = false
 any_from (b ∷ bs) test [] = b && test []
 any_from (b ∷ bs) test (c ∷ cs) = (b && test (c ∷ cs)) || any_from bs test cs
 
-or_false : (b : Bool) → (b || false) ≡ b
-or_false true = refl
-or_false false = refl
-
 none_left : (test : List ℕ → Bool) (cs ds : List ℕ) → any_from (map (λ c. false) ds) test cs ≡ false
 none_left test cs [] = refl
 none_left test [] (d ∷ ds) = refl
@@ -21,21 +18,13 @@ none_left test (c ∷ cs) (d ∷ ds) = none_left test cs ds
 
 pub any_first : (test : List ℕ → Bool) (cs : List ℕ) → any_from (first_row cs) test cs ≡ test cs
 any_first test [] = refl
-any_first test (c ∷ cs) = ap (λ b. test (c ∷ cs) || b) (none_left test cs (c ∷ cs)) ∙ or_false (test (c ∷ cs))
+any_first test (c ∷ cs) = ap (λ b. test (c ∷ cs) || b) (none_left test cs (c ∷ cs)) ∙ or-false (test (c ∷ cs))
 
 -- ---- one character
 
-or_assoc : (a b c : Bool) → ((a || b) || c) ≡ (a || (b || c))
-or_assoc true b c = refl
-or_assoc false b c = refl
-
-and_assoc : (a b c : Bool) → ((a && b) && c) ≡ (a && (b && c))
-and_assoc true b c = refl
-and_assoc false b c = refl
-
 -- the test at the front apart
 front_apart : (b : Bool) (bs : List Bool) (test : List ℕ → Bool) (cs : List ℕ) → any_from (b ∷ bs) test cs ≡ ((b && test cs) || any_from (false ∷ bs) test cs)
-front_apart b bs test [] = sym (or_false (b && test []))
+front_apart b bs test [] = sym (or-false (b && test []))
 front_apart b bs test (c ∷ cs) = refl
 
 any_moved : (p : ℕ) (test : List ℕ → Bool) (row : List Bool) (cs : List ℕ) → any_from (false ∷ moved p row cs) test cs ≡ any_from row (one_then p test) cs

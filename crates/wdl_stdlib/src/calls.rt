@@ -135,9 +135,10 @@ fn applied(
     }
 }
 
-/// The value of a function of the standard library for arguments that fit a row of the table of functions; no function
-/// that writes files. `dir` is the directory of the job and `answer` what its command left: without an answer no file
-/// is there. A code is that of the function, or 510 where the value passes a limit.
+/// The value of a function of the standard library for arguments that fit a row of the table of
+/// functions; no function that writes files. `dir` is the directory of the job and `answer` what
+/// its command left: without an answer no file is there. A code is that of the function, or 510
+/// where the value passes a limit.
 pub fn apply(
     alloc: Global,
     f: Func,

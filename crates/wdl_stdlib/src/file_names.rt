@@ -54,7 +54,8 @@ fn is_here(part: &str) -> bool
     part == "" || part == "."
 }
 
-/// Puts a part behind those of a name. It is false where the part is `..` and there is none before it.
+/// Puts a part behind those of a name. It is false where the part is `..` and there is none before
+/// it.
 fn put<'a>(name: &mut Vec<&'a str>, part: &'a str) -> Result<bool, NoMemory>
     ensures { IfOk result (λ there. spec.with_part (texts name.old.items) part.now
         ≡ (if there then Some (texts name.new.items) else None)) }
@@ -107,9 +108,10 @@ fn relative_name(alloc: Global, path: &str) -> Result<Option<Text>, NoMemory>
     }
 }
 
-/// The name of the file of a path in the directory of a job. A directory and a slash at the front of the path are cut
-/// once; empty parts and `.` go, and each `..` goes with the part before it. It is none where the rest begins with a
-/// slash, where no part is before a `..`, and where no part is left.
+/// The name of the file of a path in the directory of a job. A directory and a slash at the front
+/// of the path are cut once; empty parts and `.` go, and each `..` goes with the part before it. It
+/// is none where the rest begins with a slash, where no part is before a `..`, and where no part is
+/// left.
 pub fn local_name(alloc: Global, dir: &Text, path: &Text) -> Result<Option<Text>, NoMemory>
     ensures value { IfOk result (λ name. name ≡ spec.local_name dir.now path.now) }
 {

@@ -21,8 +21,8 @@ fn seen_body<'a>(name: &str, files: &'a [Seen]) -> Option<&'a Body>
     None
 }
 
-/// The body of a file that the command left, by its name: `_stdout` and `_stderr` are its two streams. It is `None` where
-/// no such file is there.
+/// The body of a file that the command left, by its name: `_stdout` and `_stderr` are its two
+/// streams. It is `None` where no such file is there.
 pub fn left_body<'a>(answer: &'a Answer, name: &str) -> Option<&'a Body>
     ensures value { option_copied result ≡ spec.left_body answer.now name.now }
 {
@@ -74,8 +74,8 @@ fn body_text(alloc: Global, body: Option<&Body>) -> Result<Text, EvalFault>
     }
 }
 
-/// The text of the file of a path: 511 where it is not there, as always without an answer, 516 where its body is long,
-/// 512 where it is not UTF-8 or holds NUL.
+/// The text of the file of a path: 511 where it is not there, as always without an answer, 516
+/// where its body is long, 512 where it is not UTF-8 or holds NUL.
 pub fn file_text(
     alloc: Global,
     dir: &Text,

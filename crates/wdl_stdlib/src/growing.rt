@@ -28,7 +28,8 @@ impl Growing {
         }
     }
 
-    /// Appends the value. It is refused where no list that begins with these items keeps the limits.
+    /// Appends the value. It is refused where no list that begins with these items keeps the
+    /// limits.
     #[tactic(auto, using(crate::proofs::Past::past))]
     pub fn with(self, item: Value) -> Result<Growing, EvalFault>
         ensures items { IfOk result (λ g. g.items ≡ self.items ++ item ∷ []) }

@@ -2,7 +2,8 @@
 
 ghost use Rattle.wdl_stdlib.specs.Laws.{ApplyFits, OperateFits, NegateFits};
 
-/// Operands that fit a row of the table of operators have a value that fits the row's result, or a code.
+/// Operands that fit a row of the table of operators have a value that fits the row's result, or a
+/// code.
 pub fn operate_fits()
     ensures law { OperateFits }
 {}
@@ -12,8 +13,8 @@ pub fn negate_fits()
     ensures law { NegateFits }
 {}
 
-/// Arguments that fit a row of the table of functions, of a function that writes no file, have a value that fits the
-/// row's result, or a code.
+/// Arguments that fit a row of the table of functions, of a function that writes no file, have a
+/// value that fits the row's result, or a code.
 pub fn apply_fits()
     ensures law { ApplyFits }
 {}

@@ -1,5 +1,5 @@
-//! The values of the operators and the functions of the standard library (OpenWDL 1.1, "Expressions" and "Standard
-//! Library").
+//! The values of the operators and the functions of the standard library (OpenWDL 1.1,
+//! "Expressions" and "Standard Library").
 #![tactic(auto)]
 
 mod calls;

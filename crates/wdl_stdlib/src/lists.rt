@@ -117,7 +117,8 @@ fn crossed(alloc: Global, xs: &[Value], ys: &[Value]) -> Result<Value, EvalFault
     Ok(pairs.into_value())
 }
 
-/// Each item of the first list with each of the second, row by row; it stops at the limit of a value.
+/// Each item of the first list with each of the second, row by row; it stops at the limit of a
+/// value.
 pub fn cross(alloc: Global, x: &Value, y: &Value) -> Result<Value, EvalFault>
     ensures { Makes (spec.cross_of x.now y.now) result }
 {

@@ -79,7 +79,8 @@ fn rows_of(alloc: Global, pairs: &[Value]) -> Result<Items<MapRow<Value>>, NoMem
     Ok(rows)
 }
 
-/// The pairs as the rows of a map; `RepeatedKey` where two have one key. Its time is n log n in the pairs.
+/// The pairs as the rows of a map; `RepeatedKey` where two have one key. Its time is n log n in the
+/// pairs.
 pub fn as_map(alloc: Global, x: &Value) -> Result<Value, EvalFault>
     ensures { Gives (spec.as_map_of x.now) result }
 {

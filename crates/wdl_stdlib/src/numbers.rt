@@ -48,7 +48,8 @@ fn numbers_below(alloc: Global, n: usize) -> Result<Value, EvalFault>
     Ok(Value::List(numbers))
 }
 
-/// The numbers from 0 to below this one; `NegativeRange` below 0, and `TooLarge` at once past 100,000.
+/// The numbers from 0 to below this one; `NegativeRange` below 0, and `TooLarge` at once past
+/// 100,000.
 pub fn range(alloc: Global, x: &Value) -> Result<Value, EvalFault>
     ensures { Makes (spec.range_of x.now) result }
 {

@@ -122,7 +122,8 @@ fn operated(alloc: Global, op: Op, left: &Value, right: &Value) -> Result<Value,
     }
 }
 
-/// The value of an operator: 501 where a number doesn't fit, 502 for a divisor 0, 510 where the value passes a limit.
+/// The value of an operator: 501 where a number doesn't fit, 502 for a divisor 0, 510 where the
+/// value passes a limit.
 pub fn operate(alloc: Global, op: Op, left: &Value, right: &Value) -> Result<Value, EvalFault>
     ensures value { Gives (spec.operate op left.now right.now) result }
 {

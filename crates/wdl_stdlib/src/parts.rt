@@ -1,5 +1,6 @@
-//! What stands in a value of a kind that its type makes sure of. A value of another kind, which no well-typed expression
-//! has there, counts as 0, false, no items, no rows, an empty text, or as itself.
+//! What stands in a value of a kind that its type makes sure of. A value of another kind, which no
+//! well-typed expression has there, counts as 0, false, no items, no rows, an empty text, or as
+//! itself.
 
 ghost use Rattle.std.specs.Prelude.{◌≡◌, IfOk};
 ghost use Rattle.wdl_value.specs.Parts as spec;

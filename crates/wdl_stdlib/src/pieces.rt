@@ -8,8 +8,8 @@ ghost use Rattle.wdl_value.specs.declared.value.Value.TheVariants as v;
 use std::alloc::Global;
 use wdl_value::{Items, NoMemory, Text, Value};
 
-/// The lines of a text: each ends at a newline, and a carriage return before it goes; a last one without a newline counts
-/// unless it is empty.
+/// The lines of a text: each ends at a newline, and a carriage return before it goes; a last one
+/// without a newline counts unless it is empty.
 pub fn lines(alloc: Global, text: &Text) -> Result<Items<Text>, NoMemory>
     ensures { IfOk result (λ lines. lines ≡ lines_of text.now) }
 {

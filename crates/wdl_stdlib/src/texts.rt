@@ -73,7 +73,8 @@ pub fn suffix(alloc: Global, after: &Value, x: &Value) -> Result<Value, EvalFaul
     Ok(texts.into_value())
 }
 
-/// Appends the text between two items, and the next item's. It is refused where no text that begins so keeps the limits.
+/// Appends the text between two items, and the next item's. It is refused where no text that begins
+/// so keeps the limits.
 fn with_item(alloc: Global, mut text: Text, between: &Text, item: &Value) -> Result<Text, EvalFault>
     ensures text { IfOk result (λ t. t ≡ text ++ (between.now ++ text_of item.now)) }
     ensures past { IfErr result (IsPastText (text ++ (between.now ++ text_of item.now))) }

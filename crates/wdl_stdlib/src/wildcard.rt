@@ -174,8 +174,9 @@ fn matching(
     Ok(found)
 }
 
-/// The files of an answer that a pattern matches part by part, in the order of their bytes, as paths in the directory
-/// of the job. Its time is the length of the pattern times that of the names.
+/// The files of an answer that a pattern matches part by part, in the order of their bytes, as
+/// paths in the directory of the job. Its time is the length of the pattern times that of the
+/// names.
 pub fn glob(
     alloc: Global,
     dir: &Text,

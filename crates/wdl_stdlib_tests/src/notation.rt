@@ -1,5 +1,5 @@
-//! Values as the tests write them, in words between blanks: `1`, `true`, `'text`, `<path`, `none`, `[ 1 2 ]` for a list,
-//! `( 1 'a )` for a pair and `{ 'a 1 ; 'b 2 ; }` for a map.
+//! Values as the tests write them, in words between blanks: `1`, `true`, `'text`, `<path`, `none`,
+//! `[ 1 2 ]` for a list, `( 1 'a )` for a pair and `{ 'a 1 ; 'b 2 ; }` for a map.
 
 use std::alloc::Global;
 use std::test::Fail;
@@ -70,7 +70,8 @@ fn atom(alloc: Global, word: &str) -> Result<Value, Fail> {
     }
 }
 
-/// What is read after one more word: the brackets that are open round it, and what stands in the innermost.
+/// What is read after one more word: the brackets that are open round it, and what stands in the
+/// innermost.
 fn read(
     alloc: Global,
     mut round: Vec<Frame>,

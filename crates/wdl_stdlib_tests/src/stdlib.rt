@@ -6,7 +6,8 @@ use wdl_value::{Answer, Body, Func, Items, Op, Seen, Text, Value};
 
 // ---- operators
 
-/// Whether the operator gives what stands right of `=` for the operands left of it, in each case between bars.
+/// Whether the operator gives what stands right of `=` for the operands left of it, in each case
+/// between bars.
 fn operates(alloc: Global, op: Op, cases: &str) -> Result<bool, Fail> {
     for case in cases.split('|') {
         let Some((operands, expected)) = case.split_once('=') else {
@@ -91,7 +92,8 @@ fn a_number_changes_its_sign(rt: HostRuntime) -> Result<(), Fail> {
 
 // ---- functions
 
-/// Whether the function gives what stands right of `=` for the arguments left of it, in each case between bars.
+/// Whether the function gives what stands right of `=` for the arguments left of it, in each case
+/// between bars.
 fn applies(alloc: Global, f: Func, answer: Option<&Answer>, cases: &str) -> Result<bool, Fail> {
     let dir = Text::new(alloc, "/d/say")?;
     for case in cases.split('|') {

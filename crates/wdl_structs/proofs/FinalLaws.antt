@@ -5,6 +5,7 @@ use Rattle.std.specs.List.{list_all}
 use Rattle.std.specs.Str.{bytes_eq}
 use Rattle.std.proofs.lemmas.Bool.{true≢false, false≢true, and_parts, and_from, or_left, or_right}
 use Rattle.std.proofs.lemmas.Slice.Eq.{bytes_eq-Decides}
+use Rattle.std.proofs.lemmas.Option.{same_Some, none-some}
 use Rattle.wdl_base.specs.declared.span.Span.{Span}
 use Rattle.wdl_base.specs.Names.{is_among}
 use Rattle.wdl_value.specs.declared.ty.Member.{Member}
@@ -30,14 +31,15 @@ use Rattle.wdl_structs.specs.Nodes.{start, total, label_by, stands_from, from_by
 use Rattle.wdl_structs.specs.Kept.{Kept, Has, LeadsTo, Keeps, KeepsFrom, DiffersIn, DiffersFrom, KeepsAll, AreDefs, AreFull, AreNamedBy}
 use Rattle.wdl_structs.proofs.ClassLaws.{root_low, root_top, root_itself, by_roots}
 use Rattle.wdl_structs.proofs.NameLaws.{among_at, among_place}
-use Rattle.wdl_structs.proofs.NodeLaws.{label_at, some_same, none_some, no_names, room_at}
-use Rattle.wdl_structs.proofs.SeenLaws.{get_some, get_within, all_at}
+use Rattle.wdl_structs.proofs.NodeLaws.{label_at, no_names, room_at}
+use Rattle.wdl_structs.proofs.SeenLaws.{get_within}
 use Rattle.wdl_structs.proofs.StandLaws.{known_is, seen_own, stands_length, with_bare}
 use Rattle.wdl_structs.proofs.IdentityLaws.{tables_distinct, are_given, all_seen, get_get, get_below, one_class, lead_first, named, names_named, stand_named, bare_named, structs_named, named_is, names_with, agrees_named, agreeing, first_named, joined_named, seen_named}
 use Rattle.wdl_structs.proofs.UniqueLaws.{same_get, same_length, one_names, one_stood, distinct_at}
 use Rattle.wdl_structs.proofs.SameLaws.{none_left, heads, same_linked, same_circle, same_reached}
 use Rattle.wdl_structs.proofs.KeptLaws.{has_one}
 use Rattle.wdl_structs.proofs.StructLaws.{is_declared, defs_at, defs_names, have_section}
+use Rattle.wdl_base.proofs.Options.{item_there, all_at}
 
 -- ---- sections that are kept
 
@@ -90,17 +92,17 @@ differs_from parents tables k (d ∷ ds) s j ms (inr h) =
 
 keeps_there : (parents : List ℕ) (x : ℕ) (ns : Names) (stand : List ℕ → List ℕ) (ts : List StructSection) (q : ℕ) (t : StructSection) (j : ℕ) → slice_get ts q ≡ Some t
     → LeadsTo parents x ns t.name.name j → Keeps parents x ns stand ts j (members_of stand t)
-keeps_there parents x ns stand [] q t j h l = absurd (none_some t h)
+keeps_there parents x ns stand [] q t j h l = absurd (none-some t h)
 keeps_there parents x ns stand (u ∷ ts) zero t j h l =
-    subst (λ (y : StructSection). Keeps parents x ns stand (y ∷ ts) j (members_of stand t)) (sym (some_same u t h)) (inl (l, refl))
+    subst (λ (y : StructSection). Keeps parents x ns stand (y ∷ ts) j (members_of stand t)) (sym (same_Some u t h)) (inl (l, refl))
 keeps_there parents x ns stand (u ∷ ts) (suc q) t j h l = inr (keeps_there parents x ns stand ts q t j h l)
 
 from_there : (parents : List ℕ) (tables : List Names) (k : ℕ) (ds : List Doc) (i : ℕ) (d : Doc) (q : ℕ) (t : StructSection) (j : ℕ) → slice_get ds i ≡ Some d
     → slice_get (sections_of d.document) q ≡ Some t → LeadsTo parents (start tables (k + i)) (names_of tables (k + i)) t.name.name j → KeepsFrom parents tables k ds j (members_of (stand_in d.structs) t)
-from_there parents tables k [] i d q t j h g l = absurd (none_some d h)
+from_there parents tables k [] i d q t j h g l = absurd (none-some d h)
 from_there parents tables k (c ∷ ds) zero d q t j h g l =
     let e : k + 0 ≡ k = omega arith in
-    subst (λ (y : Doc). KeepsFrom parents tables k (y ∷ ds) j (members_of (stand_in d.structs) t)) (sym (some_same c d h))
+    subst (λ (y : Doc). KeepsFrom parents tables k (y ∷ ds) j (members_of (stand_in d.structs) t)) (sym (same_Some c d h))
     (inl (keeps_there parents (start tables k) (names_of tables k) (stand_in d.structs) (sections_of d.document) q t j g (subst (λ n. LeadsTo parents (start tables n) (names_of tables n) t.name.name j) e l)))
 from_there parents tables k (c ∷ ds) (suc i) d q t j h g l =
     let e : k + suc i ≡ suc k + i = omega arith in
@@ -109,8 +111,8 @@ from_there parents tables k (c ∷ ds) (suc i) d q t j h g l =
 -- ---- what holds of each
 
 pub contains_at : {A : Type 0} (xs : List A) (q : ℕ) (x : A) → slice_get xs q ≡ Some x → Contains xs x
-contains_at [] q x h = absurd (none_some x h)
-contains_at (y ∷ ys) zero x h = (0, omega arith, some_same y x h)
+contains_at [] q x h = absurd (none-some x h)
+contains_at (y ∷ ys) zero x h = (0, omega arith, same_Some y x h)
 contains_at (y ∷ ys) (suc q) x h = let r = contains_at ys q x h in (suc r.0, omega (arith, r.1), r.2)
 
 sections_all : (structs : List StructDef) (stand : List ℕ → List ℕ) (ss : List StructSection)
@@ -254,7 +256,7 @@ module _ (docs : List Doc) (tables : List Names) (starts parents : List ℕ) (li
   within : (k p : ℕ) (n : List ℕ) → slice_get (names_of tables k) p ≡ Some n → start tables k + p < length parents
   within k p n h = elim (Rattle.std.proofs.lemmas.Bool.cases_lt k (length tables)) as (λ x. start tables k + p < length parents) [
     | inl l ↦ let r = room_at tables k l in let b = get_below (names_of tables k) p n h in let e = c.len in omega (arith, r, b, e)
-    | inr g ↦ absurd (none_some n (ap (λ (ns : Names). slice_get ns p) (sym (no_names tables k (λ l. omega (arith, l, g)))) ∙ h))
+    | inr g ↦ absurd (none-some n (ap (λ (ns : Names). slice_get ns p) (sym (no_names tables k (λ l. omega (arith, l, g)))) ∙ h))
   ]
 
   -- the name of document 0 that stands for a name
@@ -262,7 +264,7 @@ module _ (docs : List Doc) (tables : List Names) (starts parents : List ℕ) (li
       → (m : List ℕ) × (slice_get first (root parents (start tables k + p)) ≡ Some m) × (stand_at whole k n ≡ m)
   unfolding mark_of
   lead_name k p n h =
-      let m = get_some first (root parents (start tables k + p)) (lead_first docs tables starts parents linked reached s c (start tables k + p) (within k p n h)) in
+      let m = item_there first (root parents (start tables k + p)) (lead_first docs tables starts parents linked reached s c (start tables k + p) (within k p n h)) in
       (m.0, m.1, stands k p n h ∙ get_get first (root parents (start tables k + p)) m.0 [] m.1)
 
   -- the place of the name of a section
@@ -271,8 +273,8 @@ module _ (docs : List Doc) (tables : List Names) (starts parents : List ℕ) (li
   section_place k d q t at g = among_place t.name.name (names_of tables k) (own_at (sections_of d.document) q t (named_by.own k d at) g)
     where
       own_at : (ss : List StructSection) (q : ℕ) (t : StructSection) → all_among (names_of tables k) (map (λ x. x.name.name) ss) ≡ true → slice_get ss q ≡ Some t → is_among t.name.name (names_of tables k) ≡ true
-      own_at [] q t a h = absurd (none_some t h)
-      own_at (u ∷ us) zero t a h = subst (λ (x : StructSection). is_among x.name.name (names_of tables k) ≡ true) (some_same u t h) (and_parts (is_among u.name.name (names_of tables k)) (all_among (names_of tables k) (map (λ x. x.name.name) us)) a).0
+      own_at [] q t a h = absurd (none-some t h)
+      own_at (u ∷ us) zero t a h = subst (λ (x : StructSection). is_among x.name.name (names_of tables k) ≡ true) (same_Some u t h) (and_parts (is_among u.name.name (names_of tables k)) (all_among (names_of tables k) (map (λ x. x.name.name) us)) a).0
       own_at (u ∷ us) (suc q) t a h = own_at us q t (and_parts (is_among u.name.name (names_of tables k)) (all_among (names_of tables k) (map (λ x. x.name.name) us)) a).1 h
 
   stand_of : (k : ℕ) (d : Doc) (n : List ℕ) → slice_get whole k ≡ Some d → stand_at whole k n ≡ stand_in d.structs n
@@ -288,7 +290,7 @@ module _ (docs : List Doc) (tables : List Names) (starts parents : List ℕ) (li
 
     pub full : AreFull parents kept first
     full x w =
-        let n = get_some first x w in
+        let n = item_there first x w in
         let known : (k : ℕ) → (k < length docs → ⊥) → names_of tables k ≡ [] = (λ k g. no_names tables k (λ l. g (subst (λ m. k < m) s.0 l))) in
         let some : 0 < length docs = subst (λ m. 0 < m) s.0 (has_tables x w) in
         let d = is_declared docs (names_of tables) s.1 known 0 n.0 ends some (among_at n.0 first x n.1) in

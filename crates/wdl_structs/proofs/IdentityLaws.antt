@@ -5,6 +5,7 @@ use Rattle.std.specs.List.{list_all}
 use Rattle.std.specs.Str.{bytes_eq}
 use Rattle.std.proofs.lemmas.Bool.{true≢false, false≢true, and_parts, and_from, or_left, or_right, cond-true, cond-false, cases_lt, cases_eq, lt-ltb, le-ltb, cases_Bool}
 use Rattle.std.proofs.lemmas.Slice.Eq.{bytes_eq-Decides}
+use Rattle.std.proofs.lemmas.Option.{same_Some, none-some}
 use Rattle.wdl_base.specs.Names.{is_among}
 use Rattle.wdl_typed.specs.Lists.{are_distinct}
 use Rattle.wdl_ast.specs.declared.document.Alias.{Alias}
@@ -25,9 +26,10 @@ use Rattle.wdl_structs.specs.Tables.{Names, NamesAt, names_or, names_of, with_na
 use Rattle.wdl_structs.specs.Nodes.{start, total, label_from, label_by, stands_from, import_by, along_by, from_by, all_among, AreClasses, all_stands, with_stands, mark_of, LeadFirst}
 use Rattle.wdl_structs.proofs.ClassLaws.{root_low, root_top, root_itself, root_follows, by_roots}
 use Rattle.wdl_structs.proofs.NameLaws.{among_at, among_place, eq_itself, distinct_with, with_once}
-use Rattle.wdl_structs.proofs.NodeLaws.{label_at, some_same, none_some, all_both, no_names}
-use Rattle.wdl_structs.proofs.SeenLaws.{get_some, get_within, all_at}
+use Rattle.wdl_structs.proofs.NodeLaws.{label_at, all_both, no_names}
+use Rattle.wdl_structs.proofs.SeenLaws.{get_within}
 use Rattle.wdl_structs.proofs.StandLaws.{stands_names, stands_label, stands_length, with_bare, structs_with, bare_along, from_is, imported_is, names_eq-refl, AreGiven, from_same, seen_imported}
+use Rattle.wdl_base.proofs.Options.{item_there, all_at}
 
 -- ---- distinct names
 
@@ -38,12 +40,12 @@ with_distinct acc (n ∷ ns) d = with_distinct (with_name acc n) ns (distinct_wi
 pub distinct_once : (ns : Names) → are_distinct (once ns) ≡ true
 distinct_once ns = ap are_distinct (sym (with_once ns)) ∙ with_distinct [] ns refl
 
-some_or : {A : Type 0} (xs : List A) (k : ℕ) → (k < length xs) ⊎ (k < length xs → ⊥)
+pub some_or : {A : Type 0} (xs : List A) (k : ℕ) → (k < length xs) ⊎ (k < length xs → ⊥)
 some_or xs k = elim (cases_lt k (length xs)) as (λ c. (k < length xs) ⊎ (k < length xs → ⊥)) [ inl l ↦ inl l | inr g ↦ inr (λ l. omega (arith, l, g)) ]
 
 pub tables_distinct : (docs : List Doc) (tables : List Names) → AreSeen docs tables → (k : ℕ) → are_distinct (names_of tables k) ≡ true
 tables_distinct docs tables s k = elim (some_or tables k) as (λ c. are_distinct (names_of tables k) ≡ true) [
-  | inl l ↦ let d = get_some docs k (subst (λ n. k < n) s.0 l) in ap are_distinct (s.1 k d.0 d.1) ∙ distinct_once (own_names d.0 ++ imported_by (names_of tables) (imports_of d.0.document) d.0.imports)
+  | inl l ↦ let d = item_there docs k (subst (λ n. k < n) s.0 l) in ap are_distinct (s.1 k d.0 d.1) ∙ distinct_once (own_names d.0 ++ imported_by (names_of tables) (imports_of d.0.document) d.0.imports)
   | inr g ↦ ap are_distinct (no_names tables k g)
 ]
 
@@ -67,10 +69,10 @@ are_given docs tables s = given_from (names_of tables) 0 docs (λ j d at. ap (na
     same j = omega arith
 
 given_at : (names : NamesAt) (k j : ℕ) (ds : List Doc) (d : Doc) → AreGiven names k ds → slice_get ds j ≡ Some d → all_among (names (k + j)) (imported_by names (imports_of d.document) d.imports) ≡ true
-given_at names k j [] d a h = absurd (none_some d h)
+given_at names k j [] d a h = absurd (none-some d h)
 given_at names k zero (c ∷ ds) d a h =
     let e : k + 0 ≡ k = omega arith in
-    ap (λ m. all_among (names m) (imported_by names (imports_of d.document) d.imports)) e ∙ subst (λ (x : Doc). all_among (names k) (imported_by names (imports_of x.document) x.imports) ≡ true) (some_same c d h) a.0
+    ap (λ m. all_among (names m) (imported_by names (imports_of d.document) d.imports)) e ∙ subst (λ (x : Doc). all_among (names k) (imported_by names (imports_of x.document) x.imports) ≡ true) (same_Some c d h) a.0
 given_at names k (suc j) (c ∷ ds) d a h =
     let e : k + suc j ≡ suc k + j = omega arith in
     ap (λ m. all_among (names m) (imported_by names (imports_of d.document) d.imports)) e ∙ given_at names (suc k) j ds d a.1 h
@@ -78,31 +80,31 @@ given_at names k (suc j) (c ∷ ds) d a h =
 -- what one import gives
 pub given_by : (names : NamesAt) (ns : Names) (is : List Import) (ls : List Link) (q : ℕ) (i : Import) (l : Link) → all_among ns (imported_by names is ls) ≡ true
     → slice_get is q ≡ Some i → slice_get ls q ≡ Some l → all_among ns (given i.aliases (names l.doc)) ≡ true
-given_by names ns [] ls q i l a h k = absurd (none_some i h)
-given_by names ns (x ∷ is) [] q i l a h k = absurd (none_some l k)
+given_by names ns [] ls q i l a h k = absurd (none-some i h)
+given_by names ns (x ∷ is) [] q i l a h k = absurd (none-some l k)
 given_by names ns (x ∷ is) (y ∷ ls) zero i l a h k =
-    subst (λ (z : Link). all_among ns (given i.aliases (names z.doc)) ≡ true) (some_same y l k)
-    (subst (λ (z : Import). all_among ns (given z.aliases (names y.doc)) ≡ true) (some_same x i h) (all_both ns (given x.aliases (names y.doc)) (imported_by names is ls) a).0)
+    subst (λ (z : Link). all_among ns (given i.aliases (names z.doc)) ≡ true) (same_Some y l k)
+    (subst (λ (z : Import). all_among ns (given z.aliases (names y.doc)) ≡ true) (same_Some x i h) (all_both ns (given x.aliases (names y.doc)) (imported_by names is ls) a).0)
 given_by names ns (x ∷ is) (y ∷ ls) (suc q) i l a h k = given_by names ns is ls q i l (all_both ns (given x.aliases (names y.doc)) (imported_by names is ls) a).1 h k
 
 -- ---- one import of labels that agree
 
 pub along_at : (label : Labels) (names : NamesAt) (k q : ℕ) (is : List Import) (ls : List Link) (i : Import) (l : Link) → along_by label names k is ls ≡ true
     → slice_get is q ≡ Some i → slice_get ls q ≡ Some l → import_by label names k i l ≡ true
-along_at label names k q [] ls i l a h g = absurd (none_some i h)
-along_at label names k q (x ∷ is) [] i l a h g = absurd (none_some l g)
+along_at label names k q [] ls i l a h g = absurd (none-some i h)
+along_at label names k q (x ∷ is) [] i l a h g = absurd (none-some l g)
 along_at label names k zero (x ∷ is) (y ∷ ls) i l a h g =
-    subst (λ (z : Link). import_by label names k i z ≡ true) (some_same y l g)
-    (subst (λ (z : Import). import_by label names k z y ≡ true) (some_same x i h) (and_parts (import_by label names k x y) (along_by label names k is ls) a).0)
+    subst (λ (z : Link). import_by label names k i z ≡ true) (same_Some y l g)
+    (subst (λ (z : Import). import_by label names k z y ≡ true) (same_Some x i h) (and_parts (import_by label names k x y) (along_by label names k is ls) a).0)
 along_at label names k (suc q) (x ∷ is) (y ∷ ls) i l a h g = along_at label names k q is ls i l (and_parts (import_by label names k x y) (along_by label names k is ls) a).1 h g
 
 pub from_at : (label : Labels) (names : NamesAt) (k j : ℕ) (ds : List Doc) (d : Doc) → from_by label names k ds ≡ true → slice_get ds j ≡ Some d
     → along_by label names (k + j) (imports_of d.document) d.imports ≡ true
-from_at label names k j [] d a h = absurd (none_some d h)
+from_at label names k j [] d a h = absurd (none-some d h)
 from_at label names k zero (c ∷ ds) d a h =
     let e : k + 0 ≡ k = omega arith in
     ap (λ m. along_by label names m (imports_of d.document) d.imports) e
-    ∙ subst (λ (x : Doc). along_by label names k (imports_of x.document) x.imports ≡ true) (some_same c d h) (and_parts (along_by label names k (imports_of c.document) c.imports) (from_by label names (suc k) ds) a).0
+    ∙ subst (λ (x : Doc). along_by label names k (imports_of x.document) x.imports ≡ true) (same_Some c d h) (and_parts (along_by label names k (imports_of c.document) c.imports) (from_by label names (suc k) ds) a).0
 from_at label names k (suc j) (c ∷ ds) d a h =
     let e : k + suc j ≡ suc k + j = omega arith in
     ap (λ m. along_by label names m (imports_of d.document) d.imports) e
@@ -113,8 +115,8 @@ pub agrees_at : (label : Labels) (k j : ℕ) (aliases : List Alias) (ns : Names)
 agrees_at label k j aliases ns n a h = let p = among_place n ns h in at ns p.0 a p.1
   where
     at : (ns : Names) (p : ℕ) → agrees_on label k j aliases ns ≡ true → slice_get ns p ≡ Some n → all_have (label k) (label j n) (given_for aliases n) ≡ true
-    at [] p a h = absurd (none_some n h)
-    at (m ∷ ms) zero a h = subst (λ x. all_have (label k) (label j x) (given_for aliases x) ≡ true) (some_same m n h) (and_parts (all_have (label k) (label j m) (given_for aliases m)) (agrees_on label k j aliases ms) a).0
+    at [] p a h = absurd (none-some n h)
+    at (m ∷ ms) zero a h = subst (λ x. all_have (label k) (label j x) (given_for aliases x) ≡ true) (same_Some m n h) (and_parts (all_have (label k) (label j m) (given_for aliases m)) (agrees_on label k j aliases ms) a).0
     at (m ∷ ms) (suc p) a h = at ms p (and_parts (all_have (label k) (label j m) (given_for aliases m)) (agrees_on label k j aliases ms) a).1 h
 
 -- an import gives each name some name
@@ -129,18 +131,18 @@ given_among : (aliases : List Alias) (all ns : Names) (n m : List ℕ) (ms : Nam
 given_among aliases all ns n m ms a h e = let p = among_place n ns h in at ns p.0 a p.1
   where
     at : (ns : Names) (p : ℕ) → all_among all (given aliases ns) ≡ true → slice_get ns p ≡ Some n → is_among m all ≡ true
-    at [] p a h = absurd (none_some n h)
+    at [] p a h = absurd (none-some n h)
     at (x ∷ xs) zero a h =
         let q = (all_both all (given_for aliases x) (given aliases xs) a).0 in
-        (and_parts (is_among m all) (all_among all ms) (subst (λ (y : Names). all_among all y ≡ true) (ap (given_for aliases) (some_same x n h) ∙ e) q)).0
+        (and_parts (is_among m all) (all_among all ms) (subst (λ (y : Names). all_among all y ≡ true) (ap (given_for aliases) (same_Some x n h) ∙ e) q)).0
     at (x ∷ xs) (suc p) a h = at xs p (all_both all (given_for aliases x) (given aliases xs) a).1 h
 
 -- the import of a link
 pub import_there : (docs : List Doc) (base : List ℕ) (is : List Import) (ls : List Link) (q : ℕ) (l : Link) → are_links docs base is ls ≡ true → slice_get ls q ≡ Some l
     → (i : Import) × (slice_get is q ≡ Some i)
-import_there docs base [] [] q l a h = absurd (none_some l h)
+import_there docs base [] [] q l a h = absurd (none-some l h)
 import_there docs base [] (y ∷ ls) q l a h = absurd (false≢true a)
-import_there docs base (i ∷ is) [] q l a h = absurd (none_some l h)
+import_there docs base (i ∷ is) [] q l a h = absurd (none-some l h)
 import_there docs base (i ∷ is) (y ∷ ls) zero l a h = (i, refl)
 import_there docs base (i ∷ is) (y ∷ ls) (suc q) l a h =
     import_there docs base is ls q l (and_parts (bytes_eq y.namespace (namespace_of i) && is_at (slice_get docs y.doc) (resolve base (uri_of i))) (are_links docs base is ls) a).1 h
@@ -181,7 +183,7 @@ is_given docs names k n linked reached a some within h = record {
     l = r.2.0
 
     d : (d : Doc) × (slice_get docs j ≡ Some d)
-    d = get_some docs j (omega (arith, r.1, within))
+    d = item_there docs j (omega (arith, r.1, within))
 
     q : (q : ℕ) × (slice_get d.0.imports q ≡ Some l)
     q = contained d.0.imports l (subst (λ (o : Option Doc). Contains (links_in o) l) d.1 r.2.1)
@@ -238,16 +240,16 @@ decode [] label k x = []
 decode (t ∷ ts) label k x = if nat_lt x (length t) then label k (get_or t x []) else decode ts label (suc k) (x - length t)
 
 pub get_get : (ns : Names) (p : ℕ) (n d : List ℕ) → slice_get ns p ≡ Some n → get_or ns p d ≡ n
-get_get [] p n d h = absurd (none_some n h)
-get_get (m ∷ ns) zero n d h = some_same m n h
+get_get [] p n d h = absurd (none-some n h)
+get_get (m ∷ ns) zero n d h = same_Some m n h
 get_get (m ∷ ns) (suc p) n d h = get_get ns p n d h
 
 pub get_below : (ns : Names) (p : ℕ) (n : List ℕ) → slice_get ns p ≡ Some n → p < length ns
-get_below ns p n h = get_within ns p (λ e. none_some n (sym e ∙ h))
+get_below ns p n h = get_within ns p (λ e. none-some n (sym e ∙ h))
 
 decode_at : (tables : List Names) (label : Labels) (k j p : ℕ) (n : List ℕ) → slice_get (names_of tables j) p ≡ Some n → decode tables label k (start tables j + p) ≡ label (k + j) n
 unfolding decode
-decode_at [] label k j p n h = absurd (none_some n h)
+decode_at [] label k j p n h = absurd (none-some n h)
 decode_at (t ∷ ts) label k zero p n h =
     let e : 0 + p ≡ p = omega arith in
     let z : k ≡ k + 0 = omega arith in
@@ -258,7 +260,7 @@ decode_at (t ∷ ts) label k (suc j) p n h =
     cond-false (nat_lt (length t + start ts j + p) (length t)) _ _ (le-ltb (length t + start ts j + p) (length t) (omega arith))
     ∙ ap (decode ts label (suc k)) e ∙ decode_at ts label (suc k) j p n h ∙ ap (λ m. label m n) z
 
-start_zero : (tables : List Names) → start tables 0 ≡ 0
+pub start_zero : (tables : List Names) → start tables 0 ≡ 0
 start_zero [] = refl
 start_zero (t ∷ ts) = refl
 
@@ -274,7 +276,7 @@ label_unknown g x (m ∷ ms) n h = on (label_unknown g (suc x) ms n) (bytes_eq m
 numbered : (tables : List Names) (x : ℕ) → x < total tables → (k : ℕ) × (p : ℕ) × (n : List ℕ) × (k < length tables) × (slice_get (names_of tables k) p ≡ Some n) × (x ≡ start tables k + p)
 numbered [] x h = absurd (omega arith)
 numbered (t ∷ ts) x h = elim (cases_lt x (length t)) as (λ c. (k : ℕ) × (p : ℕ) × (n : List ℕ) × (k < length (t ∷ ts)) × (slice_get (names_of (t ∷ ts) k) p ≡ Some n) × (x ≡ start (t ∷ ts) k + p)) [
-  | inl l ↦ let n = get_some t x l in let e : x ≡ 0 + x = omega arith in (0, x, n.0, omega arith, n.1, e)
+  | inl l ↦ let n = item_there t x l in let e : x ≡ 0 + x = omega arith in (0, x, n.0, omega arith, n.1, e)
   | inr g ↦
       let r = numbered ts (x - length t) (omega (arith, g, h)) in
       let e = r.5 in
@@ -440,7 +442,7 @@ module _ (docs : List Doc) (tables : List Names) (starts parents : List ℕ) (li
         let z : start tables 0 + p.0 ≡ p.0 = ap (λ x. x + p.0) (start_zero tables) ∙ zero_ p.0 in
         let low = root_low parents p.0 c.low in
         let below = get_below (names_of tables 0) p.0 n p.1 in
-        let m = get_some (names_of tables 0) (root parents p.0) (omega (arith, low, below)) in
+        let m = item_there (names_of tables 0) (root parents p.0) (omega (arith, low, below)) in
         let stand : stand_at named 0 n ≡ m.0 = ap (λ (l : Labels). l 0 n) stand_named ∙ label_is mark 0 p.0 n p.1 ∙ ap mark z ∙ get_get (names_of tables 0) (root parents p.0) m.0 [] m.1 in
         let top : root parents (root parents p.0) ≡ root parents p.0 = root_itself parents (root parents p.0) (root_top parents p.0 c.low) in
         let y : start tables 0 + root parents p.0 ≡ root parents p.0 = ap (λ x. x + root parents p.0) (start_zero tables) ∙ zero_ (root parents p.0) in

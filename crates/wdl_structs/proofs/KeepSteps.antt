@@ -215,10 +215,6 @@ skipped parents x ns stand old now all ts us e h =
     subst (λ (zs : List StructSection). IsKeeping old now (Keeps parents x ns stand all) (Keeps parents x ns stand zs) (DiffersIn parents x ns stand all) (DiffersIn parents x ns stand zs)
     × (all_among ns (map (λ s. s.name.name) zs) ≡ true)) (sym e) h
 
-pub start_none : (tables : List Names) → start tables 0 ≡ 0
-start_none [] = refl
-start_none (t ∷ ts) = refl
-
 pub names_length : (ss : List StructName) → length (names_in ss) ≡ length ss
 names_length [] = refl
 names_length (s ∷ ss) = let r = names_length ss in omega (arith, r)

@@ -5,6 +5,7 @@ use Rattle.std.proofs.lemmas.List.{length-set}
 use Rattle.std.specs.Str.{bytes_eq}
 use Rattle.std.proofs.lemmas.Bool.{true≢false, false≢true, and_parts, and_from, cases_eq}
 use Rattle.std.proofs.lemmas.Slice.Eq.{bytes_eq-Decides}
+use Rattle.std.proofs.lemmas.Option.{same_Some}
 use Rattle.wdl_base.specs.declared.span.Span.{Span}
 use Rattle.wdl_typed.specs.Lists.{are_distinct}
 use Rattle.wdl_value.specs.declared.ty.Member.{Member}
@@ -45,18 +46,15 @@ members-differ ms ns h e = true≢false (sym (members-refl ms) ∙ ap (same_memb
 
 -- ---- one place
 
-some_same : {A : Type 0} (x y : A) → Some x ≡ Some y → x ≡ y
-some_same x y e = cc
-
 pub has_one : (kept : Kept) (j : ℕ) (x y : List Member) → Has kept j x → Has kept j y → x ≡ y
-has_one kept j x y h k = some_same x y (some_same (Some x) (Some y) (sym h ∙ k))
+has_one kept j x y h k = same_Some x y (same_Some (Some x) (Some y) (sym h ∙ k))
 
 pub kept_set : (old : Kept) (at : ℕ) (ms : List Member) → at < length old → ((x : List Member) → Has old at x → ⊥) → (j : ℕ) (x : List Member)
     → Has (set old at (Some ms)) j x ↔ (Has old j x ⊎ ((j ≡ at) × (x ≡ ms)))
 kept_set old at ms within none j x = elim (cases_eq j at) as (λ c. Has (set old at (Some ms)) j x ↔ (Has old j x ⊎ ((j ≡ at) × (x ≡ ms)))) [
   | inl e ↦
       let here : slice_get (set old at (Some ms)) j ≡ Some (Some ms) = ap (slice_get (set old at (Some ms))) e ∙ get_set_same old at (Some ms) within in (
-        λ h. inr (e, sym (some_same ms x (some_same (Some ms) (Some x) (sym here ∙ h)))),
+        λ h. inr (e, sym (same_Some ms x (same_Some (Some ms) (Some x) (sym here ∙ h)))),
         λ h. back here h e,
       )
   | inr ne ↦

@@ -9,21 +9,13 @@ use Rattle.wdl_typed.specs.Lists.{has_name, are_distinct}
 use Rattle.wdl_ast.specs.declared.document.Alias.{Alias}
 use Rattle.wdl_library.specs.Names.{once, given, given_for}
 use Rattle.wdl_structs.specs.Tables.{Names, with_name, with_names, with_groups, groups}
+use Rattle.wdl_names.proofs.FreshLemmas.{bytes_eq-sym as eq_back}
 
 -- ---- the two words for a name in a list
 
 pub same_among : (n : List ℕ) (ns : Names) → has_name n ns ≡ is_among n ns
 same_among n [] = refl
 same_among n (m ∷ ms) = ap (λ b. bytes_eq m n || b) (same_among n ms)
-
-pub eq_back : (a b : List ℕ) → bytes_eq a b ≡ bytes_eq b a
-eq_back a b = on (bytes_eq a b) (bytes_eq b a) refl refl
-  where
-    on : (x y : Bool) → bytes_eq a b ≡ x → bytes_eq b a ≡ y → x ≡ y
-    on true true p q = refl
-    on false false p q = refl
-    on true false p q = absurd (true≢false (sym ((bytes_eq-Decides b a).1 (sym ((bytes_eq-Decides a b).0 p))) ∙ q))
-    on false true p q = absurd (true≢false (sym ((bytes_eq-Decides a b).1 (sym ((bytes_eq-Decides b a).0 q))) ∙ p))
 
 pub eq_itself : (a : List ℕ) → bytes_eq a a ≡ true
 eq_itself a = (bytes_eq-Decides a a).1 refl

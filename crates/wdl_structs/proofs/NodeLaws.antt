@@ -1,10 +1,11 @@
 -- Classes of names that are joined along imports.
-use Rattle.std.proofs.Common.{◌≡◌, ◌↔◌, ◌⊎◌, ℕ, zero, suc, ◌+◌, ◌<◌, ◌≤◌, Bool, true, false, not, ◌&&◌, List, [], ◌∷◌, ◌++◌, map, length, take, drop, get_or, slice_get, Option, Some, None, refl, sym, ap, ◌∙◌, subst, arith, inl, inr}
+use Rattle.std.proofs.Common.{◌≡◌, ◌↔◌, ◌⊎◌, ℕ, zero, suc, ◌+◌, ◌<◌, ◌≤◌, Bool, true, false, not, ◌&&◌, List, [], ◌∷◌, ◌++◌, map, length, take, drop, get_or, slice_get, Option, Some, refl, sym, ap, ◌∙◌, subst, arith, inl, inr}
 use Rattle.std.specs.Prelude.{if◌then◌else◌, OnOk, Result, Ok, Err}
 use Rattle.std.specs.List.{list_all}
 use Rattle.std.specs.Str.{bytes_eq}
 use Rattle.std.proofs.lemmas.Bool.{true≢false, false≢true, and_parts, and_from, not-true, cond-true, cond-false, false_from_ne_true}
 use Rattle.std.proofs.lemmas.Slice.Eq.{bytes_eq-Decides}
+use Rattle.std.proofs.lemmas.Option.{same_Some, none-some}
 use Rattle.wdl_base.specs.Names.{is_among}
 use Rattle.wdl_typed.specs.Lists.{has_name, are_distinct}
 use Rattle.wdl_ast.specs.declared.document.Alias.{Alias}
@@ -58,17 +59,11 @@ joined_as old new test other e j = record {
 
 -- ---- marks of names
 
-pub some_same : {A : Type 0} (x y : A) → Some x ≡ Some y → x ≡ y
-some_same x y e = cc
-
-pub none_some : {A : Type 0} (x : A) → None ≡ Some x → ⊥
-none_some x e = cc
-
 pub label_at : (g : Marks) (x : ℕ) (ns : Names) (n : List ℕ) (p : ℕ) → are_distinct ns ≡ true → slice_get ns p ≡ Some n → label_from g x ns n ≡ g (x + p)
-label_at g x [] n p d h = absurd (none_some n h)
+label_at g x [] n p d h = absurd (none-some n h)
 label_at g x (m ∷ ms) n zero d h =
     let e : x ≡ x + 0 = omega arith in
-    cond-true (bytes_eq m n) _ _ ((bytes_eq-Decides m n).1 (some_same m n h)) ∙ ap g e
+    cond-true (bytes_eq m n) _ _ ((bytes_eq-Decides m n).1 (same_Some m n h)) ∙ ap g e
 label_at g x (m ∷ ms) n (suc p) d h =
     let q = and_parts (not (has_name m ms)) (are_distinct ms) d in
     let e : suc x + p ≡ x + suc p = omega arith in
@@ -168,8 +163,8 @@ start_read tables starts k e h = read starts k (0 + start tables k) (ap (λ (s :
     zero_ n = omega arith
 
     read : (xs : List ℕ) (k x : ℕ) → slice_get xs k ≡ Some x → get_or xs k 0 ≡ x
-    read [] k x h = absurd (none_some x h)
-    read (y ∷ ys) zero x h = some_same y x h
+    read [] k x h = absurd (none-some x h)
+    read (y ∷ ys) zero x h = same_Some y x h
     read (y ∷ ys) (suc k) x h = read ys k x h
 
 pub import_is : (tables : List Names) (g : Marks) (k : ℕ) (i : Import) (l : Link) (x first : ℕ) (ns : Names) (gs : List Names) → are_distinct (names_of tables l.doc) ≡ true

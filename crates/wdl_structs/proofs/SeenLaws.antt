@@ -4,6 +4,7 @@ use Rattle.std.specs.List.{list_all}
 use Rattle.std.specs.Str.{bytes_eq}
 use Rattle.std.proofs.lemmas.Bool.{true≢false, false≢true, and_parts, and_from, not-true, cases_eq, cases_Bool}
 use Rattle.std.proofs.lemmas.List.{length-set}
+use Rattle.std.proofs.lemmas.Option.{same_Some}
 use Rattle.wdl_ast.specs.declared.document.Import.{Import}
 use Rattle.wdl_library.specs.declared.doc.Doc.{Doc}
 use Rattle.wdl_library.specs.declared.doc.Link.{Link}
@@ -13,8 +14,9 @@ use Rattle.wdl_library.specs.Links.{is_at, are_links, has_links, links_in, links
 use Rattle.wdl_library.specs.Names.{once, given, own_names}
 use Rattle.wdl_paths.specs.Resolve.{resolve}
 use Rattle.wdl_links.specs.Circles.{is_marked, all_marked, unmarked, is_next, NoneIsNext}
-use Rattle.wdl_links.proofs.CircleLemmas.{unmarked-set}
+use Rattle.wdl_links.proofs.CircleLemmas.{unmarked-set, set_keeps as marked_kept, at_some, not_and}
 use Rattle.wdl_structs.specs.Tables.{Names, NamesAt, names_or, names_of, imported_by, seen_by, AreSeen}
+use Rattle.wdl_base.proofs.Options.{item_there, all_at}
 
 -- ---- one table more
 
@@ -36,13 +38,6 @@ marked_set_other (b ∷ bs) zero zero ne = absurd (ne refl)
 marked_set_other (b ∷ bs) zero (suc j) ne = refl
 marked_set_other (b ∷ bs) (suc k) zero ne = refl
 marked_set_other (b ∷ bs) (suc k) (suc j) ne = marked_set_other bs k j (λ e. ne (ap suc e))
-
-marked_kept : (marks : List Bool) (k j : ℕ) → is_marked marks j ≡ true → is_marked (slice_set marks k true) j ≡ true
-marked_kept [] k j h = h
-marked_kept (b ∷ bs) zero zero h = refl
-marked_kept (b ∷ bs) zero (suc j) h = h
-marked_kept (b ∷ bs) (suc k) zero h = h
-marked_kept (b ∷ bs) (suc k) (suc j) h = marked_kept bs k j h
 
 all_kept : (marks : List Bool) (k : ℕ) (ls : List Link) → all_marked marks ls ≡ true → all_marked (slice_set marks k true) ls ≡ true
 all_kept marks k [] h = refl
@@ -78,9 +73,6 @@ none_found docs tables marks t m none = record {
   seen = λ k d at h. absurd (true≢false (sym h ∙ none k));
 }
 
-some_same : {A : Type 0} (x y : A) → Some x ≡ Some y → x ≡ y
-some_same x y e = cc
-
 pub found_more : (docs : List Doc) (tables : List Names) (marks : List Bool) (k : ℕ) (d : Doc) (t : Names) → AreFound docs tables marks → slice_get docs k ≡ Some d
     → k < length docs → is_next docs marks k ≡ true → t ≡ seen_by (names_of tables) d → AreFound docs (slice_set tables k t) (slice_set marks k true)
 found_more docs tables marks k d t f at within next is = record {
@@ -105,7 +97,7 @@ found_more docs tables marks k d t f at within next is = record {
         → (names_of (slice_set tables k t) j ≡ seen_by (names_of (slice_set tables k t)) e) × (all_marked (slice_set marks k true) e.imports ≡ true)
     seen j e there m = elim (cases_eq j k) as (λ c. (names_of (slice_set tables k t) j ≡ seen_by (names_of (slice_set tables k t)) e) × (all_marked (slice_set marks k true) e.imports ≡ true)) [
       | inl i ↦
-          let one : d ≡ e = some_same d e (sym at ∙ sym (ap (slice_get docs) i) ∙ there) in
+          let one : d ≡ e = same_Some d e (sym at ∙ sym (ap (slice_get docs) i) ∙ there) in
           subst (λ (x : Doc). (names_of (slice_set tables k t) j ≡ seen_by (names_of (slice_set tables k t)) x) × (all_marked (slice_set marks k true) x.imports ≡ true)) one (
             ap (names_of (slice_set tables k t)) i ∙ ap names_or (get_set_same tables k t (subst (λ n. k < n) (sym f.tables_len) within)) ∙ is
                 ∙ sym (seen_same (names_of (slice_set tables k t)) (names_of tables) marks d kept links),
@@ -121,30 +113,10 @@ found_more docs tables marks k d t f at within next is = record {
 
 -- ---- in the end all are marked
 
-at_some : (o : Option Doc) (p : Option (List ℕ)) → is_at o p ≡ true → o ≡ None → ⊥
-at_some None p h e = false≢true h
-at_some (Some d) p h e = none_some_doc (sym e)
-  where
-    none_some_doc : None ≡ Some d → ⊥
-    none_some_doc e = cc
-
 pub get_within : {A : Type 0} (xs : List A) (j : ℕ) → (slice_get xs j ≡ None → ⊥) → j < length xs
 get_within [] j h = absurd (h refl)
 get_within (d ∷ ds) zero h = omega arith
 get_within (d ∷ ds) (suc j) h = let r = get_within ds j h in omega (arith, r)
-
-pub get_some : {A : Type 0} (xs : List A) (j : ℕ) → j < length xs → (x : A) × (slice_get xs j ≡ Some x)
-get_some [] j h = absurd (omega arith)
-get_some (x ∷ xs) zero h = (x, refl)
-get_some (x ∷ xs) (suc j) h = get_some xs j (omega arith)
-
-pub all_at : {A : Type 0} (p : A → Bool) (xs : List A) (k : ℕ) (x : A) → list_all p xs ≡ true → slice_get xs k ≡ Some x → p x ≡ true
-all_at p [] k x h e = absurd (none_some_at e)
-  where
-    none_some_at : None ≡ Some x → ⊥
-    none_some_at e = cc
-all_at p (y ∷ ys) zero x h e = subst (λ z. p z ≡ true) (some_same y x e) (and_parts (p y) (list_all p ys) h).0
-all_at p (y ∷ ys) (suc k) x h e = all_at p ys k x (and_parts (p y) (list_all p ys) h).1 e
 
 -- each link leads to a document of the list
 pub link_within : (docs : List Doc) (base : List ℕ) (is : List Import) (ls : List Link) (k : ℕ) (l : Link) → are_links docs base is ls ≡ true → slice_get ls k ≡ Some l
@@ -158,7 +130,7 @@ link_within docs base (i ∷ is) [] k l h at = absurd (false≢true h)
 link_within docs base (i ∷ is) (m ∷ ls) zero l h at =
     let p = and_parts (bytes_eq m.namespace (namespace_of i) && is_at (slice_get docs m.doc) (resolve base (uri_of i))) (are_links docs base is ls) h in
     let q = and_parts (bytes_eq m.namespace (namespace_of i)) (is_at (slice_get docs m.doc) (resolve base (uri_of i))) p.0 in
-    subst (λ (x : Link). x.doc < length docs) (some_same m l at) (get_within docs m.doc (at_some (slice_get docs m.doc) (resolve base (uri_of i)) q.1))
+    subst (λ (x : Link). x.doc < length docs) (same_Some m l at) (get_within docs m.doc (at_some (slice_get docs m.doc) (resolve base (uri_of i)) q.1))
 link_within docs base (i ∷ is) (m ∷ ls) (suc k) l h at =
     let p = and_parts (bytes_eq m.namespace (namespace_of i) && is_at (slice_get docs m.doc) (resolve base (uri_of i))) (are_links docs base is ls) h in
     link_within docs base is ls k l p.1 at
@@ -172,16 +144,12 @@ open_at marks (l ∷ ls) h = on (λ g. open_at marks ls g) (is_marked marks l.do
     on more true e g = let r = more g in (suc r.0, r.1, r.2, r.3)
     on more false e g = (0, l, refl, e)
 
-not_and : (a b : Bool) → a ≡ false → not a && b ≡ false → b ≡ false
-not_and true b e h = absurd (true≢false e)
-not_and false b e h = h
-
 -- walks from a document without a mark go on
 goes_on : (n : ℕ) (docs : List Doc) (marks : List Bool) (k : ℕ) → list_all (has_links docs) docs ≡ true → NoneIsNext docs marks → k < length docs → is_marked marks k ≡ false
     → ends_within n docs k ≡ true → ⊥
 goes_on zero docs marks k linked none within open_ h = false≢true h
 goes_on (suc n) docs marks k linked none within open_ h =
-    let there = get_some docs k within in
+    let there = item_there docs k within in
     let d = there.0 in
     let some : all_marked marks d.imports ≡ false = subst (λ (o : Option Doc). all_marked marks (links_in o) ≡ false) there.1
     (not_and (is_marked marks k) (all_marked marks (links_at docs k)) open_ (none k within)) in

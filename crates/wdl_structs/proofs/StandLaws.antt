@@ -5,6 +5,7 @@ use Rattle.std.specs.List.{list_all}
 use Rattle.std.specs.Str.{bytes_eq}
 use Rattle.std.proofs.lemmas.Bool.{true≢false, false≢true, and_parts, and_from, or_left, or_right, or_cases, not-true, cond-true, cond-false, false_from_ne_true, cases_lt, lt-ltb, le-ltb, cases_Bool}
 use Rattle.std.proofs.lemmas.Slice.Eq.{bytes_eq-Decides}
+use Rattle.std.proofs.lemmas.Option.{same_Some, none-some}
 use Rattle.wdl_base.specs.Names.{is_among}
 use Rattle.wdl_typed.specs.Lists.{has_name, are_distinct}
 use Rattle.wdl_ast.specs.declared.document.Alias.{Alias}
@@ -21,7 +22,7 @@ use Rattle.wdl_structs.specs.Tables.{Names, NamesAt, names_or, names_of, importe
 use Rattle.wdl_structs.specs.Nodes.{start, total, label_from, label_by, stands_from, import_by, along_by, from_by, all_among, AreClasses, all_stands, with_stands, mark_of, LeadFirst}
 use Rattle.wdl_structs.proofs.ClassLaws.{root_low, root_follows, by_roots}
 use Rattle.wdl_structs.proofs.NameLaws.{among_at, among_place, eq_itself, among_append}
-use Rattle.wdl_structs.proofs.NodeLaws.{label_at, some_same, none_some, all_both, no_names}
+use Rattle.wdl_structs.proofs.NodeLaws.{label_at, all_both, no_names}
 
 -- ---- names with those that stand for them
 

@@ -5,6 +5,7 @@ use Rattle.std.specs.List.{list_all}
 use Rattle.std.specs.Str.{bytes_eq}
 use Rattle.std.proofs.lemmas.Bool.{true≢false, false≢true, and_parts, and_from, or_left, or_right, or_cases, not-true, cond-true, cond-false, false_from_ne_true, cases_Bool}
 use Rattle.std.proofs.lemmas.Slice.Eq.{bytes_eq-Decides}
+use Rattle.std.proofs.lemmas.Option.{same_Some, none-some}
 use Rattle.wdl_base.specs.declared.span.Span.{Span}
 use Rattle.wdl_base.specs.Names.{is_among}
 use Rattle.wdl_typed.specs.Lists.{has_name, are_distinct}
@@ -27,11 +28,11 @@ use Rattle.wdl_structs.specs.Tables.{Names, NamesAt, imported_by, seen_by}
 use Rattle.wdl_structs.specs.Nodes.{import_by, along_by, from_by}
 use Rattle.wdl_structs.specs.Kept.{Kept, Has, LeadsTo, AreDefs}
 use Rattle.wdl_structs.proofs.NameLaws.{among_at, among_place, among_append, eq_itself, same_among, one_place}
-use Rattle.wdl_structs.proofs.NodeLaws.{some_same, none_some}
-use Rattle.wdl_structs.proofs.SeenLaws.{get_some, get_within, all_at, ends_at}
+use Rattle.wdl_structs.proofs.SeenLaws.{get_within, ends_at}
 use Rattle.wdl_structs.proofs.StandLaws.{from_is}
 use Rattle.wdl_structs.proofs.IdentityLaws.{from_at, along_at, agrees_at, import_there}
 use Rattle.wdl_structs.proofs.KeptLaws.{has_one}
+use Rattle.wdl_base.proofs.Options.{item_there, all_at}
 
 -- ---- each name is that of a section
 
@@ -106,7 +107,7 @@ module _ (docs : List Doc) (names : NamesAt) (seen : (k : ℕ) (d : Doc) → sli
   declared_within zero k n ends h = absurd (false≢true ends)
   declared_within (suc m) k n ends h = elim (Rattle.std.proofs.lemmas.Bool.cases_lt k (length docs)) as (λ c. IsDeclared docs names k n) [
     | inl w ↦
-        let d = get_some docs k w in
+        let d = item_there docs k w in
         let is = imports_of d.0.document in
         let ls = d.0.imports in
         let a : is_among n (own_names d.0 ++ imported_by names is ls) ≡ true = once_among n (own_names d.0 ++ imported_by names is ls) (ap (is_among n) (sym (seen k d.0 d.1)) ∙ h) in
@@ -142,12 +143,12 @@ module _ (docs : List Doc) (names : NamesAt) (seen : (k : ℕ) (d : Doc) → sli
 -- the struct of a name has the members that are kept
 pub defs_at : (parents : List ℕ) (kept : Kept) (x : ℕ) (ns : Names) (ds : List StructDef) (p : ℕ) (n : List ℕ) → AreDefs parents kept x ns ds → are_distinct ns ≡ true → slice_get ns p ≡ Some n
     → (ms : List Member) × (members_at ds n ≡ Some ms) × Has kept (root parents (x + p)) ms
-defs_at parents kept x [] [] p n a d h = absurd (none_some n h)
+defs_at parents kept x [] [] p n a d h = absurd (none-some n h)
 defs_at parents kept x [] (e ∷ ds) p n a d h = absurd a
 defs_at parents kept x (m ∷ ns) [] p n a d h = absurd a
 defs_at parents kept x (m ∷ ns) (e ∷ ds) zero n a d h =
     let z : x ≡ x + 0 = omega arith in
-    (e.members, cond-true (bytes_eq e.name n) _ _ ((bytes_eq-Decides e.name n).1 (a.0 ∙ some_same m n h)), subst (λ y. Has kept (root parents y) e.members) z a.1)
+    (e.members, cond-true (bytes_eq e.name n) _ _ ((bytes_eq-Decides e.name n).1 (a.0 ∙ same_Some m n h)), subst (λ y. Has kept (root parents y) e.members) z a.1)
 defs_at parents kept x (m ∷ ns) (e ∷ ds) (suc p) n a d h =
     let q = and_parts (not (has_name m ns)) (are_distinct ns) d in
     let r = defs_at parents kept (suc x) ns ds p n a.2 q.1 h in
@@ -167,21 +168,21 @@ defs_names parents kept x (m ∷ ns) (e ∷ ds) a = let n = a.0 in let r = defs_
 
 sections_at : (structs : List StructDef) (stand : List ℕ → List ℕ) (ss : List StructSection) (q : ℕ) (t : StructSection) → AreSections structs stand ss → slice_get ss q ≡ Some t
     → members_at structs (stand t.name.name) ≡ Some (members_of stand t)
-sections_at structs stand [] q t a h = absurd (none_some t h)
-sections_at structs stand (s ∷ ss) zero t a h = subst (λ (x : StructSection). members_at structs (stand x.name.name) ≡ Some (members_of stand x)) (some_same s t h) a.0
+sections_at structs stand [] q t a h = absurd (none-some t h)
+sections_at structs stand (s ∷ ss) zero t a h = subst (λ (x : StructSection). members_at structs (stand x.name.name) ≡ Some (members_of stand x)) (same_Some s t h) a.0
 sections_at structs stand (s ∷ ss) (suc q) t a h = sections_at structs stand ss q t a.1 h
 
 pub have_section : (structs : List StructDef) (docs : List Doc) (k : ℕ) (d : Doc) (q : ℕ) (t : StructSection) → HaveSections structs docs → slice_get docs k ≡ Some d
     → slice_get (sections_of d.document) q ≡ Some t → members_at structs (stand_in d.structs t.name.name) ≡ Some (members_of (stand_in d.structs) t)
-have_section structs [] k d q t a h g = absurd (none_some d h)
+have_section structs [] k d q t a h g = absurd (none-some d h)
 have_section structs (c ∷ ds) zero d q t a h g =
-    let e = some_same c d h in
+    let e = same_Some c d h in
     sections_at structs (stand_in d.structs) (sections_of d.document) q t (subst (λ (x : Doc). AreSections structs (stand_in x.structs) (sections_of x.document)) e a.0) g
 have_section structs (c ∷ ds) (suc k) d q t a h g = have_section structs ds k d q t a.1 h g
 
 pub alike_at : (structs : List StructDef) (ss : List StructName) (p : ℕ) (s : StructName) → AreAlike structs ss → slice_get ss p ≡ Some s → members_at structs s.name ≡ members_at structs s.stands_for
-alike_at structs [] p s a h = absurd (none_some s h)
-alike_at structs (x ∷ xs) zero s a h = subst (λ (y : StructName). members_at structs y.name ≡ members_at structs y.stands_for) (some_same x s h) a.0
+alike_at structs [] p s a h = absurd (none-some s h)
+alike_at structs (x ∷ xs) zero s a h = subst (λ (y : StructName). members_at structs y.name ≡ members_at structs y.stands_for) (same_Some x s h) a.0
 alike_at structs (x ∷ xs) (suc p) s a h = alike_at structs xs p s a.1 h
 
 some_list : (ms ns : List Member) → Some ms ≡ Some ns → ms ≡ ns

@@ -8,6 +8,7 @@ use Rattle.std.specs.List.{find}
 use Rattle.std.specs.Str.{bytes_eq}
 use Rattle.std.proofs.lemmas.Bool.{true≢false, false≢true, and_parts, not-true, cond-true, cond-false, false_from_ne_true, or_parts}
 use Rattle.std.proofs.lemmas.Slice.Eq.{bytes_eq-Decides}
+use Rattle.std.proofs.lemmas.Option.{none-some, same_Some}
 use Rattle.wdl_base.specs.Names.{is_among}
 use Rattle.wdl_typed.specs.Lists.{has_name, are_distinct}
 use Rattle.wdl_ast.specs.declared.document.Alias.{Alias}
@@ -15,24 +16,16 @@ use Rattle.wdl_library.specs.Names.{aliases_for, or_itself}
 use Rattle.wdl_structs.specs.declared.table.Entry.{Entry}
 use Rattle.wdl_structs.specs.Tables.{Names, named}
 use Rattle.wdl_structs.proofs.NameLaws.{among_at, same_among, distinct_push}
-
-none_some : {A : Type 0} (x : A) → None ≡ Some x → ⊥
-none_some x e = cc
-
-some_none : {A : Type 0} (x : A) → Some x ≡ None → ⊥
-some_none x e = cc
-
-some_same : {A : Type 0} (x y : A) → Some x ≡ Some y → x ≡ y
-some_same x y e = cc
+use Rattle.wdl_base.proofs.Options.{some_none}
 
 -- ---- where a name stands
 
 found_name : (es : List Entry) (n : List ℕ) (e : Entry) → find (λ x. bytes_eq x.name n) es ≡ Some e → e.name ≡ n
-found_name [] n e h = absurd (none_some e h)
+found_name [] n e h = absurd (none-some e h)
 found_name (x ∷ es) n e h = on (λ g. found_name es n e g) (bytes_eq x.name n) refl h
   where
     on : (find (λ y. bytes_eq y.name n) es ≡ Some e → e.name ≡ n) → (b : Bool) → bytes_eq x.name n ≡ b → (if b then Some x else find (λ y. bytes_eq y.name n) es) ≡ Some e → e.name ≡ n
-    on more true i g = ap (λ (y : Entry). y.name) (sym (some_same x e g)) ∙ (bytes_eq-Decides x.name n).0 i
+    on more true i g = ap (λ (y : Entry). y.name) (sym (same_Some x e g)) ∙ (bytes_eq-Decides x.name n).0 i
     on more false i g = more g
 
 found_none : (es : List Entry) (n : List ℕ) → find (λ x. bytes_eq x.name n) es ≡ None → is_among n (named es) ≡ false
@@ -45,8 +38,8 @@ found_none (x ∷ es) n h = on (λ g. found_none es n g) (bytes_eq x.name n) ref
     on more false i g = ap (λ b. b || is_among n (named es)) i ∙ more g
 
 named_get : (es : List Entry) (p : ℕ) (e : Entry) → slice_get es p ≡ Some e → slice_get (named es) p ≡ Some e.name
-named_get [] p e h = absurd (none_some e h)
-named_get (x ∷ es) zero e h = ap (λ (y : Entry). Some y.name) (some_same x e h)
+named_get [] p e h = absurd (none-some e h)
+named_get (x ∷ es) zero e h = ap (λ (y : Entry). Some y.name) (same_Some x e h)
 named_get (x ∷ es) (suc p) e h = named_get es p e h
 
 get_there : (es : List Entry) (p : ℕ) → p < length es → (e : Entry) × (slice_get es p ≡ Some e)
@@ -95,9 +88,9 @@ aliases_other aliases a (n ∷ ns) h =
 -- the alias joins the group of its name
 pub aliases_more : (aliases : List Alias) (a : Alias) (ns : Names) (p : ℕ) → are_distinct ns ≡ true → slice_get ns p ≡ Some a.from.name
     → map (aliases_for (aliases ++ a ∷ [])) ns ≡ set (map (aliases_for aliases) ns) p (get_or (map (aliases_for aliases) ns) p [] ++ a.to.name ∷ [])
-aliases_more aliases a [] p d h = absurd (none_some a.from.name h)
+aliases_more aliases a [] p d h = absurd (none-some a.from.name h)
 aliases_more aliases a (n ∷ ns) zero d h =
-    let i = some_same n a.from.name h in
+    let i = same_Some n a.from.name h in
     let q = and_parts (not (has_name n ns)) (are_distinct ns) d in
     let f : is_among a.from.name ns ≡ false = ap (λ x. is_among x ns) (sym i) ∙ sym (same_among n ns) ∙ not-true (has_name n ns) q.0 in
     let e : aliases_for (aliases ++ a ∷ []) n ≡ aliases_for aliases n ++ a.to.name ∷ [] = aliases_one aliases a n
@@ -115,7 +108,7 @@ aliases_more aliases a (n ∷ ns) (suc p) d h =
     differ f = false_from_ne_true (bytes_eq a.from.name n) (λ t. true≢false (sym (among_at a.from.name ns p h) ∙ ap (λ x. is_among x ns) ((bytes_eq-Decides a.from.name n).0 t) ∙ sym (same_among n ns) ∙ f))
 
 pub within_map : (f : List ℕ → Names) (ns : Names) (p : ℕ) (n : List ℕ) → slice_get ns p ≡ Some n → p < length (map f ns)
-within_map f [] p n h = absurd (none_some n h)
+within_map f [] p n h = absurd (none-some n h)
 within_map f (m ∷ ns) zero n h = omega arith
 within_map f (m ∷ ns) (suc p) n h = let r = within_map f ns p n h in omega (arith, r)
 

@@ -5,6 +5,7 @@ use Rattle.std.specs.List.{list_all}
 use Rattle.std.specs.Str.{bytes_eq}
 use Rattle.std.proofs.lemmas.Bool.{true≢false, false≢true, and_parts, and_from, or_left, or_right, or_cases, not-true, cond-true, cond-false, false_from_ne_true, cases_Bool, cases_eq}
 use Rattle.std.proofs.lemmas.Slice.Eq.{bytes_eq-Decides}
+use Rattle.std.proofs.lemmas.Option.{same_Some, none-some}
 use Rattle.wdl_base.specs.declared.span.Span.{Span}
 use Rattle.wdl_base.specs.Names.{is_among}
 use Rattle.wdl_typed.specs.Lists.{has_name, are_distinct}
@@ -25,20 +26,21 @@ use Rattle.wdl_links.specs.Circles.{AreReached}
 use Rattle.wdl_structs.specs.Tables.{Names, NamesAt, imported_by, seen_by}
 use Rattle.wdl_structs.specs.Nodes.{import_by, along_by, from_by, all_among}
 use Rattle.wdl_structs.proofs.NameLaws.{among_at, among_place, among_append, eq_itself, same_among, one_place}
-use Rattle.wdl_structs.proofs.NodeLaws.{some_same, none_some, no_names}
-use Rattle.wdl_structs.proofs.SeenLaws.{get_some, get_within, all_at, ends_at}
+use Rattle.wdl_structs.proofs.NodeLaws.{no_names}
+use Rattle.wdl_structs.proofs.SeenLaws.{get_within, ends_at}
 use Rattle.wdl_structs.proofs.StandLaws.{bare_along, from_is, imported_is, names_eq-true, AreGiven, seen_imported}
-use Rattle.wdl_structs.proofs.IdentityLaws.{distinct_once, is_first, IsFirst, from_at, along_at, agrees_at, given_from, get_below}
+use Rattle.wdl_structs.proofs.IdentityLaws.{distinct_once, is_first, IsFirst, from_at, along_at, agrees_at, given_from, get_below, some_or as within_or}
+use Rattle.wdl_base.proofs.Options.{item_there, all_at}
 
 -- ---- documents that differ in their names alone
 
 pub same_get : (docs others : List Doc) (k : ℕ) (d : Doc) → AreSameDocs docs others → slice_get docs k ≡ Some d → (e : Doc) × (slice_get others k ≡ Some e) × (bare d ≡ bare e)
-same_get [] others k d h at = absurd (none_some d at)
+same_get [] others k d h at = absurd (none-some d at)
 same_get (x ∷ xs) [] k d h at = absurd (none_left h)
   where
     none_left : bare x ∷ map bare xs ≡ [] → ⊥
     none_left q = cc
-same_get (x ∷ xs) (y ∷ ys) zero d h at = (y, refl, ap bare (sym (some_same x d at)) ∙ head h)
+same_get (x ∷ xs) (y ∷ ys) zero d h at = (y, refl, ap bare (sym (same_Some x d at)) ∙ head h)
   where
     head : bare x ∷ map bare xs ≡ bare y ∷ map bare ys → bare x ≡ bare y
     head q = cc
@@ -70,9 +72,6 @@ past (x ∷ xs) (suc k) h = past xs k (λ b. h (more b))
     more : k < length xs → suc k < length (x ∷ xs)
     more b = omega (arith, b)
 
-within_or : {A : Type 0} (xs : List A) (k : ℕ) → (k < length xs) ⊎ (k < length xs → ⊥)
-within_or xs k = elim (Rattle.std.proofs.lemmas.Bool.cases_lt k (length xs)) as (λ c. (k < length xs) ⊎ (k < length xs → ⊥)) [ inl l ↦ inl l | inr g ↦ inr (λ l. omega (arith, l, g)) ]
-
 -- ---- one list of names
 
 pub seen_at : (docs : List Doc) (k : ℕ) (d : Doc) → list_all (has_names docs) docs ≡ true → slice_get docs k ≡ Some d → names_at docs k ≡ seen_by (names_at docs) d
@@ -93,7 +92,7 @@ module _ (docs others : List Doc) (same : AreSameDocs docs others) where
   names_within zero k h g ends = absurd (false≢true ends)
   names_within (suc n) k h g ends = elim (within_or docs k) as (λ c. names_at docs k ≡ names_at others k) [
     | inl l ↦
-        let d = get_some docs k l in
+        let d = item_there docs k l in
         let e = same_get docs others k d.0 same d.1 in
         let b : seen_by (names_at others) d.0 ≡ seen_by (names_at others) e.0 = ap (λ (x : Doc). seen_by (names_at others) x) e.2 in
         let walk : list_all (λ (x : Link). ends_within n docs x.doc) d.0.imports ≡ true = subst (λ (o : Option Doc). list_all (λ (x : Link). ends_within n docs x.doc) (links_in o) ≡ true) d.1 ends in
@@ -117,9 +116,9 @@ module _ (docs others : List Doc) (same : AreSameDocs docs others) where
 -- what stands for the name at a place is at that place or before it
 first_at : (before : Names) (ss : List StructName) (p : ℕ) (s : StructName) → are_first before ss ≡ true → slice_get ss p ≡ Some s
     → (is_among s.stands_for before ≡ true) ⊎ ((q : ℕ) × (q ≤ p) × (slice_get (names_in ss) q ≡ Some s.stands_for))
-first_at before [] p s h at = absurd (none_some s at)
+first_at before [] p s h at = absurd (none-some s at)
 first_at before (x ∷ xs) zero s h at =
-    let a : is_among s.stands_for (x.name ∷ before) ≡ true = ap (λ (y : StructName). is_among y.stands_for (x.name ∷ before)) (sym (some_same x s at)) ∙ (and_parts (is_among x.stands_for (x.name ∷ before)) (are_first (x.name ∷ before) xs) h).0 in
+    let a : is_among s.stands_for (x.name ∷ before) ≡ true = ap (λ (y : StructName). is_among y.stands_for (x.name ∷ before)) (sym (same_Some x s at)) ∙ (and_parts (is_among x.stands_for (x.name ∷ before)) (are_first (x.name ∷ before) xs) h).0 in
     elim (or_cases (bytes_eq x.name s.stands_for) (is_among s.stands_for before) a) as (λ c. (is_among s.stands_for before ≡ true) ⊎ ((q : ℕ) × (q ≤ 0) × (slice_get (names_in (x ∷ xs)) q ≡ Some s.stands_for))) [
       | inl e ↦ inr (0, omega arith, ap Some ((bytes_eq-Decides x.name s.stands_for).0 e))
       | inr e ↦ inl e
@@ -136,8 +135,8 @@ first_at before (x ∷ xs) (suc p) s h at =
 
 pub stand_at_place : (ss : List StructName) (p : ℕ) (n : List ℕ) → are_distinct (names_in ss) ≡ true → slice_get (names_in ss) p ≡ Some n
     → (s : StructName) × (slice_get ss p ≡ Some s) × (s.name ≡ n) × (stand_in ss n ≡ s.stands_for)
-stand_at_place [] p n d at = absurd (none_some n at)
-stand_at_place (x ∷ xs) zero n d at = (x, refl, some_same x.name n at, cond-true (bytes_eq x.name n) _ _ ((bytes_eq-Decides x.name n).1 (some_same x.name n at)))
+stand_at_place [] p n d at = absurd (none-some n at)
+stand_at_place (x ∷ xs) zero n d at = (x, refl, same_Some x.name n at, cond-true (bytes_eq x.name n) _ _ ((bytes_eq-Decides x.name n).1 (same_Some x.name n at)))
 stand_at_place (x ∷ xs) (suc p) n d at =
     let q = and_parts (not (has_name x.name (names_in xs))) (are_distinct (names_in xs)) d in
     let r = stand_at_place xs p n q.1 at in
@@ -168,7 +167,7 @@ one_stand ss ts n p d e f g there back at =
     let i : c.0 ≡ b.0 = one_place (names_in ts) (stand_in ts n) c.0 b.0 dt (c.2 ∙ ap Some (sym (there n))) b.2 in
     let j : h.0 ≡ a.0 = one_place (names_in ss) (stand_in ss n) h.0 a.0 d (h.2 ∙ ap Some (sym (back n))) a.2 in
     let k : a.0 ≡ b.0 = places a.0 b.0 c.0 h.0 i j c.1 h.1 in
-    some_same (stand_in ss n) (stand_in ts n) (sym a.2 ∙ ap (λ q. slice_get (names_in ss) q) k ∙ ap (λ (ns : Names). slice_get ns b.0) e ∙ b.2)
+    same_Some (stand_in ss n) (stand_in ts n) (sym a.2 ∙ ap (λ q. slice_get (names_in ss) q) k ∙ ap (λ (ns : Names). slice_get ns b.0) e ∙ b.2)
   where
     places : (a b c h : ℕ) → c ≡ b → h ≡ a → c ≤ a → h ≤ b → a ≡ b
     places a b c h i j k l = omega (arith, i, j, k, l)
@@ -227,7 +226,7 @@ docs_same (x ∷ xs) (y ∷ ys) e h =
 
 pub distinct_at : (docs : List Doc) (k : ℕ) → list_all (has_names docs) docs ≡ true → are_distinct (names_at docs k) ≡ true
 distinct_at docs k h = elim (within_or docs k) as (λ c. are_distinct (names_at docs k) ≡ true) [
-  | inl l ↦ let d = get_some docs k l in ap are_distinct (seen_at docs k d.0 h d.1) ∙ distinct_once (own_names d.0 ++ imported_by (names_at docs) (imports_of d.0.document) d.0.imports)
+  | inl l ↦ let d = item_there docs k l in ap are_distinct (seen_at docs k d.0 h d.1) ∙ distinct_once (own_names d.0 ++ imported_by (names_at docs) (imports_of d.0.document) d.0.imports)
   | inr m ↦ ap (λ (o : Option Doc). are_distinct (names_in (structs_of o))) (past docs k m)
 ]
 
@@ -281,6 +280,6 @@ stand_read ss p n s d at is =
     ap (λ (x : StructName). x.stands_for) (is ∙ read ss p r.0 s r.1) ∙ sym r.3
   where
     read : (xs : List StructName) (p : ℕ) (x d : StructName) → slice_get xs p ≡ Some x → get_or xs p d ≡ x
-    read [] p x d h = absurd (none_some x h)
-    read (y ∷ ys) zero x d h = some_same y x h
+    read [] p x d h = absurd (none-some x h)
+    read (y ∷ ys) zero x d h = same_Some y x h
     read (y ∷ ys) (suc p) x d h = read ys p x d h

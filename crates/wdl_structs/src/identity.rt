@@ -18,7 +18,8 @@ use wdl_library::{Doc, Link};
 use wdl_names::Indexed;
 use wdl_value::{Name, NoMemory};
 
-/// The names of documents in classes: the number of the first name of each document, and the parent of each name.
+/// The names of documents in classes: the number of the first name of each document, and the parent
+/// of each name.
 #[derive(Drop)]
 pub struct Classes {
     pub starts: Items<usize>,
@@ -74,7 +75,8 @@ fn join_group(
     }
 }
 
-/// Joins the imported names, of which the first has the number `first`, with those that an import gives for them.
+/// Joins the imported names, of which the first has the number `first`, with those that an import
+/// gives for them.
 fn join_groups(
     parents: &mut [usize],
     index: &Indexed<Entry>,
@@ -129,7 +131,8 @@ fn join_import(
     Ok(())
 }
 
-/// Joins the names of the documents that one document imports with those that its imports give for them.
+/// Joins the names of the documents that one document imports with those that its imports give for
+/// them.
 fn join_imports(
     alloc: Global,
     parents: &mut [usize],
@@ -159,7 +162,8 @@ fn join_imports(
     Ok(())
 }
 
-/// Joins the names of the documents that one document imports with those that its imports give for them.
+/// Joins the names of the documents that one document imports with those that its imports give for
+/// them.
 fn join_doc(
     alloc: Global,
     parents: &mut [usize],
@@ -197,7 +201,8 @@ fn join_all(
     Ok(())
 }
 
-/// The classes of the names that documents see: two names are in one class where a chain of imports joins them.
+/// The classes of the names that documents see: two names are in one class where a chain of imports
+/// joins them.
 pub fn classes_of(alloc: Global, docs: &[Doc], tables: &[Table]) -> Result<Classes, NoMemory>
     requires { AreSeen docs.now tables.now }
     ensures { IfOk result (λ r. spec.AreClasses docs.now tables.now r.starts r.parents) }

@@ -1,6 +1,19 @@
 //! The members of structs: those of all sections that declare one struct are equal.
 
-ghost use Rattle.std.specs.Prelude.{◌≡◌, ◌+◌, ◌≤◌, ◌<◌, ℕ, List, true, map, length, IfOk, IfSome, IfNone};
+ghost use Rattle.std.specs.Prelude.{
+  ◌≡◌,
+  ◌+◌,
+  ◌≤◌,
+  ◌<◌,
+  ℕ,
+  List,
+  true,
+  map,
+  length,
+  IfOk,
+  IfSome,
+  IfNone,
+};
 ghost use Rattle.wdl_base.specs.Names.{is_among};
 ghost use Rattle.wdl_value.specs.declared.ty.Member.{Member as MemberOf};
 ghost use Rattle.wdl_library.specs.Names.{names_in, own_names};
@@ -46,8 +59,8 @@ fn keep(kept: &mut Items<Option<Items<Member>>>, at: usize, members: Items<Membe
     true
 }
 
-/// Keeps the members of a section of a document, of whose names the first has the number `start`. 204 is answered where its struct has
-/// others.
+/// Keeps the members of a section of a document, of whose names the first has the number `start`.
+/// 204 is answered where its struct has others.
 fn keep_section(
     alloc: Global,
     kept: &mut Items<Option<Items<Member>>>,
@@ -87,7 +100,8 @@ fn keep_sections(
     requires here { spec.IsHere kept.old (named index.now) names.now parents.now start }
     requires known { all_among (names_in names.now) (map (λ s. s.name.name) (structs_in sections.now)) ≡ true }
     ensures { spec.KeepsMore kept.old kept.new (spec.Keeps parents.now start (names_in names.now) (stand_in names.now) (structs_in sections.now))
-        (spec.DiffersIn parents.now start (names_in names.now) (stand_in names.now) (structs_in sections.now)) result }
+        (spec.DiffersIn parents.now start (names_in names.now) (stand_in names.now)
+        (structs_in sections.now)) result }
 {
     for section in sections {
         let section = match section {
@@ -101,7 +115,8 @@ fn keep_sections(
     Ok(())
 }
 
-/// Keeps the members of the sections of a document, which has the names of its table with those that stand for them.
+/// Keeps the members of the sections of a document, which has the names of its table with those
+/// that stand for them.
 fn keep_doc(
     alloc: Global,
     kept: &mut Items<Option<Items<Member>>>,
@@ -140,8 +155,8 @@ fn behind(parents: &[usize], start: usize, count: usize) -> usize
     start + count
 }
 
-/// The members of the structs of all documents, which have the names that they see and those that stand for them. 204 is answered where
-/// a struct has two lists of members.
+/// The members of the structs of all documents, which have the names that they see and those that
+/// stand for them. 204 is answered where a struct has two lists of members.
 pub fn keep_all(
     alloc: Global,
     docs: &[Doc],

@@ -1,4 +1,5 @@
-//! The struct names that the documents of a library see, which of them are one struct, and the structs.
+//! The struct names that the documents of a library see, which of them are one struct, and the
+//! structs.
 #![tactic(auto)]
 
 mod class;

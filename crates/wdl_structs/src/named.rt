@@ -56,7 +56,8 @@ fn structs_by(
     Ok(structs)
 }
 
-/// The documents with the names that stand for theirs, where the names that each sees are known, and their structs.
+/// The documents with the names that stand for theirs, where the names that each sees are known,
+/// and their structs.
 fn identified(
     alloc: Global,
     docs: Items<Doc>,
@@ -71,9 +72,10 @@ fn identified(
     Ok((docs, structs))
 }
 
-/// The documents with their struct names, and the structs under the names of document 0 (OpenWDL 1.1, "Import statements" and "Struct
-/// definition"). 206 is answered at an alias of a struct that the imported document does not see, and 204 at a struct section whose
-/// struct has another list of members.
+/// The documents with their struct names, and the structs under the names of document 0 (OpenWDL
+/// 1.1, "Import statements" and "Struct definition"). 206 is answered at an alias of a struct that
+///   the imported document does not see, and 204 at a struct section whose struct has another list
+///   of members.
 pub fn name_structs(alloc: Global, docs: Items<Doc>) -> Result<(Items<Doc>, Structs), LinkFault>
     requires linked { list_all (has_links docs) docs ≡ true }
     requires ends { has_no_circle docs ≡ true }

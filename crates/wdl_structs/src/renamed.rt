@@ -1,6 +1,19 @@
 //! The names that an import gives.
 
-ghost use Rattle.std.specs.Prelude.{◌≡◌, ◌<◌, ◌++◌, ◌∷◌, [], true, map, length, slice_index_or, slice_set, IfOk, OnOk};
+ghost use Rattle.std.specs.Prelude.{
+  ◌≡◌,
+  ◌<◌,
+  ◌++◌,
+  ◌∷◌,
+  [],
+  true,
+  map,
+  length,
+  slice_index_or,
+  slice_set,
+  IfOk,
+  OnOk,
+};
 ghost use Rattle.wdl_typed.specs.Lists.{are_distinct};
 ghost use Rattle.wdl_library.specs.Names.{aliases_for, or_itself};
 ghost use Rattle.wdl_structs.specs.Tables as spec;
@@ -65,7 +78,8 @@ fn or_itself(alloc: Global, group: &[Name], name: &Name) -> Result<Items<Name>, 
     Ok(names)
 }
 
-/// For each name of an imported document those that the import gives for it, in time linear but for a logarithm.
+/// For each name of an imported document those that the import gives for it, in time linear but for
+/// a logarithm.
 pub fn given(
     alloc: Global,
     entries: &[Entry],

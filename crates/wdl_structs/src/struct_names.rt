@@ -22,7 +22,8 @@ fn standing<'a>(first: &'a [Entry], parents: &[usize], number: usize) -> &'a Nam
     &first[least(parents, number)].name
 }
 
-/// The names of one document with those that stand for them, where the first has the number `start`.
+/// The names of one document with those that stand for them, where the first has the number
+/// `start`.
 fn stands_of(
     alloc: Global,
     first: &[Entry],

@@ -1,6 +1,18 @@
 //! The struct names that a document sees.
 
-ghost use Rattle.std.specs.Prelude.{◌≡◌, [], true, length, OnOk, IfOk, IfSome, IfNone, Some, false, slice_get};
+ghost use Rattle.std.specs.Prelude.{
+  ◌≡◌,
+  [],
+  true,
+  length,
+  OnOk,
+  IfOk,
+  IfSome,
+  IfNone,
+  Some,
+  false,
+  slice_get,
+};
 ghost use Rattle.wdl_base.specs.Names.{is_among};
 ghost use Rattle.wdl_typed.specs.Lists.{are_distinct};
 ghost use Rattle.wdl_structs.specs.Tables as spec;

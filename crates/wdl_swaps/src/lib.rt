@@ -1,5 +1,5 @@
-//! Expressions with members and casts of references in the places of names, and names that are used outside the bodies
-//! that declare them.
+//! Expressions with members and casts of references in the places of names, and names that are used
+//! outside the bodies that declare them.
 #![tactic(auto)]
 
 mod chain;

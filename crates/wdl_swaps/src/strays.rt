@@ -187,7 +187,8 @@ fn add_outputs(
     Ok(())
 }
 
-/// The names that a workflow uses outside the bodies that declare them. Names of inputs, items and calls count as such.
+/// The names that a workflow uses outside the bodies that declare them. Names of inputs, items and
+/// calls count as such.
 pub fn flow_strays(alloc: Global, flow: &FlowDef) -> Result<Words, NoMemory>
     ensures { IfOk result (λ w. w ≡ spec.flow_strays flow.now) }
 {

@@ -54,6 +54,8 @@ fn swapped_member(
     Ok(TExpr::Member(base, name.copy(alloc)?))
 }
 
+/// The same in a box, as the parts of an expression stand. `NoMemory` comes where the allocator
+/// refuses, and nothing else is refused.
 #[cycle(swapped)]
 #[tactic(auto, using(crate::proofs::SwapLaws::equations))]
 pub fn boxed_expr(alloc: Global, expr: &TExpr, swaps: &[Swap]) -> Result<Boxed<TExpr>, NoMemory>

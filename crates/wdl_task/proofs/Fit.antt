@@ -18,7 +18,7 @@ append_none (x ∷ xs) = ap (λ ys. x ∷ ys) (append_none xs)
 
 -- ---- look-ups in longer lists
 
-type_kept : (names more : List Bound) (key : Key) (t : Ty) → type_in names key ≡ Some t → type_in (names ++ more) key ≡ Some t
+pub type_kept : (names more : List Bound) (key : Key) (t : Ty) → type_in names key ≡ Some t → type_in (names ++ more) key ≡ Some t
 type_kept [] more key t h = absurd (cc)
 type_kept (b ∷ bs) more key t h = by_test (same_key b.key key) h (type_kept bs more key t)
   where
@@ -26,7 +26,7 @@ type_kept (b ∷ bs) more key t h = by_test (same_key b.key key) h (type_kept bs
     by_test true h rest = h
     by_test false h rest = rest h
 
-type_later : (names more : List Bound) (key : Key) → type_in names key ≡ None → type_in (names ++ more) key ≡ type_in more key
+pub type_later : (names more : List Bound) (key : Key) → type_in names key ≡ None → type_in (names ++ more) key ≡ type_in more key
 type_later [] more key h = refl
 type_later (b ∷ bs) more key h = by_test (same_key b.key key) h (type_later bs more key)
   where
@@ -34,7 +34,7 @@ type_later (b ∷ bs) more key h = by_test (same_key b.key key) h (type_later bs
     by_test true h rest = absurd (cc)
     by_test false h rest = rest h
 
-value_kept : (env more : List Bind) (key : Key) (x : Value) → lookup env key ≡ Some x → lookup (env ++ more) key ≡ Some x
+pub value_kept : (env more : List Bind) (key : Key) (x : Value) → lookup env key ≡ Some x → lookup (env ++ more) key ≡ Some x
 value_kept [] more key x h = absurd (cc)
 value_kept (b ∷ bs) more key x h = by_test (same_key b.key key) h (value_kept bs more key x)
   where
@@ -42,7 +42,7 @@ value_kept (b ∷ bs) more key x h = by_test (same_key b.key key) h (value_kept 
     by_test true h rest = h
     by_test false h rest = rest h
 
-value_later : (env more : List Bind) (key : Key) → lookup env key ≡ None → lookup (env ++ more) key ≡ lookup more key
+pub value_later : (env more : List Bind) (key : Key) → lookup env key ≡ None → lookup (env ++ more) key ≡ lookup more key
 value_later [] more key h = refl
 value_later (b ∷ bs) more key h = by_test (same_key b.key key) h (value_later bs more key)
   where

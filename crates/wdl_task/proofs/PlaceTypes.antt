@@ -1,6 +1,7 @@
 -- The type of an expression that may be, as a whole, a call of a function that writes a file, and what it gives.
 use Rattle.std.proofs.Common.{◌≡◌, ℕ, Bool, true, false, cond, not, ◌&&◌, ◌||◌, List, [], ◌∷◌, map, Option, Some, None, option_and_then, Ok, sym, ap, ◌∙◌, subst, refl}
 use Rattle.std.proofs.lemmas.Bool.{false≢true}
+use Rattle.std.proofs.lemmas.Option.{same_Some}
 use Rattle.wdl_value.specs.declared.env.Bind.{Bind}
 use Rattle.wdl_value.specs.declared.operator.Func.{Func}
 use Rattle.wdl_value.specs.declared.operator.Func.TheVariants as func
@@ -22,12 +23,13 @@ use Rattle.wdl_typed.specs.Requests.{plain_of as plain_met}
 use Rattle.wdl_typed.specs.Typing.{Context, Typing, all_types, apply_type, are_same, exact_args, items_in, type_of, type_step, when}
 use Rattle.wdl_eval.specs.Laws.{IsSound}
 use Rattle.wdl_eval.proofs.Operators.{cast_fine}
-use Rattle.wdl_eval.proofs.Steps.{Fine, some_in, some_same, when_in}
+use Rattle.wdl_eval.proofs.Steps.{Fine, when_in}
 use Rattle.wdl_task.specs.Calls.{Call, Naming, call_of, call_step, cast_name, first_call, name_step}
 use Rattle.wdl_task.proofs.CallOut.{call_roll, with_call}
 use Rattle.wdl_task.proofs.Fuse.{fused}
 use Rattle.wdl_task.proofs.Fuse as fuse
 use Rattle.wdl_task.proofs.Placing.{met_cast, name_roll, write_roll}
+use Rattle.wdl_base.proofs.Options.{then_parts}
 
 -- ---- the table of functions that write files
 
@@ -40,7 +42,7 @@ taken : (t p r : Ty) (row : FuncTyping) → taking t p r ≡ Some row → row.re
 taken t p r row e = by_test (coerces t p) e
   where
     by_test : (b : Bool) → cond b (unary p r) None ≡ Some row → row.result ≡ r
-    by_test true e = sym (ap (λ (w : FuncTyping). w.result) (some_same e))
+    by_test true e = sym (ap (λ (w : FuncTyping). w.result) (same_Some _ _ e))
     by_test false e = cc
 
 unary_file : (f : Func) (t : Ty) (row : FuncTyping) → writes f ≡ true → unary_type f t ≡ Some row → row.result ≡ ty.File
@@ -109,13 +111,13 @@ module _ (c : Context) where
     layer_plain : (y : TExpr-F PlainKnown) (b : Bool) (t : Ty) → type_step c (map-TExpr TExpr Typing (type_of c) (plains y)) b ≡ Some t
         → (call_step (map-TExpr TExpr (TExpr × Option Call) with_call (plains y)) ≡ None) × (writing_step (map-TExpr TExpr Placing (placing env) (plains y)) ≡ None)
     layer_plain (layer.Apply f ks) b t h =
-        let p = some_in (apply_type c.outputs f) (all_types (items_in (map (type_of c) (map plain_first ks)) b)) t h in
+        let p = then_parts (apply_type c.outputs f) (all_types (items_in (map (type_of c) (map plain_first ks)) b)) t h in
         let n = unwritten c.outputs f p.0 t p.2 in (
           ap (λ w. cond w (first_call f (map with_call (map plain_first ks))) None) n,
           ap (λ w. cond w (Some (record { func = f; argument = first_of (map plain_met (map (placing env) (map plain_first ks))); casts = [] })) None) n,
         )
     layer_plain (layer.Cast k u) b t h =
-        let p = some_in (λ (w : Ty). when (coerces w u) u) (type_of c k.0 b) t h in
+        let p = then_parts (λ (w : Ty). when (coerces w u) u) (type_of c k.0 b) t h in
         let q = k.1 b p.0 p.1 in
         (q.0, ap (cast_last u) q.1)
     layer_plain y b t h = (refl, refl)
@@ -148,14 +150,14 @@ module _ (c : Context) where
 
   apply_written : (f : Func) (ks : List Known) (b : Bool) (t : Ty) → writes f ≡ true → row_of ks b f ≡ Some t → IsTypedCall b (first_call f (map with_call (map first ks)))
   apply_written f [] b t w h =
-      let p = some_in (λ (ts : List Ty). option_and_then (exact_args ts) (function_type f ts)) (Some []) t h in
-      let q = some_in (exact_args p.0) (function_type f p.0) t p.2 in
-      let none : [] ≡ p.0 = some_same p.1 in
+      let p = then_parts (λ (ts : List Ty). option_and_then (exact_args ts) (function_type f ts)) (Some []) t h in
+      let q = then_parts (exact_args p.0) (function_type f p.0) t p.2 in
+      let none : [] ≡ p.0 = same_Some _ _ p.1 in
       absurd (subst (λ (ts : List Ty). HasOne ts) (sym none) (file_row f p.0 q.0 w q.1).0)
   apply_written f (k ∷ ks) b t w h =
       let rest = all_types (items_in (map plain_of (map placed_of (map first ks))) b) in
-      let p = some_in (λ (ts : List Ty). option_and_then (exact_args ts) (function_type f ts)) (option_and_then (λ u. option_and_then (λ us. Some (u ∷ us)) rest) ((placed_of k.0).plain b)) t h in
-      let q = some_in (λ (u : Ty). option_and_then (λ us. Some (u ∷ us)) rest) ((placed_of k.0).plain b) p.0 p.1 in
+      let p = then_parts (λ (ts : List Ty). option_and_then (exact_args ts) (function_type f ts)) (option_and_then (λ u. option_and_then (λ us. Some (u ∷ us)) rest) ((placed_of k.0).plain b)) t h in
+      let q = then_parts (λ (u : Ty). option_and_then (λ us. Some (u ∷ us)) rest) ((placed_of k.0).plain b) p.0 p.1 in
       (q.0, sym (ap (λ (f : Typing). f b) (plain_is_type k.0)) ∙ q.1)
 
   layer_written : (y : TExpr-F Known) (b : Bool) (t : Ty) → write_step (map-TExpr TExpr Placed placed_of (exprs y)) b ≡ Some t
@@ -166,7 +168,7 @@ module _ (c : Context) where
       by_test true e h = apply_written f ks b t e h
       by_test false e h = absurd (cc)
   layer_written (layer.Cast k u) b t h =
-      let p = some_in (λ (w : Ty). when (coerces w u) u) ((placed_of k.0).write b) t h in
+      let p = then_parts (λ (w : Ty). when (coerces w u) u) ((placed_of k.0).write b) t h in
       k.1 b p.0 p.1
   layer_written y b t h = absurd (cc)
 
@@ -191,7 +193,7 @@ module _ (c : Context) where
 
   file_named : (f : Func) (ts : List Ty) (n : List ℕ) (t : Ty) → writes f ≡ true → option_and_then (exact_args ts) (function_type f ts) ≡ Some t → IsSound c.structs t (Ok (v.File n))
   file_named f ts n t w h =
-      let q = some_in (exact_args ts) (function_type f ts) t h in
+      let q = then_parts (exact_args ts) (function_type f ts) t h in
       let row : FuncTyping = q.0 in
       let made = when_in (are_same row.args ts) row.result t q.2 in
       subst (λ (u : Ty). fits c.structs (v.File n) u ≡ true) (sym (file_row f ts row w q.1).1 ∙ made.1) (file_fits c.structs n)
@@ -203,7 +205,7 @@ module _ (c : Context) where
       types = all_types (items_in (map plain_of (map placed_of (map name_first ks))) b)
 
       by_test : (w : Bool) → writes f ≡ w → cond w (option_and_then (λ ts. option_and_then (exact_args ts) (function_type f ts)) types) None ≡ Some t → IsSound c.structs t (Ok (v.File n))
-      by_test true e h = let p = some_in (λ (ts : List Ty). option_and_then (exact_args ts) (function_type f ts)) types t h in file_named f p.0 n t e p.2
+      by_test true e h = let p = then_parts (λ (ts : List Ty). option_and_then (exact_args ts) (function_type f ts)) types t h in file_named f p.0 n t e p.2
       by_test false e h = absurd (cc)
   layer_named (layer.Cast k u) b n t h =
       subst (λ (r : Met Value). IsSound c.structs t r) (met_cast (cast_name k.0 n) u)

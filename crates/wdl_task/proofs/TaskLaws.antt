@@ -2,6 +2,7 @@
 use Rattle.std.proofs.Common.{◌≡◌, ℕ, Bool, true, false, cond, ◌&&◌, List, [], ◌∷◌, ◌++◌, length, codes, Option, Some, None, Ok, Err, append_assoc, sym, ap, ◌∙◌, subst, refl}
 use Rattle.std.specs.List.{list_all}
 use Rattle.std.proofs.lemmas.Bool.{false≢true, and_parts}
+use Rattle.std.proofs.lemmas.Option.{same_Some}
 use Rattle.wdl_base.specs.declared.answer.Answer.{Answer}
 use Rattle.wdl_base.specs.declared.body.Laid.{Laid}
 use Rattle.wdl_value.specs.declared.env.Bind.{Bind}
@@ -31,7 +32,6 @@ use Rattle.wdl_typed.specs.Requests.{Asked, Filled, Laying, Prepared, Tried, aft
 use Rattle.wdl_typed.specs.Typing.{Typing, is_type, takes_some, type_of}
 use Rattle.wdl_eval.specs.Laws.{IsMet, IsSound}
 use Rattle.wdl_eval.specs.Ready.{IsReady}
-use Rattle.wdl_eval.proofs.Steps.{some_same}
 use Rattle.wdl_eval.proofs.Texts.{hole_fine}
 use Rattle.wdl_task.specs.Calls.{Call, call_of, cast_name, named_value, with_file}
 use Rattle.wdl_task.specs.Readiness.{AreCodesReady, AreHolesReady, AreInputsReady, AreNamesReady, AreOutputsReady, ArePrivatesReady, IsCallReady, IsDefaultReady, IsHoleReady, IsPlacedReady, IsPrinted, are_given, is_for}
@@ -43,7 +43,7 @@ use Rattle.wdl_task.proofs.PlaceTypes.{IsTypedCall, is_plain, is_written as is_c
 use Rattle.wdl_task.proofs.Placing.{laid_is_placed, plain_is_placed}
 
 -- what goes on has what it goes on with
-tried_in : {A B : Type 0} (o : Tried A) (f : A → Tried B) (b : B) → tried o f ≡ Ok b → (a : A) × (o ≡ Ok a) × (f a ≡ Ok b)
+pub tried_in : {A B : Type 0} (o : Tried A) (f : A → Tried B) (b : B) → tried o f ≡ Ok b → (a : A) × (o ≡ Ok a) × (f a ≡ Ok b)
 tried_in (Ok a) f b h = (a, refl, h)
 tried_in (Err e) f b h = cc
 
@@ -160,7 +160,7 @@ module _ (structs : Structs) where
 
     printed : (c : Choice) (t : Ty) (x : Value) → takes_some c (Some t) ≡ true → fits structs x t ≡ true → IsPrinted c x
     printed c t x h k e = subst (λ (r : Met (List ℕ)). IsMet (λ s. Unit {0}) r) e
-        (hole_fine structs c (Some t) (Ok x) (λ u is. subst (λ (w : Ty). fits structs x w ≡ true) (some_same is) k) h)
+        (hole_fine structs c (Some t) (Ok x) (λ u is. subst (λ (w : Ty). fits structs x w ≡ true) (same_Some _ _ is) k) h)
 
     hole_ready : (h : THole TExpr) (files : List Laid) → takes_some h.choice (hole_type structs names h.choice h.expr) ≡ true → IsHoleReady h env files
     hole_ready h files typed =

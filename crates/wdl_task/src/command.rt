@@ -101,7 +101,8 @@ fn with_parts<L: Ledger>(
     Ok(filled)
 }
 
-/// The command, which has at most 65,536 bytes with the names and bodies of the files that are laid down.
+/// The command, which has at most 65,536 bytes with the names and bodies of the files that are laid
+/// down.
 pub fn command_of<L: Ledger>(
     alloc: Global,
     parts: &[TPart<TExpr>],

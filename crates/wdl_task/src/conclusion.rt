@@ -63,7 +63,8 @@ fn outputs<L: Ledger>(
     Ok(told)
 }
 
-/// The outputs of a task, or the status that is no success, or the first fault of the outputs in their order.
+/// The outputs of a task, or the status that is no success, or the first fault of the outputs in
+/// their order.
 pub fn conclude<L: Ledger>(
     alloc: Global,
     structs: &Structs,

@@ -8,8 +8,8 @@ use thiserror::Error;
 use wdl_eval::EvalFault;
 use wdl_value::{EvalCode, NoMemory, Text, Why};
 
-/// Why a call gives nothing: the name of the input, declaration or output that has no value (or `returnCodes`,
-/// `maxRetries`, `command` or `status`) with the cause, or want of memory.
+/// Why a call gives nothing: the name of the input, declaration or output that has no value (or
+/// `returnCodes`, `maxRetries`, `command` or `status`) with the cause, or want of memory.
 #[derive(Debug, Drop, Error)]
 pub enum CallFault {
     #[error("a declaration of the task has no value")]

@@ -13,7 +13,8 @@ use wdl_value::{
     Value, bare_type, has_key, is_optional,
 };
 
-/// Where a value is landed: the structs by their names, the directory of the job, and what its command left.
+/// Where a value is landed: the structs by their names, the directory of the job, and what its
+/// command left.
 #[derive(Drop)]
 pub struct Shore<'a> {
     pub structs: &'a [StructDef],

@@ -18,8 +18,8 @@ use std::sync::ledger::Ledger;
 use wdl_typed::{Success, TaskDef};
 use wdl_value::{Env, Items, NoMemory, Place, Request, Steps, Text, copy_place, place_text};
 
-/// A request, with what its answer is told by: the values of the inputs and the private declarations, the statuses of
-/// success, and how often the task is tried again.
+/// A request, with what its answer is told by: the values of the inputs and the private
+/// declarations, the statuses of success, and how often the task is tried again.
 #[derive(Debug, Drop)]
 pub struct Prepared {
     pub request: Request,
@@ -42,7 +42,8 @@ fn retry_text(alloc: Global, attempt: u32) -> Result<Text, NoMemory>
     Ok(text)
 }
 
-/// The directory of an attempt: the site, a slash and the place, behind which each attempt but the first has its number.
+/// The directory of an attempt: the site, a slash and the place, behind which each attempt but the
+/// first has its number.
 fn job_dir(alloc: Global, site: &Text, place: &Place, attempt: u32) -> Result<Text, NoMemory>
     ensures { IfOk result (λ dir. dir ≡ spec.job_dir site.now place.now attempt) }
 {
@@ -55,7 +56,8 @@ fn job_dir(alloc: Global, site: &Text, place: &Place, attempt: u32) -> Result<Te
     Ok(dir)
 }
 
-/// The request of an attempt once the values of the names are known: `returnCodes` and `maxRetries`, then the command.
+/// The request of an attempt once the values of the names are known: `returnCodes` and
+/// `maxRetries`, then the command.
 fn requested<L: Ledger>(
     alloc: Global,
     task: &TaskDef,
@@ -92,9 +94,10 @@ fn requested<L: Ledger>(
     })
 }
 
-/// The request of an attempt, and what its answer is told by: left-out inputs take their default or are undefined,
-/// then come private declarations, `returnCodes`, `maxRetries` and the command, each placeholder from left to right. The
-/// first fault has the name of its input or declaration, or `returnCodes`, `maxRetries` or `command`.
+/// The request of an attempt, and what its answer is told by: left-out inputs take their default or
+/// are undefined, then come private declarations, `returnCodes`, `maxRetries` and the command, each
+/// placeholder from left to right. The first fault has the name of its input or declaration, or
+/// `returnCodes`, `maxRetries` or `command`.
 pub fn prepare<L: Ledger>(
     alloc: Global,
     task: &TaskDef,

@@ -47,8 +47,8 @@ pub fn laid_size(files: &[Laid]) -> u64
     total
 }
 
-/// The function that writes a file and its argument, where the expression is a call of a function that writes a file, casts
-/// aside.
+/// The function that writes a file and its argument, where the expression is a call of a function
+/// that writes a file, casts aside.
 #[tactic(auto, using(crate::proofs::CallOut::call_steps))]
 fn call_in(e: &TExpr) -> Option<(Func, &TExpr)>
     ensures { calls.IsCall (calls.call_of e.now) result }
@@ -132,7 +132,8 @@ fn stored(
     with_name(alloc, e, &name, files)
 }
 
-/// The value of a call of a function that writes a file: the file is laid down, and its name is the value.
+/// The value of a call of a function that writes a file: the file is laid down, and its name is the
+/// value.
 fn laid<L: Ledger>(
     alloc: Global,
     e: &TExpr,

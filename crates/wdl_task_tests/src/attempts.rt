@@ -67,7 +67,8 @@ fn fails_with(told: Result<Env, CallFault>, n: u8) -> bool {
     }
 }
 
-/// Whether the first attempt fails by its status, and the second one, in a directory of its own, tells the outputs.
+/// Whether the first attempt fails by its status, and the second one, in a directory of its own,
+/// tells the outputs.
 fn attempts<L: Ledger>(alloc: Global, blank: Blank) -> Result<bool, Fail>
     requires name { blank.name ≡ L.name }
     requires parts { blank.parts ≡ L.parts }

@@ -16,13 +16,14 @@ pub struct CheckedParts {
     pub main: Option<u32>,
 }
 
-/// A library that was checked: the structs, the tasks and the workflows of all its documents, and the number of the main
-/// workflow, if there is one.
+/// A library that was checked: the structs, the tasks and the workflows of all its documents, and
+/// the number of the main workflow, if there is one.
 ///
-/// It keeps that all of it is well typed (OpenWDL 1.1, "Types" and "Expressions"); that each task or workflow that a call
-/// names is one of the list; that inputs, declarations, statements and outputs stand after those of their list that they
-/// need; that the blocks of one kind in one body are numbered from 0 on; that calls form no circle, at most 24 blocks and
-/// calls stand on one path, and members of structs lead through at most 32 structs. It has fewer than 2^32 tasks,
+/// It keeps that all of it is well typed (OpenWDL 1.1, "Types" and "Expressions"); that each task
+/// or workflow that a call names is one of the list; that inputs, declarations, statements and
+/// outputs stand after those of their list that they need; that the blocks of one kind in one body
+/// are numbered from 0 on; that calls form no circle, at most 24 blocks and calls stand on one
+/// path, and members of structs lead through at most 32 structs. It has fewer than 2^32 tasks,
 /// workflows, statements and parts of commands in all.
 #[derive(Debug, Drop)]
 pub struct Checked {

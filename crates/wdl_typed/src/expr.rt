@@ -15,8 +15,9 @@ pub struct TField<E> {
     pub value: E,
 }
 
-/// How a placeholder prints its value: as it is, the items of an array joined, one of two texts for a Boolean, or a text
-/// in the place of an undefined value (OpenWDL 1.1, "Expression Placeholder Options").
+/// How a placeholder prints its value: as it is, the items of an array joined, one of two texts for
+/// a Boolean, or a text in the place of an undefined value (OpenWDL 1.1, "Expression Placeholder
+/// Options").
 #[derive(Debug, Drop)]
 pub enum Choice {
     Plain,
@@ -39,8 +40,8 @@ pub enum TPart<E> {
     Hole(THole<E>),
 }
 
-/// A typed expression (OpenWDL 1.1, "Expressions"). Each coercion is written out as a `Cast`; parentheses and `+` before
-/// one Int leave no node; a string without a placeholder is a `Lit`.
+/// A typed expression (OpenWDL 1.1, "Expressions"). Each coercion is written out as a `Cast`;
+/// parentheses and `+` before one Int leave no node; a string without a placeholder is a `Lit`.
 #[derive(Debug, Drop)]
 pub enum TExpr {
     Lit(Value),

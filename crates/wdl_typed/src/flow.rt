@@ -20,7 +20,8 @@ pub struct TCall {
     pub span: Span,
 }
 
-/// A scatter (OpenWDL 1.1, "Scatter"). Blocks of one kind in one body are numbered from 0, in the order of the text.
+/// A scatter (OpenWDL 1.1, "Scatter"). Blocks of one kind in one body are numbered from 0, in the
+/// order of the text.
 #[derive(Debug, Drop)]
 pub struct TScatter<S> {
     pub number: u32,

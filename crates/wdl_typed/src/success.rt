@@ -5,8 +5,8 @@ ghost use Rattle.wdl_typed.specs.Statuses.{successes_of};
 use std::alloc::Global;
 use wdl_value::{Items, NoMemory};
 
-/// Which statuses are successes, by the value of `returnCodes` (OpenWDL 1.1, "Runtime Section"): 0 alone, any, or those of
-/// a list.
+/// Which statuses are successes, by the value of `returnCodes` (OpenWDL 1.1, "Runtime Section"): 0
+/// alone, any, or those of a list.
 #[derive(Debug, Drop)]
 pub enum Success {
     Zero,

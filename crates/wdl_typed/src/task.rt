@@ -20,7 +20,8 @@ pub struct TInput {
     pub span: Span,
 }
 
-/// The runtime attribute `returnCodes`, the statuses of success: 0 alone, any, one number, or those of a list (OpenWDL
+/// The runtime attribute `returnCodes`, the statuses of success: 0 alone, any, one number, or those
+/// of a list (OpenWDL
 /// 1.1, "Runtime Section").
 #[derive(Debug, Drop)]
 pub enum TCodes {
@@ -30,8 +31,9 @@ pub enum TCodes {
     Many(TExpr),
 }
 
-/// A task (OpenWDL 1.1, "Task Definition"). Its lists are in dependency order; `privates` are its declarations outside
-/// the input section, `retries` is the runtime attribute `maxRetries`, and the command is dedented.
+/// A task (OpenWDL 1.1, "Task Definition"). Its lists are in dependency order; `privates` are its
+/// declarations outside the input section, `retries` is the runtime attribute `maxRetries`, and the
+/// command is dedented.
 #[derive(Debug, Drop)]
 pub struct TaskDef {
     pub name: Name,

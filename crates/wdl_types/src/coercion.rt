@@ -3,8 +3,8 @@ ghost use Rattle.wdl_value.specs.Coerces as spec;
 
 use wdl_value::{Ty, bare_type};
 
-/// Whether a value of type `t` is taken where one of type `u` is asked for, by a cast (OpenWDL 1.1, "Type Coercion").
-/// It takes no memory.
+/// Whether a value of type `t` is taken where one of type `u` is asked for, by a cast (OpenWDL 1.1,
+/// "Type Coercion"). It takes no memory.
 pub fn coerces(t: &Ty, u: &Ty) -> bool
     ensures value { result ≡ spec.coerces t.now u.now }
 {

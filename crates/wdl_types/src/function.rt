@@ -374,8 +374,9 @@ fn nullary_type(alloc: Global, f: Func) -> Option<FuncTyping>
     }
 }
 
-/// The row of the table of functions for the types of the arguments (OpenWDL 1.1, "Standard Library"): the types to
-/// which they are cast, and the type of the result. None where the table has no row.
+/// The row of the table of functions for the types of the arguments (OpenWDL 1.1, "Standard
+/// Library"): the types to which they are cast, and the type of the result. None where the table
+/// has no row.
 pub fn function_type(alloc: Global, f: Func, args: &[Ty]) -> Result<Option<FuncTyping>, NoMemory>
     ensures value { IfOk result (λ r. r ≡ spec.function_type f args.now) }
 {

@@ -10,8 +10,8 @@ use sqlite_items::Boxed;
 use std::alloc::Global;
 use wdl_value::{NoMemory, Ty, bare_type};
 
-/// The type to which values of two types are both cast, as the items of one list are (OpenWDL 1.1, "Array[X]"). None
-/// where they have none.
+/// The type to which values of two types are both cast, as the items of one list are (OpenWDL 1.1,
+/// "Array[X]"). None where they have none.
 #[cycle(join)]
 #[tactic(auto, using(wdl_value::specs::Join::join_steps))]
 pub fn join(alloc: Global, t: &Ty, u: &Ty) -> Result<Option<Ty>, NoMemory>

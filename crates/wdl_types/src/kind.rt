@@ -137,7 +137,8 @@ pub fn item_parts_of(t: &Ty) -> Option<(&Ty, &Ty)>
 /// The same, where the left parts are plain.
 pub fn plain_item_parts_of(t: &Ty) -> Option<(&Ty, &Ty)>
     ensures { option_map (λ p. (p.0.now, p.1.now)) result
-        ≡ option_and_then table.plain_first (option_and_then table.part_types (table.item_type t.now)) }
+        ≡ option_and_then table.plain_first
+        (option_and_then table.part_types (table.item_type t.now)) }
 {
     let (left, right) = item_parts_of(t)?;
     if is_plain(left) {

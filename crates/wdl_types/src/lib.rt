@@ -1,4 +1,5 @@
-//! Which types coerce to which, the type that two types have in common, and the tables of operators and functions.
+//! Which types coerce to which, the type that two types have in common, and the tables of operators
+//! and functions.
 #![tactic(auto)]
 
 mod coercion;

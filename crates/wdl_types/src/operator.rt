@@ -115,9 +115,10 @@ fn logic_type(left: &Ty, right: &Ty) -> Option<OpTyping>
     None
 }
 
-/// The row of the table of operators for the types of two operands (OpenWDL 1.1, "Expressions"): the types to which they
-/// are cast, and the type of the result. None where the table has no row. `placeholder` says whether the expression
-/// stands inside a placeholder, where `+` takes operands that may be undefined; `AddMaybe` is that `+` alone.
+/// The row of the table of operators for the types of two operands (OpenWDL 1.1, "Expressions"):
+/// the types to which they are cast, and the type of the result. None where the table has no row.
+/// `placeholder` says whether the expression stands inside a placeholder, where `+` takes operands
+/// that may be undefined; `AddMaybe` is that `+` alone.
 pub fn operator_type(
     alloc: Global,
     op: Op,

@@ -1,5 +1,5 @@
-//! Tests of coercions, joins, and the types of operators and functions, in a crate of their own: the gate proves a crate
-//! once more for the tests in it.
+//! Tests of coercions, joins, and the types of operators and functions, in a crate of their own:
+//! the gate proves a crate once more for the tests in it.
 #![tactic(auto)]
 
 #[cfg(test)]

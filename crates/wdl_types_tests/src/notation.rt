@@ -1,6 +1,7 @@
-//! Types as the tests write them, in words between blanks, each behind the types that it is made of: `Int ?` is `Int?`,
-//! `Int []` is `Array[Int]`, `Int []+` is `Array[Int]+`, `Str Int {}` is `Map[String, Int]`, `Str Int ()` is
-//! `Pair[String, Int]`, `none` is the type of `None` and `empty` that of the items of `[]`.
+//! Types as the tests write them, in words between blanks, each behind the types that it is made
+//! of: `Int ?` is `Int?`, `Int []` is `Array[Int]`, `Int []+` is `Array[Int]+`, `Str Int {}` is
+//! `Map[String, Int]`, `Str Int ()` is `Pair[String, Int]`, `none` is the type of `None` and
+//! `empty` that of the items of `[]`.
 
 use sqlite_items::Boxed;
 use std::alloc::Global;

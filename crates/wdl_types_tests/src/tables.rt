@@ -96,7 +96,8 @@ Int ? Str = no";
     Ok(())
 }
 
-/// Whether each pair of operands between bars has the row right of `=`: the types of both operands and the result, or `no`.
+/// Whether each pair of operands between bars has the row right of `=`: the types of both operands
+/// and the result, or `no`.
 fn all_operate(alloc: Global, op: Op, placeholder: bool, cases: &str) -> Result<bool, Fail> {
     for case in cases.split('|') {
         let Some((operands, row)) = case.split_once(" = ") else {
@@ -200,7 +201,8 @@ Str [] none = no";
     Ok(())
 }
 
-/// Whether each list of arguments between bars has the row right of `=`: the types of the parameters and the result, or `no`.
+/// Whether each list of arguments between bars has the row right of `=`: the types of the
+/// parameters and the result, or `no`.
 fn all_apply(alloc: Global, f: Func, cases: &str) -> Result<bool, Fail> {
     for case in cases.split('|') {
         let Some((args, row)) = case.split_once(" = ") else {

@@ -14,8 +14,8 @@ use wdl_names::{Indexed, Names};
 use wdl_typed::{Bound, TDecl, TExpr, TInput};
 use wdl_value::{Key, Name, NoMemory, StructDef, Ty};
 
-/// Where a declaration stands. A private declaration of a task may be the place of a function that writes a file, and
-/// an output of a task may read what the command of a job left.
+/// Where a declaration stands. A private declaration of a task may be the place of a function that
+/// writes a file, and an output of a task may read what the command of a job left.
 #[derive(Clone, Copy, Debug, PartialEq, Eq)]
 pub enum Standing {
     Private,
@@ -88,7 +88,8 @@ fn default_is_typed(
     }
 }
 
-/// Whether the inputs are well typed, whose defaults see the inputs before them. Their names are added.
+/// Whether the inputs are well typed, whose defaults see the inputs before them. Their names are
+/// added.
 pub fn inputs_are_typed(
     alloc: Global,
     inputs: &[TInput],
@@ -124,7 +125,8 @@ pub fn decl_is_typed(
     Ok(is_type(&t, &d.ty))
 }
 
-/// Whether the declarations are well typed, whose expressions see the declarations before them. Their names are added.
+/// Whether the declarations are well typed, whose expressions see the declarations before them.
+/// Their names are added.
 pub fn decls_are_typed(
     alloc: Global,
     standing: Standing,

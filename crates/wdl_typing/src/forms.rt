@@ -263,7 +263,8 @@ pub fn row_type(alloc: Global, f: Func, types: &[Ty]) -> Result<Option<Ty>, NoMe
     }
 }
 
-/// The type of a call of a function that writes no file, and that reads one only where `outputs` says that it may.
+/// The type of a call of a function that writes no file, and that reads one only where `outputs`
+/// says that it may.
 pub fn apply_type(
     alloc: Global,
     outputs: bool,

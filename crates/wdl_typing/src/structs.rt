@@ -39,8 +39,8 @@ fn each_is_struct(
     Ok(true)
 }
 
-/// Whether the structs have different names, and each has different members, whose types can be written and lead through
-/// at most 32 structs (OpenWDL 1.1, "Struct Definition").
+/// Whether the structs have different names, and each has different members, whose types can be
+/// written and lead through at most 32 structs (OpenWDL 1.1, "Struct Definition").
 pub fn are_structs(alloc: Global, structs: &Indexed<StructDef>) -> Result<bool, NoMemory>
     ensures { IfOk result (λ b. b ≡ spec.are_structs structs.now) }
 {

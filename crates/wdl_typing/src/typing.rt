@@ -19,7 +19,8 @@ use wdl_names::{Indexed, Names};
 use wdl_typed::{TExpr, TField, TPair, TPart};
 use wdl_value::{Func, Member, Name, NoMemory, StructDef, Ty};
 
-/// What an expression sees: structs and names, and whether functions may see what the command of a job left.
+/// What an expression sees: structs and names, and whether functions may see what the command of a
+/// job left.
 #[derive(Drop)]
 pub struct Context<'a> {
     pub structs: &'a Indexed<'a, StructDef>,
@@ -27,8 +28,8 @@ pub struct Context<'a> {
     pub outputs: bool,
 }
 
-/// The type of an expression, or None where it is not well typed. `placeholder` says whether it stands in a placeholder
-/// (OpenWDL 1.1, "Expressions").
+/// The type of an expression, or None where it is not well typed. `placeholder` says whether it
+/// stands in a placeholder (OpenWDL 1.1, "Expressions").
 #[cycle(typing)]
 pub fn type_of(
     alloc: Global,

@@ -16,8 +16,8 @@ fn is_known(structs: &Indexed<StructDef>, name: &Name) -> bool
     matches!(members_of(structs, name), Some(_))
 }
 
-/// Whether a document can write the type: its structs are known, the keys of its maps are Boolean, Int, String or File,
-/// and no optional type is in an optional one. It takes no memory.
+/// Whether a document can write the type: its structs are known, the keys of its maps are Boolean,
+/// Int, String or File, and no optional type is in an optional one. It takes no memory.
 pub fn is_written(t: &Ty, structs: &Indexed<StructDef>) -> bool
     ensures { result ≡ spec.is_written structs.now t.now }
 {

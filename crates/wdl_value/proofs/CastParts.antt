@@ -130,13 +130,13 @@ absent_back (layer.Pair y z) (type.Pair u w) a p e = let q = p.2 in absurd (cc)
 absent_back (layer.Map xs) (type.Map u w) a p e = let q = p.1 in absurd (cc)
 absent_back l w a p e = sym p ∙ e
 
-bool_text_injective : (b c : Bool) → bool_text b ≡ bool_text c → b ≡ c
+pub bool_text_injective : (b c : Bool) → bool_text b ≡ bool_text c → b ≡ c
 bool_text_injective true true e = refl
 bool_text_injective false false e = refl
 bool_text_injective true false e = absurd (cc)
 bool_text_injective false true e = absurd (cc)
 
-int_text_injective : (m n : ℤ) → is_int m ≡ true → is_int n ≡ true → signed_decimal m ≡ signed_decimal n → m ≡ n
+pub int_text_injective : (m n : ℤ) → is_int m ≡ true → is_int n ≡ true → signed_decimal m ≡ signed_decimal n → m ≡ n
 unfolding is_int
 int_text_injective (pos m) (pos n) h k e = signed_decimal_injective (pos m) (pos n) (grind (arith, nat_tests)) (grind (arith, nat_tests)) e
 int_text_injective (pos m) (negsuc n) h k e = signed_decimal_injective (pos m) (negsuc n) (grind (arith, nat_tests)) (grind (arith, nat_tests)) e

@@ -40,8 +40,9 @@ impl From<AllocError> for CastFault {
     }
 }
 
-/// The value as one of the type, where it fits a type that coerces to this one (OpenWDL 1.1, "Type Coercion"). It is
-/// `EmptyArray` exactly where an empty list meets the type of a nonempty array in it.
+/// The value as one of the type, where it fits a type that coerces to this one (OpenWDL 1.1, "Type
+/// Coercion"). It is `EmptyArray` exactly where an empty list meets the type of a nonempty array in
+/// it.
 #[cycle(cast)]
 #[tactic(auto, using(crate::specs::CastOut::cast_steps))]
 pub fn cast(alloc: Global, v: &Value, t: &Ty) -> Result<Value, CastFault>

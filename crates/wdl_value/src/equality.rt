@@ -5,7 +5,8 @@ ghost use Rattle.wdl_value.specs.SameValue as spec;
 
 use crate::value::{Field, MapRow, Value};
 
-/// Whether two values are equal: maps row by row in their order, a Str and a File never. It takes no memory.
+/// Whether two values are equal: maps row by row in their order, a Str and a File never. It takes
+/// no memory.
 #[cycle(same)]
 pub fn same_value(x: &Value, y: &Value) -> bool
     ensures { result ≡ spec.same_value x.now y.now }

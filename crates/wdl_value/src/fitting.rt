@@ -12,8 +12,9 @@ use crate::value::{Field, MapRow, Value};
 use sqlite_items::Items;
 use wdl_base::Name;
 
-/// Whether the value fits the type, where struct names are those of `structs` (OpenWDL 1.1, "Types"). It takes no
-/// memory. Its time is linear in the value, but quadratic in the rows of one map, whose keys must be distinct.
+/// Whether the value fits the type, where struct names are those of `structs` (OpenWDL 1.1,
+/// "Types"). It takes no memory. Its time is linear in the value, but quadratic in the rows of one
+/// map, whose keys must be distinct.
 pub fn fits(v: &Value, t: &Ty, structs: &Structs) -> bool
     ensures value { result ≡ spec.fits structs.now v.now t.now }
 {

@@ -19,7 +19,8 @@ pub fn has_key(key: &Value, mut rows: &[MapRow<Value>]) -> bool
     false
 }
 
-/// Whether no two rows have one key. It takes no memory, and so its time is quadratic in the number of rows.
+/// Whether no two rows have one key. It takes no memory, and so its time is quadratic in the number
+/// of rows.
 pub fn distinct_keys(mut rows: &[MapRow<Value>]) -> bool
     ensures { result ≡ spec.distinct_keys rows.entry.now }
 {
@@ -34,7 +35,8 @@ pub fn distinct_keys(mut rows: &[MapRow<Value>]) -> bool
 
 #[cycle(keyed)]
 #[tactic(auto, using(crate::specs::Keyed::keyed_steps))]
-/// Whether each map in the value has distinct keys. It takes no memory, and its time is quadratic in the rows of a map.
+/// Whether each map in the value has distinct keys. It takes no memory, and its time is quadratic
+/// in the rows of a map.
 pub fn keyed(x: &Value) -> bool
     ensures { result ≡ spec.keyed x.now }
 {

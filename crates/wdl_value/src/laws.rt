@@ -12,8 +12,8 @@ pub fn same_values_are_equal()
     ensures law { SameValuesAreEqual }
 {}
 
-/// What fits a type that coerces to another one is cast to what fits that one, or is an empty list where an array with
-/// an item is asked for.
+/// What fits a type that coerces to another one is cast to what fits that one, or is an empty list
+/// where an array with an item is asked for.
 pub fn casts_fit()
     ensures law { CastsFit }
 {}

@@ -1,5 +1,5 @@
-//! Types and values of WDL: plain data, which contracts see as texts, numbers and lists. The texts, names, places and jobs
-//! of `wdl_base` are given on.
+//! Types and values of WDL: plain data, which contracts see as texts, numbers and lists. The texts,
+//! names, places and jobs of `wdl_base` are given on.
 #![tactic(auto)]
 
 mod bare;

@@ -62,8 +62,8 @@ fn fields_are_short(fields: &[Field<Value>]) -> bool
     true
 }
 
-/// Whether the value keeps the limits: each list and map in it has at most 100,000 items or rows, and its size is at
-/// most 4,194,304.
+/// Whether the value keeps the limits: each list and map in it has at most 100,000 items or rows,
+/// and its size is at most 4,194,304.
 pub fn is_within_limits(value: &Value) -> bool
     ensures { result ≡ spec.is_within value.now }
 {

@@ -3,8 +3,9 @@ ghost use Rattle.wdl_value.specs.Size as spec;
 
 use crate::value::{Field, MapRow, Value};
 
-/// The size of a value: one for each value in it, and the bytes of its texts and of the names of its structs and their
-/// members; or the last number of `u64` where that is less. It takes no memory.
+/// The size of a value: one for each value in it, and the bytes of its texts and of the names of
+/// its structs and their members; or the last number of `u64` where that is less. It takes no
+/// memory.
 #[cycle(size)]
 pub fn size(v: &Value) -> u64
     ensures value { result ≡ min (spec.size v.now) 18446744073709551615 }

@@ -1,5 +1,5 @@
-/// A binary operator (OpenWDL 1.1, "Expressions"). `AddMaybe` is `+` in a placeholder, where an operand may be
-/// undefined.
+/// A binary operator (OpenWDL 1.1, "Expressions"). `AddMaybe` is `+` in a placeholder, where an
+/// operand may be undefined.
 #[derive(Clone, Copy, Debug, PartialEq, Eq)]
 pub enum Op {
     Mul,

@@ -5,8 +5,9 @@ use sqlite_items::{Boxed, Items};
 use std::alloc::Global;
 use wdl_base::{Name, NoMemory};
 
-/// A type of WDL 1.1 (OpenWDL 1.1, "Types"). `Absent` is the type of `None`; `Empty` is the type of the items of
-/// `[]` and of the keys and values of `{}`. An `Opt` never holds an `Opt` in a type that is read from a document.
+/// A type of WDL 1.1 (OpenWDL 1.1, "Types"). `Absent` is the type of `None`; `Empty` is the type of
+/// the items of `[]` and of the keys and values of `{}`. An `Opt` never holds an `Opt` in a type
+/// that is read from a document.
 #[derive(Debug, Drop)]
 pub enum Ty {
     Bool,

@@ -3,13 +3,13 @@ use Rattle.std.specs.Prelude.{ℕ, List, [], map, take}
 use Rattle.wdl_value.specs.declared.ty.Ty.{Ty}
 use Rattle.wdl_typed.specs.declared.scope.Bound.{Bound}
 use Rattle.wdl_typed.specs.Bodies.{Seen}
-use Rattle.wdl_well_typed.specs.declared.given.Given.{Given}
-use Rattle.wdl_well_typed.specs.declared.given.Scope.{Scope}
+use Rattle.wdl_well_typed.specs.declared.given.YieldedTypes.{YieldedTypes}
+use Rattle.wdl_well_typed.specs.declared.given.BodyScope.{BodyScope}
 
-abbrev pub seen : Scope → Seen
+abbrev pub seen : BodyScope → Seen
 seen s = record { names = s.names; calls = s.calls }
 
-abbrev pub given : Given → Seen
+abbrev pub given : YieldedTypes → Seen
 given g = record { names = g.names; calls = g.calls }
 
 abbrev pub nothing : Seen

@@ -7,7 +7,7 @@ ghost use Rattle.wdl_well_typed.specs.Calls.{library_of};
 ghost use Rattle.wdl_well_typed.specs.Given as state;
 
 use crate::calls::{Library, call_gives};
-use crate::given::{Given, Scope, arrays, optionals};
+use crate::given::{BodyScope, YieldedTypes, arrays, optionals};
 use sqlite_items::{Boxed, Items};
 use std::alloc::Global;
 use wdl_typed::{Bound, Statement, TDecl, TExpr};
@@ -15,7 +15,7 @@ use wdl_typing::{Standing, body_type, decl_is_typed, enter, is_bool};
 use wdl_value::{Key, Name, NoMemory, Ty};
 
 /// The name of a declaration.
-fn declared(alloc: Global, d: &TDecl) -> Result<Given, NoMemory>
+fn declared(alloc: Global, d: &TDecl) -> Result<YieldedTypes, NoMemory>
     ensures { IfOk result (λ g. state.given g ≡ spec.declared d.now) }
 {
     let first = d.name.copy(alloc)?;
@@ -28,7 +28,7 @@ fn declared(alloc: Global, d: &TDecl) -> Result<Given, NoMemory>
         },
         ty,
     })?;
-    Ok(Given {
+    Ok(YieldedTypes {
         names,
         calls: Items::new(alloc),
     })
@@ -38,8 +38,8 @@ fn decl_gives(
     alloc: Global,
     d: &TDecl,
     library: &Library,
-    scope: &Scope,
-) -> Result<Option<Given>, NoMemory>
+    scope: &BodyScope,
+) -> Result<Option<YieldedTypes>, NoMemory>
     ensures { IfOk result (λ g. option_map state.given g ≡ bodies.decl_step library.now.structs d.now (state.seen scope.now)) }
 {
     if !decl_is_typed(alloc, Standing::Body, d, &library.structs, &scope.names)? {
@@ -53,7 +53,7 @@ fn items_of(
     alloc: Global,
     over: &TExpr,
     library: &Library,
-    scope: &Scope,
+    scope: &BodyScope,
 ) -> Result<Option<(Ty, bool)>, NoMemory>
     ensures { IfOk result (λ t. t ≡ spec.items_of library.now.structs scope.now.names over.now) }
 {
@@ -68,7 +68,7 @@ fn is_condition(
     alloc: Global,
     e: &TExpr,
     library: &Library,
-    scope: &Scope,
+    scope: &BodyScope,
 ) -> Result<bool, NoMemory>
     ensures { IfOk result (λ b. b ≡ spec.is_condition library.now.structs scope.now.names e.now) }
 {
@@ -84,8 +84,8 @@ fn statement_gives(
     alloc: Global,
     statement: &Statement,
     library: &Library,
-    scope: &mut Scope,
-) -> Result<Option<Given>, NoMemory>
+    scope: &mut BodyScope,
+) -> Result<Option<YieldedTypes>, NoMemory>
     ensures gives { IfOk result (λ g. option_map state.given g ≡ bodies.gives (library_of library.now) statement.now (state.seen scope.old)) }
     ensures kept { IfOk result (λ g. IsSome g → state.seen scope.new ≡ state.seen scope.old) }
 {
@@ -99,7 +99,8 @@ fn statement_gives(
     }
 }
 
-/// Outside a scatter a name is an array, with `+` where the collection has it. Its item is seen in the body alone.
+/// Outside a scatter a name is an array, with `+` where the collection has it. Its item is seen in
+/// the body alone.
 #[cycle(gives)]
 fn scatter_gives(
     alloc: Global,
@@ -107,8 +108,8 @@ fn scatter_gives(
     item: &Name,
     over: &TExpr,
     library: &Library,
-    scope: &mut Scope,
-) -> Result<Option<Given>, NoMemory>
+    scope: &mut BodyScope,
+) -> Result<Option<YieldedTypes>, NoMemory>
     ensures gives { IfOk result (λ g. option_map state.given g ≡ spec.scatter_gives (library_of library.now) body.now item.now over.now (state.seen scope.old)) }
     ensures kept { IfOk result (λ g. IsSome g → state.seen scope.new ≡ state.seen scope.old) }
 {
@@ -132,8 +133,8 @@ fn if_gives(
     body: &[Statement],
     cond: &TExpr,
     library: &Library,
-    scope: &mut Scope,
-) -> Result<Option<Given>, NoMemory>
+    scope: &mut BodyScope,
+) -> Result<Option<YieldedTypes>, NoMemory>
     ensures gives { IfOk result (λ g. option_map state.given g ≡ spec.if_gives (library_of library.now) body.now cond.now (state.seen scope.old)) }
     ensures kept { IfOk result (λ g. IsSome g → state.seen scope.new ≡ state.seen scope.old) }
 {
@@ -152,14 +153,14 @@ pub fn body_gives(
     alloc: Global,
     body: &[Statement],
     library: &Library,
-    scope: &mut Scope,
-) -> Result<Option<Given>, NoMemory>
+    scope: &mut BodyScope,
+) -> Result<Option<YieldedTypes>, NoMemory>
     ensures gives { IfOk result (λ g. option_map state.given g ≡ bodies.body_gives (library_of library.now) body.now (state.seen scope.old)) }
     ensures kept { IfOk result (λ g. IsSome g → state.seen scope.new ≡ state.seen scope.old) }
 {
     let names = scope.names.len();
     let calls = scope.calls.len();
-    let mut given = Given::empty(alloc);
+    let mut given = YieldedTypes::empty(alloc);
     for statement in body {
         let Some(more) = statement_gives(alloc, statement, library, scope)? else {
             return Ok(None);

@@ -7,7 +7,7 @@ ghost use Rattle.wdl_typed.specs.Lists as lists;
 ghost use Rattle.wdl_well_typed.specs.Calls as spec;
 ghost use Rattle.wdl_well_typed.specs.Given as state;
 
-use crate::given::{Given, Scope};
+use crate::given::{BodyScope, YieldedTypes};
 use sqlite_items::{Items, at};
 use std::alloc::Global;
 use wdl_names::{Indexed, Names, Words, add_all};
@@ -149,7 +149,7 @@ fn call_is_typed(
     call: &TCall,
     inputs: &[TInput],
     structs: &Indexed<StructDef>,
-    scope: &Scope,
+    scope: &BodyScope,
 ) -> Result<bool, NoMemory>
     ensures { IfOk result (λ b. b ≡ spec.call_fits structs.now call.now (state.seen scope.now) inputs.now) }
 {
@@ -188,13 +188,13 @@ fn output_name(alloc: Global, call: &Name, output: &TDecl) -> Result<Bound, NoMe
 }
 
 /// What a call gives out.
-fn given_by(alloc: Global, call: &Name, outputs: &[TDecl]) -> Result<Given, NoMemory>
+fn given_by(alloc: Global, call: &Name, outputs: &[TDecl]) -> Result<YieldedTypes, NoMemory>
     ensures { IfOk result (λ g. state.given g ≡ bodies.call_gives call.now outputs.now) }
 {
     let names = output_names(alloc, call, outputs)?;
     let mut calls = Items::new(alloc);
     calls.push(call.copy(alloc)?)?;
-    Ok(Given { names, calls })
+    Ok(YieldedTypes { names, calls })
 }
 
 /// What a call gives out, if it is well typed where this is seen.
@@ -202,8 +202,8 @@ pub fn call_gives(
     alloc: Global,
     call: &TCall,
     library: &Library,
-    scope: &Scope,
-) -> Result<Option<Given>, NoMemory>
+    scope: &BodyScope,
+) -> Result<Option<YieldedTypes>, NoMemory>
     ensures { IfOk result (λ g. option_map state.given g ≡ bodies.call_step (spec.library_of library.now) call.now (state.seen scope.now)) }
 {
     let Some(signature) = target_signature(library, call.target) else {

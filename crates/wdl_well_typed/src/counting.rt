@@ -48,7 +48,8 @@ fn count_commands(tasks: &[TaskDef]) -> u64
     total
 }
 
-/// The tasks, workflows, statements and parts of commands, or the last number of `u64` where that is less.
+/// The tasks, workflows, statements and parts of commands, or the last number of `u64` where that
+/// is less.
 pub fn count(tasks: &[TaskDef], flows: &[FlowDef]) -> u64
     ensures { result ≡ min (counts.count_of tasks.now flows.now) 18446744073709551615 }
 {

@@ -10,7 +10,7 @@ ghost use Rattle.wdl_well_typed.specs.Flows.{lists_typed};
 use crate::bodies::body_gives;
 use crate::calls::Library;
 use crate::declared::{add_declared, items_differ};
-use crate::given::Scope;
+use crate::given::BodyScope;
 use crate::numbered::is_numbered;
 use std::alloc::Global;
 use wdl_depths::{Levels, MOST_BLOCKS, body_nests};
@@ -19,8 +19,8 @@ use wdl_typed::FlowDef;
 use wdl_typing::{Standing, decls_are_typed, inputs_are_typed};
 use wdl_value::NoMemory;
 
-/// Whether the names of a workflow's inputs, declarations, calls and outputs differ, and the items of scatters from them
-/// and from the items round them.
+/// Whether the names of a workflow's inputs, declarations, calls and outputs differ, and the items
+/// of scatters from them and from the items round them.
 fn names_differ(alloc: Global, flow: &FlowDef) -> Result<bool, NoMemory>
     ensures { IfOk result (λ b. b ≡ (lists.are_distinct (spec.flow_names flow.now) && bodies.items_differ flow.now.body (spec.flow_names flow.now))) }
 {
@@ -45,7 +45,7 @@ fn lists_are_typed(alloc: Global, flow: &FlowDef, library: &Library) -> Result<b
     ensures { IfOk result (λ b. b ≡ lists_typed (library_of library.now) flow.now) }
 {
     let structs = &library.structs;
-    let mut scope = Scope {
+    let mut scope = BodyScope {
         names: Names::empty(alloc),
         calls: Words::empty(alloc),
     };

@@ -14,14 +14,14 @@ use wdl_value::{Name, NoMemory, Ty, is_optional};
 
 /// Names with their types, and calls, which statements give out.
 #[derive(Debug, Drop)]
-pub struct Given {
+pub struct YieldedTypes {
     pub names: Items<Bound>,
     pub calls: Items<Name>,
 }
 
 /// The names with their types, and the calls, which a statement sees.
 #[derive(Debug, Drop)]
-pub struct Scope {
+pub struct BodyScope {
     pub names: Names,
     pub calls: Words,
 }
@@ -54,9 +54,9 @@ fn enter_calls(alloc: Global, calls: &mut Words, names: &[Name]) -> Result<(), N
     Ok(())
 }
 
-impl Scope {
+impl BodyScope {
     /// Adds what a statement gives out.
-    pub fn enter(&mut self, alloc: Global, given: &Given) -> Result<(), NoMemory>
+    pub fn enter(&mut self, alloc: Global, given: &YieldedTypes) -> Result<(), NoMemory>
         ensures { OnOk result (spec.seen self.new ≡ bodies.joined (spec.seen self.old) (spec.given given.now)) }
     {
         enter_names(alloc, &mut self.names, given.names.as_slice())?;
@@ -72,22 +72,22 @@ impl Scope {
     }
 }
 
-impl Given {
+impl YieldedTypes {
     /// Nothing.
-    pub fn empty(alloc: Global) -> Given
+    pub fn empty(alloc: Global) -> YieldedTypes
         ensures { spec.given result ≡ spec.nothing }
     {
-        Given {
+        YieldedTypes {
             names: Items::new(alloc),
             calls: Items::new(alloc),
         }
     }
 
     /// Adds what a statement gives out after these.
-    pub fn append(&mut self, more: Given) -> Result<(), NoMemory>
+    pub fn append(&mut self, more: YieldedTypes) -> Result<(), NoMemory>
         ensures { OnOk result (spec.given self.new ≡ bodies.joined (spec.given self.old) (spec.given more)) }
     {
-        let Given { names, calls } = more;
+        let YieldedTypes { names, calls } = more;
         self.names.append(names)?;
         self.calls.append(calls)?;
         Ok(())
@@ -138,23 +138,24 @@ fn optional_names(alloc: Global, names: &[Bound]) -> Result<Items<Bound>, NoMemo
     Ok(optionals)
 }
 
-/// What a scatter gives out, given what its body does: arrays, with `+` where the collection has it.
-pub fn arrays(alloc: Global, given: Given, some: bool) -> Result<Given, NoMemory>
+/// What a scatter gives out, given what its body does: arrays, with `+` where the collection has
+/// it.
+pub fn arrays(alloc: Global, given: YieldedTypes, some: bool) -> Result<YieldedTypes, NoMemory>
     ensures { IfOk result (λ g. spec.given g ≡ bodies.retyped (λ u. ty.Array u some) (spec.given given)) }
 {
     let names = array_names(alloc, given.names.as_slice(), some)?;
-    Ok(Given {
+    Ok(YieldedTypes {
         names,
         calls: given.calls,
     })
 }
 
 /// What a condition gives out, given what its body does: names that may be undefined.
-pub fn optionals(alloc: Global, given: Given) -> Result<Given, NoMemory>
+pub fn optionals(alloc: Global, given: YieldedTypes) -> Result<YieldedTypes, NoMemory>
     ensures { IfOk result (λ g. spec.given g ≡ bodies.retyped bodies.optional (spec.given given)) }
 {
     let names = optional_names(alloc, given.names.as_slice())?;
-    Ok(Given {
+    Ok(YieldedTypes {
         names,
         calls: given.calls,
     })

@@ -63,8 +63,9 @@ fn is_countable(tasks: &[TaskDef], flows: &[FlowDef]) -> bool
     count(tasks, flows) < COUNT_LIMIT
 }
 
-/// Whether the parts of a checked form keep all that the form keeps: everything in them is well typed, each number is in
-/// range, lists are in dependency order, and depths and counts are in their limits.
+/// Whether the parts of a checked form keep all that the form keeps: everything in them is well
+/// typed, each number is in range, lists are in dependency order, and depths and counts are in
+/// their limits.
 pub fn well_typed(alloc: Global, c: &CheckedParts) -> Result<bool, NoMemory>
     ensures checked { IfOk result (λ b. b ≡ spec.is_checked (library c.now.structs c.now.tasks c.now.flows) c.now.main) }
 {

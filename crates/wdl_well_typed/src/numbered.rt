@@ -81,7 +81,8 @@ fn blocks_are_counted(alloc: Global, body: &[Statement]) -> Result<bool, NoMemor
     Ok(are_counted(alloc, scatters.as_slice())? && are_counted(alloc, conditions.as_slice())?)
 }
 
-/// Whether the scatters of a body are numbered from 0 on, and so its conditions, in the bodies in it too.
+/// Whether the scatters of a body are numbered from 0 on, and so its conditions, in the bodies in
+/// it too.
 #[cycle(numbered)]
 pub fn is_numbered(alloc: Global, body: &[Statement]) -> Result<bool, NoMemory>
     ensures { IfOk result (λ b. b ≡ bodies.is_numbered body.now) }

@@ -123,7 +123,8 @@ fn command_is_typed(
     Ok(true)
 }
 
-/// Whether the attributes and the command are well typed, which see the inputs and the private declarations.
+/// Whether the attributes and the command are well typed, which see the inputs and the private
+/// declarations.
 fn run_is_typed(
     alloc: Global,
     task: &TaskDef,

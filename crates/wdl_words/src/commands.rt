@@ -1,6 +1,29 @@
-ghost use Rattle.std.specs.Prelude.{◌≡◌, true, false, map, option_map, option_and_then, string_bytes, IfOk};
-ghost use Rattle.clap.specs.Words.{app_of, first_of, found_of, is_simple_and_free, rows_of, rule_of};
-ghost use Rattle.wdl_words.specs.Commands.{cwl_app, found_in, operand_app, operand_rule, option_rule, run_app};
+ghost use Rattle.std.specs.Prelude.{
+  ◌≡◌,
+  true,
+  false,
+  map,
+  option_map,
+  option_and_then,
+  string_bytes,
+  IfOk,
+};
+ghost use Rattle.clap.specs.Words.{
+  app_of,
+  first_of,
+  found_of,
+  is_simple_and_free,
+  rows_of,
+  rule_of,
+};
+ghost use Rattle.wdl_words.specs.Commands.{
+  cwl_app,
+  found_in,
+  operand_app,
+  operand_rule,
+  option_rule,
+  run_app,
+};
 ghost use Rattle.wdl_words.specs.Faults.{FindsIn, ReadsText};
 ghost use Rattle.wdl_words.specs.Words.{operand_in};
 

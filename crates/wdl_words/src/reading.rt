@@ -110,18 +110,20 @@ fn wants_of_plain(alloc: Global, words: &[String]) -> Result<Wants, WordFault>
     }
 }
 
-/// What the words of the command line, after the program's own name, ask for: `Usage` exactly where they have no
-/// reading.
+/// What the words of the command line, after the program's own name, ask for: `Usage` exactly where
+/// they have no reading.
 ///
-/// The words are `run [--inputs FILE] [--workers N] [--root DIR] [--journal FILE] FILE`, `check FILE`, `inputs FILE`,
-/// `cwl [--inputs FILE] FILE`, `load N` or `bundle FILE`. Each option takes one value, as a word of its own or after `=`,
-/// and stands at most once. N is one or more decimal digits, for 1 to 64 workers (4 where it is left out) or 1 to 10,000
-/// calls. DIR begins with `/`, has at most 512 bytes as it is given, and is `/tmp/wdl-run` where it is left out; the slashes
-/// at its end are cut, and something is left. No word holds NUL, and no FILE is empty.
+/// The words are `run [--inputs FILE] [--workers N] [--root DIR] [--journal FILE] FILE`,
+/// `check FILE`, `inputs FILE`, `cwl [--inputs FILE] FILE`, `load N` or `bundle FILE`. Each option
+/// takes one value, as a word of its own or after `=`, and stands at most once. N is one or more
+/// decimal digits, for 1 to 64 workers (4 where it is left out) or 1 to 10,000 calls. DIR begins
+/// with `/`, has at most 512 bytes as it is given, and is `/tmp/wdl-run` where it is left out; the
+/// slashes at its end are cut, and something is left. No word holds NUL, and no FILE is empty.
 ///
-/// Help is asked for by `help`, `--help` or `-h` alone, and that of a command by `help COMMAND`, `COMMAND --help` or
-/// `COMMAND -h` alone, where COMMAND is `run`, `check`, `inputs`, `cwl`, `load`, `bundle` or `help`; the version by
-/// `version`, `--version` or `-V` alone. Among other words `--help`, `-h`, `--version` and `-V` have no reading.
+/// Help is asked for by `help`, `--help` or `-h` alone, and that of a command by `help COMMAND`,
+/// `COMMAND --help` or `COMMAND -h` alone, where COMMAND is `run`, `check`, `inputs`, `cwl`,
+/// `load`, `bundle` or `help`; the version by `version`, `--version` or `-V` alone. Among other
+/// words `--help`, `-h`, `--version` and `-V` have no reading.
 #[tactic(auto, using(crate::proofs::ReadLaws::read_value, crate::proofs::ReadLaws::within, crate::proofs::ReadLaws::read_usage))]
 pub fn read_words(alloc: Global, words: &[String]) -> Result<Wants, WordFault>
     ensures value { IfOk result (λ asked. spec.wants (map string_bytes words.now) ≡ Some asked) }

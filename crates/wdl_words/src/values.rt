@@ -111,8 +111,8 @@ fn directory_of(alloc: Global, text: &str) -> Result<Text, WordFault>
     Ok(Text::from_plain(alloc, root)?)
 }
 
-/// The directory below which jobs get their own: its path begins with `/` and has at most 512 bytes as it is given. The
-/// slashes at its end go, and something is left.
+/// The directory below which jobs get their own: its path begins with `/` and has at most 512 bytes
+/// as it is given. The slashes at its end go, and something is left.
 pub fn root_of(alloc: Global, text: Option<&str>) -> Result<Text, WordFault>
     ensures { Reads (spec.root_of (option_map (λ s. s.now) text.entry)) result }
 {

@@ -23,8 +23,8 @@ pub enum Wants {
         inputs: Option<Text>,
         /// How many jobs may run at once, 1 to 64.
         workers: u32,
-        /// The directory below which jobs get their own directories: it begins with `/`, has at most 512 bytes, and does
-        /// not end with `/`.
+        /// The directory below which jobs get their own directories: it begins with `/`, has at
+        /// most 512 bytes, and does not end with `/`.
         root: Text,
         /// The path of the journal, not empty.
         journal: Option<Text>,

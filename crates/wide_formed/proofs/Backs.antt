@@ -1,13 +1,14 @@
 -- What is written for a process with records, read part by part.
-use Rattle.std.proofs.Common.{◌≡◌, ℕ, Bool, true, false, not, cond, ◌==◌, ◌&&◌, ◌||◌, nat_le, List, [], ◌∷◌, ◌++◌, map, length, Option, Some, None, option_map, option_and_then, refl, sym, ap, ◌∙◌, subst}
+use Rattle.std.proofs.Common.{◌≡◌, ℕ, Bool, true, false, not, cond, ◌==◌, ◌&&◌, ◌||◌, List, [], ◌∷◌, ◌++◌, map, Option, Some, None, option_map, option_and_then, refl, sym, ap, ◌∙◌, subst}
 use Rattle.std.proofs.lemmas.Bool.{false≢true, and_from, and_parts}
 use Rattle.std.proofs.lemmas.List.{append-nil, append_assoc}
 use Rattle.std.specs.Char.{is_ascii_alphabetic, is_ascii_alphanumeric}
 use Rattle.std.specs.List.{list_all}
 use Rattle.std.specs.Str.{bytes_eq}
+use Rattle.std.proofs.lemmas.Option.{none-some, same_Some}
 use Rattle.serde_json.specs.Data.{Data, string, array, Items}
 use Rattle.serde_json.specs.View.{items_of}
-use Rattle.wdl_base.specs.Names.{is_among, is_name, is_word, is_word_from, reserved_words}
+use Rattle.wdl_base.specs.Names.{is_name, is_word, is_word_from}
 use Rattle.wdl_base.specs.Plain.{has_nul}
 use Rattle.wdl_base.proofs.PlainLemmas.{has_nul-append, name_is_plain}
 use Rattle.wdl_value.specs.declared.value.Value.{Value}
@@ -22,9 +23,9 @@ use Rattle.cwl_model.specs.declared.ty.CwlTy.{CwlTy, CwlTy-F, map-CwlTy, roll-Cw
 use Rattle.cwl_model.specs.declared.ty.CwlTy.TheOpen as type
 use Rattle.cwl_laws.proofs.Files.{number_same}
 use Rattle.cwl_emit.specs.Formed.{flow_out_formed, input_formed, is_formed, is_plain, link_formed, process_formed_at}
-use Rattle.cwl_emit.specs.Reading.{all_of, cwl_in, cwl_of, flow, flow_out_of, input_of, list_of, text_of, tool_or_flow, type_of, with2, with3}
+use Rattle.cwl_emit.specs.Reading.{cwl_in, cwl_of, flow, flow_out_of, input_of, list_of, text_of, tool_or_flow, type_of, with2, with3}
 use Rattle.cwl_emit.specs.Writing.{flow_json, flow_out_json, input_json, list, process_json, process_step, type_json, type_step}
-use Rattle.cwl_emit.proofs.Formed.{formed_processes_stand}
+use Rattle.cwl_emit.proofs.Formed.{formed_processes_stand, two_are, three_are, text_back, input_back}
 use Rattle.cwl_records.specs.declared.wide.FieldTy.{FieldTy, FieldTy-F, map-FieldTy, roll-FieldTy, ind-FieldTy, fold-roll-FieldTy}
 use Rattle.cwl_records.specs.declared.wide.FieldTy.TheVariants as field
 use Rattle.cwl_records.specs.declared.wide.FieldTy.TheOpen as open_field
@@ -35,28 +36,8 @@ use Rattle.cwl_records.specs.declared.wide.WideWire.{WideWire}
 use Rattle.cwl_records.specs.WideReading.{are_ids, are_outer, field_ty_of, all_fields, is_end, is_from_body, name_by, name_of, names_from, or_name, path_by, path_of, record_field, record_fields, record_of, record_or_plain, same_at, same_type, Test, wide_in_of, wide_wire, wide_wire_of}
 use Rattle.cwl_records.specs.WideWriting.{body_id, dotted, field_json, field_ty_json, field_ty_step, fields_json, flow_out_id, outer_out, value_from, wide_in_json, wide_wire_json, with_json}
 use Rattle.wide_formed.specs.Forms.{field_named, field_step, fields_named, is_named, wire_named, with_test}
-use Rattle.wide_formed.proofs.Elements.{bytes_same, none_some, some_same}
-
-negated : (b : Bool) → not b ≡ true → b ≡ false
-negated true h = absurd (false≢true h)
-negated false h = refl
-
--- ---- parts that are found
-
-two_are : {A B R : Type 0} (f : A → B → R) (a : Option A) (b : Option B) (x : A) (y : B) → a ≡ Some x → b ≡ Some y → with2 f a b ≡ Some (f x y)
-two_are f a b x y d e = ap (λ o. with2 f o b) d ∙ ap (option_map (f x)) e
-
-pub three_are : {A B C R : Type 0} (f : A → B → C → R) (a : Option A) (b : Option B) (c : Option C) (x : A) (y : B) (z : C) → a ≡ Some x → b ≡ Some y → c ≡ Some z → with3 f a b c ≡ Some (f x y z)
-three_are f a b c x y z d e g = ap (λ o. with3 f o b c) d ∙ two_are (f x) b c y z e g
-
-pub all_back : {A : Type 0} (f : Data → Option A) (w : A → Data) (test : A → Bool) → ((x : A) → test x ≡ true → f (w x) ≡ Some x) → (xs : List A) → list_all test xs ≡ true → list_of f (list w xs) ≡ Some xs
-all_back f w test each [] h = refl
-all_back f w test each (x ∷ xs) h =
-    let p = and_parts (test x) (list_all test xs) h in
-    ap (option_and_then (λ y. option_map (λ ys. y ∷ ys) (all_of f (items_of (map w xs))))) (each x p.0) ∙ ap (option_map (λ ys. x ∷ ys)) (all_back f w test each xs p.1)
-
-pub text_back : (s : List ℕ) → is_plain s ≡ true → text_of (string s) ≡ Some s
-text_back s h = ap (λ b. cond b None (Some s)) (negated (has_nul s) h)
+use Rattle.wdl_base.proofs.PlaceLemmas.{name_word as a_word}
+use Rattle.wdl_stdlib.proofs.Keys.{bytes_eq-refl as bytes_same}
 
 -- ---- inputs, outputs and types, out of processes that are read
 
@@ -90,31 +71,21 @@ pub inputs_back : (ins : List CwlIn) → list_all input_formed ins ≡ true → 
 inputs_back ins h = by_read (list_of input_of (list input_json ins)) (flow_read ins [] h refl)
   where
     by_read : (o : Option (List CwlIn)) → read_by o (Some []) ≡ Some (process.Flow (flow_of ins [])) → o ≡ Some ins
-    by_read None e = none_some e
-    by_read (Some is) e = ap Some (flow_same (flow_of is []) (flow_of ins []) (some_same e)).0
+    by_read None e = absurd (none-some _ e)
+    by_read (Some is) e = ap Some (flow_same (flow_of is []) (flow_of ins []) (same_Some _ _ e)).0
 
 pub outputs_back : (outs : List FlowOut) → list_all flow_out_formed outs ≡ true → list_of flow_out_of (list flow_out_json outs) ≡ Some outs
 outputs_back outs h = by_read (list_of flow_out_of (list flow_out_json outs)) (flow_read [] outs refl h)
   where
     by_read : (o : Option (List FlowOut)) → read_by (Some []) o ≡ Some (process.Flow (flow_of [] outs)) → o ≡ Some outs
-    by_read None e = none_some e
-    by_read (Some os) e = ap Some (flow_same (flow_of [] os) (flow_of [] outs) (some_same e)).1
-
-input_back : (i : CwlIn) → input_formed i ≡ true → input_of (input_json i) ≡ Some i
-input_back i h = by_read (input_of (input_json i)) (inputs_back (i ∷ []) (and_from (input_formed i) true h refl))
-  where
-    by_read : (o : Option CwlIn) → option_and_then (λ x. option_map (λ xs. x ∷ xs) (Some [])) o ≡ Some (i ∷ []) → o ≡ Some i
-    by_read None e = none_some e
-    by_read (Some x) e = let q = some_same e in ap Some (first_same x i q)
-      where
-        first_same : (a b : CwlIn) → a ∷ [] ≡ b ∷ [] → a ≡ b
-        first_same a b k = cc
+    by_read None e = absurd (none-some _ e)
+    by_read (Some os) e = ap Some (flow_same (flow_of [] os) (flow_of [] outs) (same_Some _ _ e)).1
 
 type_back : (t : CwlTy) → type_of (type_json t) ≡ Some t
 type_back t = by_type (type_of (type_json t)) (input_back (cwl_in [] t None) refl)
   where
     by_type : (o : Option CwlTy) → with3 cwl_in (Some []) o (Some None) ≡ Some (cwl_in [] t None) → o ≡ Some t
-    by_type None e = none_some e
+    by_type None e = absurd (none-some _ e)
     by_type (Some u) e = ap (λ o. option_map (λ (i : CwlIn). i.ty) o) e
 
 -- ---- types of fields
@@ -256,9 +227,6 @@ past_word [] rest h = absurd (false≢true h)
 past_word (c ∷ s) rest h =
     let p = and_parts (is_ascii_alphabetic c) (is_word_from s) h in
     on_char [] (s ++ rest) c (no_mark is_ascii_alphabetic c 46 refl p.0) (no_mark is_ascii_alphabetic c 41 refl p.0) ∙ past_word_from (c ∷ []) s rest p.1
-
-a_word : (s : List ℕ) → is_name s ≡ true → is_word s ≡ true
-a_word s h = (and_parts (nat_le (length s) 128) (is_word s) (and_parts (nat_le (length s) 128 && is_word s) (not (is_among s reserved_words)) h).0).1
 
 first_name : (n : List ℕ) (ns : List (List ℕ)) → is_name n ≡ true → names_from [] ((n ++ dotted ns) ++ 41 ∷ []) ≡ names_from n (dotted ns ++ 41 ∷ [])
 first_name n ns h = ap (names_from []) (append_assoc n (dotted ns) (41 ∷ [])) ∙ past_word n (dotted ns ++ 41 ∷ []) (a_word n h)

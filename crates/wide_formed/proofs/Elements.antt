@@ -1,20 +1,13 @@
 -- Elements of lists, and names among them.
-use Rattle.std.proofs.Common.{◌≡◌, ℕ, zero, suc, nat_lt, ◌⊎◌, inl, inr, Bool, true, false, ◌&&◌, ◌||◌, List, [], ◌∷◌, ◌++◌, map, length, Some, None, Contains, arith, sym, ap, ◌∙◌, subst, refl}
-use Rattle.std.specs.List.{list_all, slice_get}
+use Rattle.std.proofs.Common.{◌≡◌, ℕ, zero, suc, nat_lt, ◌⊎◌, inl, inr, Bool, true, false, ◌||◌, List, [], ◌∷◌, ◌++◌, map, length, Some, Contains, arith, sym, ap, ◌∙◌, subst, refl}
+use Rattle.std.specs.List.{slice_get}
 use Rattle.std.specs.Str.{bytes_eq}
 use Rattle.std.proofs.lemmas.Bool.{false≢true, lt-ltb, ltb-true, or_left, or_right}
 use Rattle.std.proofs.lemmas.Slice.Eq.{bytes_eq-Decides}
 use Rattle.wdl_typed.specs.Lists.{has_name}
 use Rattle.cwl_model.proofs.Rounds.{first_is, first_or_later, later_is, none_is}
-
-pub none_some : {A : Type 0} {x : A} {B : Type 0} → None ≡ Some x → B
-none_some h = cc
-
-pub some_same : {A : Type 0} {x y : A} → Some x ≡ Some y → x ≡ y
-some_same h = cc
-
-pub bytes_same : (s : List ℕ) → bytes_eq s s ≡ true
-bytes_same s = (bytes_eq-Decides s s).1 refl
+use Rattle.cwl_laws.proofs.Blocks.{all_from as each}
+use Rattle.wdl_stdlib.proofs.Keys.{bytes_eq-refl as bytes_same}
 
 pub same_bytes : (s t : List ℕ) → bytes_eq s t ≡ true → s ≡ t
 same_bytes s t h = (bytes_eq-Decides s t).0 h
@@ -61,14 +54,6 @@ of_map {A} {B} f (y ∷ xs) z c = by_case (first_or_later (f y) (map f xs) z c) 
     by_case (inl e) rest = (y, first_is y xs, e)
     by_case (inr d) rest = let r = rest d in (r.0, later_is y xs r.0 r.1, r.2)
 
-pub each : {A : Type 0} (f : A → Bool) (xs : List A) → ((x : A) → Contains xs x → f x ≡ true) → list_all f xs ≡ true
-each f [] h = refl
-each f (x ∷ xs) h = by_test (f x) (h x (first_is x xs)) (each f xs (λ y c. h y (later_is x xs y c)))
-  where
-    by_test : (b : Bool) → b ≡ true → list_all f xs ≡ true → (b && list_all f xs) ≡ true
-    by_test true e k = k
-    by_test false e k = absurd (false≢true e)
-
 pub at_number : {A : Type 0} (xs : List A) (k : ℕ) → nat_lt k (length xs) ≡ true → (x : A) × (slice_get xs k ≡ Some x)
 at_number [] k h = absurd (omega (arith, ltb-true k 0 h))
 at_number (x ∷ xs) zero h = (x, refl)
@@ -91,10 +76,3 @@ apart ns n h m c = by_test (bytes_eq m n) refl
     by_test : (b : Bool) → bytes_eq m n ≡ b → bytes_eq m n ≡ false
     by_test false e = e
     by_test true e = absurd (false≢true (sym h ∙ ap (λ k. has_name k ns) (sym (same_bytes m n e)) ∙ is_among ns m c))
-
-pub turned : (s t : List ℕ) → bytes_eq s t ≡ false → bytes_eq t s ≡ false
-turned s t h = by_test (bytes_eq t s) refl
-  where
-    by_test : (b : Bool) → bytes_eq t s ≡ b → bytes_eq t s ≡ false
-    by_test false e = e
-    by_test true e = absurd (false≢true (sym h ∙ ap (bytes_eq s) (same_bytes t s e) ∙ bytes_same s))

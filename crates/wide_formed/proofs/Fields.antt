@@ -1,7 +1,8 @@
 -- The members of values that fit a struct.
 use Rattle.std.proofs.Common.{◌≡◌, ◌≤◌, ◌+◌, ℕ, nat_le, ◌⊎◌, inl, inr, Bool, true, false, cond, not, ◌&&◌, ◌||◌, List, [], ◌∷◌, Some, None, Contains, arith, sym, ap, ◌∙◌, subst, refl, length}
 use Rattle.std.specs.Str.{bytes_eq}
-use Rattle.std.proofs.lemmas.Bool.{false≢true, and_from, and_parts, le-leb, leb-true}
+use Rattle.std.proofs.lemmas.Bool.{false≢true, and_from, and_parts, le-leb, leb-true, not-true}
+use Rattle.std.proofs.lemmas.Option.{none-some, same_Some}
 use Rattle.wdl_value.specs.declared.ty.Member.{Member}
 use Rattle.wdl_value.specs.declared.ty.StructDef.{StructDef}
 use Rattle.wdl_value.specs.declared.ty.Ty.{Ty, Ty-F}
@@ -21,11 +22,8 @@ use Rattle.wdl_typed.specs.Lists.{are_distinct, has_name}
 use Rattle.wdl_eval.proofs.StructForms.{a_struct, members_fit}
 use Rattle.cwl_model.proofs.Rounds.{first_or_later, none_is}
 use Rattle.cwl_records.specs.Wide.{field_at, field_in, field_of}
-use Rattle.wide_formed.proofs.Elements.{apart, mapped, none_some, same_bytes, some_same, turned}
-
-negated : (b : Bool) → not b ≡ true → b ≡ false
-negated true h = absurd (false≢true h)
-negated false h = refl
+use Rattle.wide_formed.proofs.Elements.{apart, mapped, same_bytes}
+use Rattle.flow_soundness.proofs.Args.{differ as turned}
 
 -- ---- structs
 
@@ -33,7 +31,7 @@ module _ (structs : Structs) where
   -- Members of a struct have different names, and lead through few structs.
   struct_is : (ds : List StructDef) (name : List ℕ) (ms : List Member) → all_structs structs ds ≡ true → members_of ds name ≡ Some ms
       → (are_distinct (member_names ms) ≡ true) × (is_shallow 32 structs name ≡ true)
-  struct_is [] name ms h e = none_some e
+  struct_is [] name ms h e = absurd (none-some _ e)
   struct_is (d ∷ ds) name ms h e =
       let p = and_parts (is_struct structs d) (all_structs structs ds) h in
       let q = and_parts (are_distinct (member_names d.members) && are_written structs d.members) (is_shallow 32 structs d.name) p.0 in
@@ -43,7 +41,7 @@ module _ (structs : Structs) where
       by_test : (b : Bool) → bytes_eq d.name name ≡ b → cond b (Some d.members) (members_of ds name) ≡ Some ms → are_distinct (member_names d.members) ≡ true → is_shallow 32 structs d.name ≡ true
           → (members_of ds name ≡ Some ms → (are_distinct (member_names ms) ≡ true) × (is_shallow 32 structs name ≡ true)) → (are_distinct (member_names ms) ≡ true) × (is_shallow 32 structs name ≡ true)
       by_test true s k a b rest = (
-        subst (λ (z : List Member). are_distinct (member_names z) ≡ true) (some_same k) a,
+        subst (λ (z : List Member). are_distinct (member_names z) ≡ true) (same_Some _ _ k) a,
         subst (λ (n : List ℕ). is_shallow 32 structs n ≡ true) (same_bytes d.name name s) b,
       )
       by_test false s k a b rest = rest k
@@ -99,7 +97,7 @@ module _ (structs : Structs) where
       let p = and_parts (bytes_eq f.name n.name && fits structs f.value n.ty) (members_fit structs fs ms) h in
       let q = and_parts (bytes_eq f.name n.name) (fits structs f.value n.ty) p.0 in
       let a = and_parts (not (has_name n.name (member_names ms))) (are_distinct (member_names ms)) d in
-      by_case q.0 q.1 (negated (has_name n.name (member_names ms)) a.0) (first_or_later n ms m c) (field_found fs ms p.1 a.1 m)
+      by_case q.0 q.1 (not-true (has_name n.name (member_names ms)) a.0) (first_or_later n ms m c) (field_found fs ms p.1 a.1 m)
     where
       by_case : bytes_eq f.name n.name ≡ true → fits structs f.value n.ty ≡ true → has_name n.name (member_names ms) ≡ false → (n ≡ m) ⊎ Contains ms m → (Contains ms m → IsField fs m) → IsField (f ∷ fs) m
       by_case s t new (inl e) rest =

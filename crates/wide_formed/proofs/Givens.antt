@@ -2,7 +2,8 @@
 use Rattle.std.proofs.Common.{◌≡◌, ℕ, ◌⊎◌, inl, inr, Bool, true, false, cond, not, ◌&&◌, ◌||◌, List, [], ◌∷◌, ◌++◌, map, Option, Some, None, is_none, option_and_then, option_map, Contains, sym, ap, ◌∙◌, subst, refl}
 use Rattle.std.specs.List.{list_all}
 use Rattle.std.specs.Str.{bytes_eq}
-use Rattle.std.proofs.lemmas.Bool.{false≢true, and_from, and_parts, or_parts}
+use Rattle.std.proofs.lemmas.Bool.{false≢true, and_from, and_parts, or_parts, not-true}
+use Rattle.std.proofs.lemmas.Option.{none-some, same_Some}
 use Rattle.wdl_value.specs.declared.env.Bind.{Bind}
 use Rattle.wdl_value.specs.declared.ty.Ty.{Ty, Ty-F, out-Ty}
 use Rattle.wdl_value.specs.declared.ty.Ty.TheOpen as type
@@ -33,13 +34,11 @@ use Rattle.cwl_records.specs.Lowered.{record_leaf}
 use Rattle.cwl_records.specs.Wide.{through}
 use Rattle.cwl_records.specs.Wrapping.{leaf_named}
 use Rattle.wide_formed.specs.Forms.{bind_of, leaf_value, lowered_given}
-use Rattle.wide_formed.proofs.Elements.{apart, bytes_same, mapped, none_some, on_left, same_bytes, some_same, turned}
+use Rattle.wide_formed.proofs.Elements.{apart, mapped, on_left, same_bytes}
 use Rattle.wide_formed.proofs.Naming.{IsFrom, IsPlace, are_named, comes_from, leafy, of_one, place_among, place_of, plain}
 use Rattle.wide_formed.proofs.Paths.{all_at, reached}
-
-negated : (b : Bool) → not b ≡ true → b ≡ false
-negated true h = absurd (false≢true h)
-negated false h = refl
+use Rattle.flow_soundness.proofs.Args.{differ as turned}
+use Rattle.wdl_stdlib.proofs.Keys.{bytes_eq-refl as bytes_same}
 
 -- ---- inputs
 
@@ -108,7 +107,7 @@ module _ (structs : Structs) (records : List RecordLeaf) (given : List Bind) whe
   keys_differ [] d = refl
   keys_differ (i ∷ is) d =
       let p = and_parts (not (has_name i.name (input_names is))) (are_distinct (input_names is)) d in
-      by_value (value_for i) (not_given is i.name (negated (has_name i.name (input_names is)) p.0)) (keys_differ is p.1)
+      by_value (value_for i) (not_given is i.name (not-true (has_name i.name (input_names is)) p.0)) (keys_differ is p.1)
     where
       by_value : (o : Option Value) → is_among (plain_key i.name) (keys (now is)) ≡ false → keys_distinct (keys (now is)) ≡ true → keys_distinct (keys (bind_of i.name o ++ now is)) ≡ true
       by_value None e rest = rest
@@ -139,7 +138,7 @@ module _ (structs : Structs) (records : List RecordLeaf) (given : List Bind) whe
 
       by_case : not (has_name j.name (input_names is)) ≡ true → (j ≡ i) ⊎ Contains is i → (Contains is i → lookup (now is) (plain_key i.name) ≡ value_for i) → lookup (now (j ∷ is)) (plain_key i.name) ≡ value_for i
       by_case new (inl e) rest =
-          subst (λ (z : TInput). lookup (now (j ∷ is)) (plain_key z.name) ≡ value_for z) e (here (value_for j) (not_found is j.name (negated (has_name j.name (input_names is)) new)))
+          subst (λ (z : TInput). lookup (now (j ∷ is)) (plain_key z.name) ≡ value_for z) e (here (value_for j) (not_found is j.name (not-true (has_name j.name (input_names is)) new)))
       by_case new (inr q) rest = there (value_for j) (plain_apart j i.name (name_apart j is new i q)) ∙ rest q
 
   -- each value fits its input
@@ -240,7 +239,7 @@ are_leaves structs f is ls same h =
   where
     all_small : (b : Bool) → cond b (named (taken_by f) (places_of structs f.inputs)) None ≡ Some ls → named (taken_by f) (places_of structs f.inputs) ≡ Some ls
     all_small true k = k
-    all_small false k = none_some k
+    all_small false k = absurd (none-some _ k)
 
 module _ (structs : Structs) (known : are_structs structs ≡ true) (is : List TInput) (given : List Bind) (differ : are_distinct (input_names is) ≡ true) (fit : inputs_fit structs is given ≡ true)
     (ls : List Leaf) (leaves : AreLeaves structs is ls) where
@@ -312,8 +311,8 @@ module _ (structs : Structs) (known : are_structs structs ≡ true) (is : List T
           let g = leaf_given j l a r d e in
           subst (λ (z : TInput). IsTakenFor structs z (value_for structs records given z)) q
           (record {
-            fit = λ x k. subst (λ y. value_fits structs l.ty y ≡ true) (some_same (sym g.got ∙ k)) (and_from (fits structs g.value l.ty) (is_within g.value) g.fits_it g.within);
-            left = λ k. none_some (sym k ∙ g.got);
+            fit = λ x k. subst (λ y. value_fits structs l.ty y ≡ true) (same_Some _ _ (sym g.got ∙ k)) (and_from (fits structs g.value l.ty) (is_within g.value) g.fits_it g.within);
+            left = λ k. absurd (none-some _ (sym k ∙ g.got));
           })
       by_source (plain j a r q) =
           let t = taken_for structs is given differ fit j a in

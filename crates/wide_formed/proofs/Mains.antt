@@ -2,6 +2,7 @@
 use Rattle.std.proofs.Common.{◌≡◌, ℕ, zero, suc, Bool, true, false, cond, ◌&&◌, ◌^◌, nat_lt, List, [], ◌∷◌, ◌++◌, map, Option, Some, None, option_and_then, option_map, sym, ap, ◌∙◌, subst, refl}
 use Rattle.std.specs.List.{list_all, slice_get}
 use Rattle.std.proofs.lemmas.Bool.{and_parts}
+use Rattle.std.proofs.lemmas.Option.{none-some, same_Some}
 use Rattle.wdl_value.specs.Fits.{Structs}
 use Rattle.wdl_typed.specs.declared.flow.FlowDef.{FlowDef}
 use Rattle.wdl_typed.specs.Bodies.{Library, all_declared}
@@ -9,7 +10,7 @@ use Rattle.wdl_typed.specs.Declarations.{decl_names, input_names, task_typed}
 use Rattle.wdl_typed.specs.Kept.{count, flow_typed, is_checked, main_is_there}
 use Rattle.wdl_typed.specs.KnownTypes.{are_structs}
 use Rattle.wdl_typed.specs.Lists.{are_distinct}
-use Rattle.flow_laws.proofs.Checked.{each_passes, flow_kept, kept as kept_by, names_left}
+use Rattle.flow_laws.proofs.Checked.{flow_kept, kept as kept_by, names_left}
 use Rattle.leaf_image.specs.declared.leaf.Leaf.{Leaf}
 use Rattle.leaf_image.specs.Leaves.{leaves_of}
 use Rattle.leaf_image.specs.Reached.{reached}
@@ -18,7 +19,8 @@ use Rattle.cwl_records.specs.declared.leaf.RecordLeaf.{RecordLeaf}
 use Rattle.leaf_image.specs.Replaced.{Replaced, are_checked, expanded_if, expanded_where, leaves_if, leaves_where, replaced_by, with_flows, with_leaves}
 use Rattle.cwl_records.specs.Lowered.{checked_or, lowered_by, record_leaf, unaliased_if, unaliased_where, without_aliases}
 use Rattle.wide_formed.specs.Forms.{LoweredForm, form_by, lowering}
-use Rattle.wide_formed.proofs.Elements.{at_number, none_some, some_same}
+use Rattle.wide_formed.proofs.Elements.{at_number}
+use Rattle.wdl_base.proofs.Options.{all_at}
 
 -- ---- checked forms
 
@@ -41,7 +43,7 @@ pub inputs_differ : (lib : Library) (main : ℕ) (f : FlowDef) → is_checked li
 inputs_differ lib main f h there =
     names_left (input_names f.inputs) (all_declared f.body)
     (names_left (input_names f.inputs ++ all_declared f.body) (decl_names f.outputs)
-    (flow_kept lib f (each_passes (flow_typed lib) lib.flows main f (kept_by lib (Some main) h).flows there)).distinct)
+    (flow_kept lib f (all_at (flow_typed lib) lib.flows main f (kept_by lib (Some main) h).flows there)).distinct)
 
 -- ---- aliases
 
@@ -62,13 +64,13 @@ pub record TakesSame (f g : FlowDef) : Type 0 where
   pub inputs : g.inputs ≡ f.inputs
 
 unaliased_takes : (lib : Library) (fs : List FlowDef) (bs : List Bool) (k : ℕ) (f g : FlowDef) → slice_get fs k ≡ Some f → slice_get (unaliased_where lib fs bs) k ≡ Some g → TakesSame f g
-unaliased_takes lib [] bs k f g h e = none_some h
-unaliased_takes lib (d ∷ fs) [] k f g h e = none_some e
+unaliased_takes lib [] bs k f g h e = absurd (none-some _ h)
+unaliased_takes lib (d ∷ fs) [] k f g h e = absurd (none-some _ e)
 unaliased_takes lib (d ∷ fs) (b ∷ bs) zero f g h e = by_mark b e
   where
     by_mark : (w : Bool) → Some (unaliased_if w lib d) ≡ Some g → TakesSame f g
-    by_mark true q = record { name = ap (λ (z : FlowDef). z.name) (sym (some_same q)) ∙ ap (λ (z : FlowDef). z.name) (some_same h); inputs = ap (λ (z : FlowDef). z.inputs) (sym (some_same q)) ∙ ap (λ (z : FlowDef). z.inputs) (some_same h) }
-    by_mark false q = record { name = ap (λ (z : FlowDef). z.name) (sym (some_same q)) ∙ ap (λ (z : FlowDef). z.name) (some_same h); inputs = ap (λ (z : FlowDef). z.inputs) (sym (some_same q)) ∙ ap (λ (z : FlowDef). z.inputs) (some_same h) }
+    by_mark true q = record { name = ap (λ (z : FlowDef). z.name) (sym (same_Some _ _ q)) ∙ ap (λ (z : FlowDef). z.name) (same_Some _ _ h); inputs = ap (λ (z : FlowDef). z.inputs) (sym (same_Some _ _ q)) ∙ ap (λ (z : FlowDef). z.inputs) (same_Some _ _ h) }
+    by_mark false q = record { name = ap (λ (z : FlowDef). z.name) (sym (same_Some _ _ q)) ∙ ap (λ (z : FlowDef). z.name) (same_Some _ _ h); inputs = ap (λ (z : FlowDef). z.inputs) (sym (same_Some _ _ q)) ∙ ap (λ (z : FlowDef). z.inputs) (same_Some _ _ h) }
 unaliased_takes lib (d ∷ fs) (b ∷ bs) (suc k) f g h e = unaliased_takes lib fs bs k f g h e
 
 or_takes : (lib : Library) (main : ℕ) (fs : List FlowDef) (f g : FlowDef) → slice_get lib.flows main ≡ Some f → ((k : FlowDef) → slice_get fs main ≡ Some k → TakesSame f k)
@@ -77,7 +79,7 @@ or_takes lib main fs f g there takes = by_test (are_checked lib main fs)
   where
     by_test : (b : Bool) → slice_get (cond b fs lib.flows) main ≡ Some g → TakesSame f g
     by_test true e = takes g e
-    by_test false e = let q = some_same (sym there ∙ e) in record { name = ap (λ (z : FlowDef). z.name) (sym q); inputs = ap (λ (z : FlowDef). z.inputs) (sym q) }
+    by_test false e = let q = same_Some _ _ (sym there ∙ e) in record { name = ap (λ (z : FlowDef). z.name) (sym q); inputs = ap (λ (z : FlowDef). z.inputs) (sym q) }
 
 main_unaliased : (lib : Library) (main : ℕ) (f g : FlowDef) → slice_get lib.flows main ≡ Some f → slice_get (without_aliases lib main) main ≡ Some g → TakesSame f g
 unfolding without_aliases
@@ -99,12 +101,12 @@ replaced_where : (lib : Library) (main : ℕ) (marks : List Bool) (r : Replaced)
 replaced_where lib main marks r h = by_leaves (leaves_where lib.structs lib.flows marks) refl h
   where
     by_leaves : (o : Option (List (List Leaf))) → leaves_where lib.structs lib.flows marks ≡ o → option_and_then (replaced_by lib main marks) o ≡ Some r → IsReplaced lib main r
-    by_leaves None e k = none_some k
+    by_leaves None e k = absurd (none-some _ k)
     by_leaves (Some ls) e k = by_test (are_checked lib main (all_expanded lib marks ls)) refl k
       where
         by_test : (b : Bool) → are_checked lib main (all_expanded lib marks ls) ≡ b → cond b (Some (record { flows = all_expanded lib marks ls; leaves = ls })) None ≡ Some r → IsReplaced lib main r
-        by_test true c q = subst (IsReplaced lib main) (some_same q) (record { marks = marks; leaves = e; flows = refl; checked = c })
-        by_test false c q = none_some q
+        by_test true c q = subst (IsReplaced lib main) (same_Some _ _ q) (record { marks = marks; leaves = e; flows = refl; checked = c })
+        by_test false c q = absurd (none-some _ q)
 
 is_replaced : (lib : Library) (main : ℕ) (r : Replaced) → with_leaves lib main ≡ Some r → IsReplaced lib main r
 unfolding with_leaves
@@ -122,7 +124,7 @@ pub record IsExpandedMain (structs : Structs) (f g : FlowDef) (ls : List Leaf) :
 expanded_first : (structs : Structs) (flows : List FlowDef) (all : List (List Leaf)) (b : Bool) (f : FlowDef) (ls : List Leaf) → leaves_if b structs f ≡ Some ls
     → IsExpandedMain structs f (expanded_if b flows all ls f) ls
 expanded_first structs flows all true f ls h = record { name = refl; how = expanded h refl }
-expanded_first structs flows all false f ls h = record { name = refl; how = emptied (sym (some_same h)) refl }
+expanded_first structs flows all false f ls h = record { name = refl; how = emptied (sym (same_Some _ _ h)) refl }
 
 -- the leaves of the first workflow, and those of the others
 pub record IsCons (structs : Structs) (b : Bool) (f : FlowDef) (fs : List FlowDef) (bs : List Bool) (table : List (List Leaf)) : Type 0 where
@@ -137,18 +139,18 @@ cons_is : (structs : Structs) (b : Bool) (f : FlowDef) (fs : List FlowDef) (bs :
 cons_is structs b f fs bs table h = by_first (leaves_if b structs f) refl h
   where
     by_first : (o : Option (List Leaf)) → leaves_if b structs f ≡ o → option_and_then (λ ls. option_map (λ more. ls ∷ more) (leaves_where structs fs bs)) o ≡ Some table → IsCons structs b f fs bs table
-    by_first None e k = none_some k
+    by_first None e k = absurd (none-some _ k)
     by_first (Some ls) e k = by_rest (leaves_where structs fs bs) refl k
       where
         by_rest : (o : Option (List (List Leaf))) → leaves_where structs fs bs ≡ o → option_map (λ more. ls ∷ more) o ≡ Some table → IsCons structs b f fs bs table
-        by_rest None q j = none_some j
-        by_rest (Some more) q j = record { own = ls; more = more; first = e; rest = q; is = some_same j }
+        by_rest None q j = absurd (none-some _ j)
+        by_rest (Some more) q j = record { own = ls; more = more; first = e; rest = q; is = same_Some _ _ j }
 
 expanded_takes : (structs : Structs) (flows : List FlowDef) (all : List (List Leaf)) (fs : List FlowDef) (bs : List Bool) (table : List (List Leaf)) (k : ℕ) (f g : FlowDef)
     → leaves_where structs fs bs ≡ Some table → slice_get fs k ≡ Some f → slice_get (expanded_where flows all fs bs table) k ≡ Some g
     → IsExpandedMain structs f g (leaves_at (slice_get table k))
-expanded_takes structs flows all [] bs table k f g h e q = none_some e
-expanded_takes structs flows all (d ∷ fs) [] table k f g h e q = none_some q
+expanded_takes structs flows all [] bs table k f g h e q = absurd (none-some _ e)
+expanded_takes structs flows all (d ∷ fs) [] table k f g h e q = absurd (none-some _ q)
 expanded_takes structs flows all (d ∷ fs) (b ∷ bs) table k f g h e q =
     let c = cons_is structs b d fs bs table h in
     subst (λ (t : List (List Leaf)). IsExpandedMain structs f g (leaves_at (slice_get t k))) c.is
@@ -159,8 +161,8 @@ expanded_takes structs flows all (d ∷ fs) (b ∷ bs) table k f g h e q =
         → ((m : ℕ) → slice_get fs m ≡ Some f → slice_get (expanded_where flows all fs bs more) m ≡ Some g → IsExpandedMain structs f g (leaves_at (slice_get more m)))
         → IsExpandedMain structs f g (leaves_at (slice_get (own ∷ more) n))
     at_place own more zero i s r rest =
-        subst (λ (z : FlowDef). IsExpandedMain structs z g own) (some_same s)
-        (subst (λ (z : FlowDef). IsExpandedMain structs d z own) (some_same r) (expanded_first structs flows all b d own i))
+        subst (λ (z : FlowDef). IsExpandedMain structs z g own) (same_Some _ _ s)
+        (subst (λ (z : FlowDef). IsExpandedMain structs d z own) (same_Some _ _ r) (expanded_first structs flows all b d own i))
     at_place own more (suc m) i s r rest = rest m s r
 
 -- ---- the lowered form

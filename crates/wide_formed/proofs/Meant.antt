@@ -21,7 +21,7 @@ use Rattle.wdl_typed.specs.Kept.{flow_typed, is_checked}
 use Rattle.wdl_typed.specs.KnownTypes.{are_structs}
 use Rattle.wdl_typed.specs.Lists.{are_distinct}
 use Rattle.wdl_typed.specs.Scope.{lookup}
-use Rattle.flow_laws.proofs.Checked.{each_passes, kept as kept_by}
+use Rattle.flow_laws.proofs.Checked.{kept as kept_by}
 use Rattle.flow_soundness.proofs.FlowSound.{is_typed}
 use Rattle.cwl_model.specs.declared.process.CwlFlow.{CwlFlow}
 use Rattle.cwl_model.specs.declared.process.Process.{Process, out-Process}
@@ -41,8 +41,7 @@ use Rattle.cwl_laws.proofs.Calls.{left_absent}
 use Rattle.cwl_laws.proofs.Flows.{flow_rules}
 use Rattle.cwl_laws.proofs.Starts.{all_meet, each_fits}
 use Rattle.cwl_laws.proofs.Tools.{both_empty, inputs_are, rule_holds}
-use Rattle.cwl_laws.proofs.Whole.{object_same, simulates}
-use Rattle.cwl_formed.proofs.Whole.{nothing_broken}
+use Rattle.cwl_laws.proofs.Whole.{object_same, simulates, nothing_broken}
 use Rattle.leaf_image.specs.declared.leaf.Leaf.{Leaf}
 use Rattle.leaf_image.specs.declared.leaf.Place.{Place}
 use Rattle.leaf_image.specs.Leaves.{is_record, places_at}
@@ -55,7 +54,7 @@ use Rattle.cwl_records.specs.Wide.{means_wide, record_typed, some_typed, tests_o
 use Rattle.cwl_records.specs.Wrapping.{field_ty, leaf_named, some_fields, struct_fields, wide_in, wire_by, wrapped}
 use Rattle.wide_formed.specs.Forms.{flow_part, form_means, leaf_value, lowered_given, lowering, wide_process}
 use Rattle.wide_formed.specs.Laws.{LoweredSimulates}
-use Rattle.wide_formed.proofs.Elements.{bytes_same, of_map, same_bytes}
+use Rattle.wide_formed.proofs.Elements.{of_map, same_bytes}
 use Rattle.wide_formed.proofs.Fields.{known_struct, no_struct}
 use Rattle.wide_formed.proofs.Givens.{AreLeaves, IsTakenFor, are_leaves, binds, found, given_fit, leaf_given, leaves_taken, record_given, taken_for, value_for}
 use Rattle.wide_formed.proofs.Mains.{HasMain, IsLoweredMain, inputs_differ, lowered_main, replaced, structs_kept, unreplaced}
@@ -63,6 +62,8 @@ use Rattle.wide_formed.proofs.Naming.{IsFrom, among_places, comes_from, has_leaf
 use Rattle.wide_formed.proofs.Paths.{a_struct_type, record_is}
 use Rattle.wide_formed.proofs.Swapping.{input_kept}
 use Rattle.wide_formed.proofs.Wides.{means_same, named_at, taken_twice, wide_means, wide_named, wide_value}
+use Rattle.wdl_base.proofs.Options.{all_at}
+use Rattle.wdl_stdlib.proofs.Keys.{bytes_eq-refl as bytes_same}
 
 -- ---- rules that the main workflow keeps
 
@@ -79,7 +80,7 @@ pub record IsSubsetMain (structs : Structs) (is : List TInput) : Type 0 where
 
 pub subset_main : (lib : Library) (main : ℕ) (f : FlowDef) → is_checked lib (Some main) ≡ true → in_subset lib main ≡ true → slice_get lib.flows main ≡ Some f → IsSubsetMain lib.structs f.inputs
 subset_main lib main f checked subset there =
-    let t = is_typed lib f (each_passes (flow_typed lib) lib.flows main f (kept_by lib (Some main) checked).flows there) in
+    let t = is_typed lib f (all_at (flow_typed lib) lib.flows main f (kept_by lib (Some main) checked).flows there) in
     let rules = (flow_rules lib f (main_kept lib 24 main f there (nothing_broken (broken_in lib main) subset))).inputs in
     record {
       inputs = inputs_are lib.structs [] (inputs_bound f.inputs) f.inputs t.inputs_are rules;

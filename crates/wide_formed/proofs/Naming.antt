@@ -1,7 +1,8 @@
 -- The leaves of struct inputs, by their names and their places.
 use Rattle.std.proofs.Common.{◌≡◌, ℕ, zero, suc, ◌⊎◌, inl, inr, Bool, true, false, cond, not, ◌&&◌, List, [], ◌∷◌, ◌++◌, map, Option, Some, None, option_and_then, option_map, Contains, sym, ap, ◌∙◌, subst, refl}
 use Rattle.std.specs.Str.{bytes_eq}
-use Rattle.std.proofs.lemmas.Bool.{false≢true, and_parts, or_parts}
+use Rattle.std.proofs.lemmas.Bool.{and_parts, or_parts, not-true}
+use Rattle.std.proofs.lemmas.Option.{none-some, same_Some}
 use Rattle.wdl_base.specs.Names.{is_name}
 use Rattle.wdl_value.specs.declared.ty.Member.{Member}
 use Rattle.wdl_value.specs.declared.ty.Ty.{Ty, Ty-F, out-Ty}
@@ -18,12 +19,11 @@ use Rattle.leaf_image.specs.Records.{all_inputs, input_leaves, leaf_input, of_in
 use Rattle.wdl_swaps.specs.Swaps.{swapped_input}
 use Rattle.cwl_records.specs.Lowered.{record_leaf}
 use Rattle.cwl_records.specs.Wrapping.{leaf_named}
-use Rattle.wide_formed.proofs.Elements.{bytes_same, either, mapped, none_some, of_map, on_left, on_right, some_same}
-use Rattle.wide_formed.proofs.Paths.{among, deeper, no_places}
-
-negated : (b : Bool) → not b ≡ true → b ≡ false
-negated true h = absurd (false≢true h)
-negated false h = refl
+use Rattle.wide_formed.proofs.Elements.{either, mapped, of_map, on_left, on_right}
+use Rattle.wide_formed.proofs.Paths.{among, deeper}
+use Rattle.wdl_stdlib.proofs.Keys.{bytes_eq-refl as bytes_same}
+use Rattle.struct_leaves.proofs.NamingLaws.{deeper as more_free}
+use Rattle.struct_leaves.proofs.PlaceLaws.{at_zero as no_places}
 
 -- ---- names
 
@@ -32,16 +32,12 @@ untaken_new taken s name h = by_test (is_name s && not (has_name s taken)) refl 
   where
     by_test : (b : Bool) → (is_name s && not (has_name s taken)) ≡ b → cond b (Some s) None ≡ Some name → has_name name taken ≡ false
     by_test true e k =
-        subst (λ n. has_name n taken ≡ false) (some_same k) (negated (has_name s taken) (and_parts (is_name s) (not (has_name s taken)) e).1)
-    by_test false e k = none_some k
+        subst (λ n. has_name n taken ≡ false) (same_Some _ _ k) (not-true (has_name s taken) (and_parts (is_name s) (not (has_name s taken)) e).1)
+    by_test false e k = absurd (none-some _ k)
 
 none_free : (taken : List (List ℕ)) (s name : List ℕ) → free 0 taken s ≡ Some name → has_name name taken ≡ false
 unfolding free
-none_free taken s name h = none_some h
-
-more_free : (n : ℕ) (taken : List (List ℕ)) (s : List ℕ) → free (suc n) taken s ≡ or_else (untaken taken s) (free n taken (s ++ 95 ∷ []))
-unfolding free
-more_free n taken s = refl
+none_free taken s name h = absurd (none-some _ h)
 
 free_new : (n : ℕ) (taken : List (List ℕ)) (s name : List ℕ) → free n taken s ≡ Some name → has_name name taken ≡ false
 free_new zero taken s name h = none_free taken s name h
@@ -49,7 +45,7 @@ free_new (suc n) taken s name h = by_first (untaken taken s) refl (sym (more_fre
   where
     by_first : (o : Option (List ℕ)) → untaken taken s ≡ o → or_else o (free n taken (s ++ 95 ∷ [])) ≡ Some name → (free n taken (s ++ 95 ∷ []) ≡ Some name → has_name name taken ≡ false) → has_name name taken ≡ false
     by_first None e k rest = rest k
-    by_first (Some t) e k rest = subst (λ n. has_name n taken ≡ false) (some_same k) (untaken_new taken s t e)
+    by_first (Some t) e k rest = subst (λ n. has_name n taken ≡ false) (same_Some _ _ k) (untaken_new taken s t e)
 
 -- the place of a leaf
 abbrev pub place_of : Leaf → Place
@@ -88,17 +84,17 @@ more_named taken p ps name ls new h =
         ap (λ b. cond b (Some (record_leaf (leaf p name))) (leaf_named (map record_leaf ls) l.name)) (or_parts (bytes_eq name l.name) false (both l c).1).0 ∙ h.found l c
 
 pub are_named : (taken : List (List ℕ)) (ps : List Place) (ls : List Leaf) → named taken ps ≡ Some ls → AreNamed taken ps ls
-are_named taken [] ls h = subst (AreNamed taken []) (some_same h) (none_named taken)
+are_named taken [] ls h = subst (AreNamed taken []) (same_Some _ _ h) (none_named taken)
 are_named taken (p ∷ ps) ls h = by_name (leaf_name taken p) refl h (λ name. are_named (taken ++ name ∷ []) ps)
   where
     by_name : (o : Option (List ℕ)) → leaf_name taken p ≡ o → option_and_then (λ name. option_map (λ more. leaf p name ∷ more) (named (taken ++ name ∷ []) ps)) o ≡ Some ls
         → ((name : List ℕ) (more : List Leaf) → named (taken ++ name ∷ []) ps ≡ Some more → AreNamed (taken ++ name ∷ []) ps more) → AreNamed taken (p ∷ ps) ls
-    by_name None e k rest = none_some k
+    by_name None e k rest = absurd (none-some _ k)
     by_name (Some name) e k rest = by_rest (named (taken ++ name ∷ []) ps) refl k
       where
         by_rest : (o : Option (List Leaf)) → named (taken ++ name ∷ []) ps ≡ o → option_map (λ more. leaf p name ∷ more) o ≡ Some ls → AreNamed taken (p ∷ ps) ls
-        by_rest None q j = none_some j
-        by_rest (Some more) q j = subst (AreNamed taken (p ∷ ps)) (some_same j) (more_named taken p ps name more (free_new 129 taken (joined p.input p.path) name e) (rest name more q))
+        by_rest None q j = absurd (none-some _ j)
+        by_rest (Some more) q j = subst (AreNamed taken (p ∷ ps)) (same_Some _ _ j) (more_named taken p ps name more (free_new 129 taken (joined p.input p.path) name e) (rest name more q))
 
 -- ---- places
 

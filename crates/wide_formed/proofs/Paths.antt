@@ -4,7 +4,7 @@ use Rattle.std.specs.List.{list_all}
 use Rattle.std.proofs.lemmas.Bool.{false≢true, and_from, and_parts}
 use Rattle.std.proofs.lemmas.List.{append-nil, append_assoc}
 use Rattle.wdl_value.specs.declared.ty.Member.{Member}
-use Rattle.wdl_value.specs.declared.ty.Ty.{Ty, Ty-F, fold-roll-Ty, out-Ty, roll-Ty, roll-out-Ty}
+use Rattle.wdl_value.specs.declared.ty.Ty.{Ty, Ty-F, fold-roll-Ty, out-Ty}
 use Rattle.wdl_value.specs.declared.ty.Ty.TheVariants as ty
 use Rattle.wdl_value.specs.declared.ty.Ty.TheOpen as type
 use Rattle.wdl_value.specs.declared.value.Value.{Value, out-Value}
@@ -27,10 +27,9 @@ use Rattle.cwl_records.specs.Wide.{field_of, field_step, fields_typed, has_field
 use Rattle.cwl_records.specs.Wrapping.{all_fields, field_ty, some_fields, struct_field}
 use Rattle.wide_formed.proofs.Elements.{either, on_left, on_right}
 use Rattle.wide_formed.proofs.Fields.{no_struct, struct_of}
-
--- a type by its layer
-typed_by : (t : Ty) (z : Ty-F Ty) → out-Ty t ≡ z → t ≡ roll-Ty z
-typed_by t z e = sym (roll-out-Ty t) ∙ ap roll-Ty e
+use Rattle.wdl_eval.proofs.Indices.{made as typed_by}
+use Rattle.cwl_records.proofs.FieldLaws.{deeper as field_deeper}
+use Rattle.struct_leaves.proofs.PlaceLaws.{at_zero as no_places}
 
 pub a_struct_type : (t : Ty) (s : List ℕ) → out-Ty t ≡ type.Struct s → t ≡ ty.Struct s
 a_struct_type t s e = typed_by t (type.Struct s) e ∙ ty.rolls-Struct s
@@ -62,10 +61,6 @@ pub deeper : (structs : Structs) (n : ℕ) (input : List ℕ) (path : List (List
     → places_at structs (suc n) input path t ≡ struct_places structs (places_at structs n input) input path t (out-Ty t)
 unfolding places_at
 deeper structs n input path t = refl
-
-pub no_places : (structs : Structs) (input : List ℕ) (path : List (List ℕ)) (t : Ty) → places_at structs 0 input path t ≡ []
-unfolding places_at
-no_places structs input path t = refl
 
 -- The value at the end of a path is there, fits the place's type, and keeps the limits where the whole does.
 pub record IsReached (structs : Structs) (path : List (List ℕ)) (x : Value) (p : Place) : Type 0 where
@@ -160,10 +155,6 @@ members_deep structs (suc n) s ms e h m c =
     λ t k. all_at (is_shallow n structs) (members_structs ms) (sym (shallower structs n s ∙ ap (λ o. list_all (is_shallow n structs) (some_structs o)) e) ∙ h) t (named_in ms m t c k)
 
 -- ---- types of fields
-
-field_deeper : (structs : Structs) (n : ℕ) (t : Ty) → field_ty structs (suc n) t ≡ struct_field structs (field_ty structs n) t (out-Ty t)
-unfolding field_ty
-field_deeper structs n t = refl
 
 one_typed : (u : CwlTy) (x : Value) → has_field_type (field.One u) x ≡ has_type u x
 one_typed u x = ap (λ (f : FieldTy). has_field_type f x) (sym (field.rolls-One u)) ∙ ap (λ (f : Test). f x) (fold-roll-FieldTy Test field_step (layer.One u))

@@ -17,7 +17,7 @@ use Rattle.cwl_emit.specs.Formed.{flow_out_formed, input_formed, is_formed, is_p
 use Rattle.wdl_value.specs.declared.ty.Ty.{out-Ty}
 use Rattle.cwl_emit.specs.Reading.{flow_out_of, list_of, text_of, with3}
 use Rattle.cwl_emit.specs.Writing.{flow_out_json, list, process_json}
-use Rattle.cwl_emit.proofs.Formed.{formed_processes_stand}
+use Rattle.cwl_emit.proofs.Formed.{formed_processes_stand, three_are, all_back, text_back}
 use Rattle.cwl_formed.proofs.Whole.{images_are_formed}
 use Rattle.leaf_image.specs.declared.leaf.Leaf.{Leaf}
 use Rattle.leaf_image.specs.Leaves.{is_record}
@@ -33,11 +33,12 @@ use Rattle.cwl_records.specs.WideWriting.{flow_out_id, outer_out, wide_in_json, 
 use Rattle.cwl_records.specs.Wrapping.{struct_fields, wide_in, wrapped}
 use Rattle.wide_formed.specs.Forms.{are_named, document_json, flow_part, input_named, lowering, wide_named, wide_process, wire_named}
 use Rattle.wide_formed.specs.Laws.{LoweredStands, StandsFor}
-use Rattle.wide_formed.proofs.Backs.{all_back, ids_plain, ids_same, input_fine, outer_formed, outer_same, outputs_back, text_back, three_are, wide_in_back, wire_back}
-use Rattle.wide_formed.proofs.Elements.{each, mapped, of_map}
+use Rattle.wide_formed.proofs.Backs.{ids_plain, ids_same, input_fine, outer_formed, outer_same, outputs_back, wide_in_back, wire_back}
+use Rattle.wide_formed.proofs.Elements.{mapped, of_map}
 use Rattle.wide_formed.proofs.Mains.{HasMain, IsLoweredMain, lowered_main, main_there, replaced, unreplaced}
 use Rattle.wide_formed.proofs.Meant.{IsFlowImage, IsSubsetMain, flow_is, input_there, subset_main}
 use Rattle.wide_formed.proofs.Paths.{all_at}
+use Rattle.cwl_laws.proofs.Blocks.{all_from as each}
 
 -- ---- a process with records
 

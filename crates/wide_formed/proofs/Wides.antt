@@ -23,7 +23,7 @@ use Rattle.cwl_records.specs.declared.wide.WideWire.{WideWire}
 use Rattle.cwl_records.specs.Wide.{all_wide, body_means, means_wide, through, wide_taken, wide_wired}
 use Rattle.cwl_records.specs.Wrapping.{leaf_named, wide_in, wire_by, wire_in, wrapped}
 use Rattle.leaf_image.specs.Leaves.{is_record}
-use Rattle.wide_formed.proofs.Elements.{bytes_same}
+use Rattle.wdl_stdlib.proofs.Keys.{bytes_eq-refl as bytes_same}
 
 -- ---- what a process takes
 

@@ -1,4 +1,5 @@
-//! That what is written for the process of a lowered form, and for its inputs, stands for them, and what it means.
+//! That what is written for the process of a lowered form, and for its inputs, stands for them, and
+//! what it means.
 #![tactic(auto)]
 
 mod laws;

@@ -87,8 +87,8 @@ fn see_wires(wires: &[WideWire])
     }
 }
 
-/// The fields of a process with record inputs (CWL v1.2 Workflow, "InputRecordSchema") have NAMEs, and its ids hold no NUL.
-/// The walk only tells this to the proof.
+/// The fields of a process with record inputs (CWL v1.2 Workflow, "InputRecordSchema") have NAMEs,
+/// and its ids hold no NUL. The walk only tells this to the proof.
 pub fn see_members(process: &RecordProcess)
     ensures { spec.wide_named process.now ≡ true }
 {

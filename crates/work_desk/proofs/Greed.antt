@@ -1,6 +1,7 @@
 -- One step more.
 use Rattle.std.proofs.Common.{◌≡◌, ℕ, List, [], ◌∷◌, ◌++◌, Bool, true, false, ◌||◌, refl, sym, ap, ◌∙◌, subst, append_assoc}
 use Rattle.std.proofs.lemmas.List.{append-nil}
+use Rattle.std.proofs.Math.Bool.{or-false}
 use Rattle.wdl_base.specs.declared.entry.Entry.{Entry}
 use Rattle.wdl_base.specs.declared.entry.Source.TheVariants.{Launched}
 use Rattle.wdl_base.specs.declared.place.Segment.{Segment}
@@ -9,10 +10,6 @@ use Rattle.wdl_base.specs.declared.step.Step.TheVariants.{Took, Settled}
 use Rattle.ready_core.specs.Cores.{Origin, WasOut}
 use Rattle.ready_core.specs.Rows.{TakenJob}
 use Rattle.work_desk.specs.Greedy.{has_took, Busy, TookWell, greedy_from, greedy}
-
-or_none : (b : Bool) → (b || false) ≡ b
-or_none true = refl
-or_none false = refl
 
 has_took-settled : (ss : List Step) (p : List Segment) → has_took (ss ++ Settled p ∷ []) ≡ has_took ss
 has_took-settled [] p = refl
@@ -67,7 +64,7 @@ settled_from o n strict entries rest taken coming [] x g was w = (
     refl,
     subst (λ (es : List Entry). WasOut es taken x.request) (ended entries rest g.0) (subst (λ (ts : List TakenJob). WasOut (entries ++ rest) ts x.request) (ended taken coming g.1) was),
     λ l asked. subst (λ (es : List Entry). Busy o n es taken) (ended entries rest g.0)
-        (subst (λ (ts : List TakenJob). Busy o n (entries ++ rest) ts) (ended taken coming g.1) (w l (sym (or_none strict) ∙ asked))),
+        (subst (λ (ts : List TakenJob). Busy o n (entries ++ rest) ts) (ended taken coming g.1) (w l (sym (or-false strict) ∙ asked))),
   ),
   (refl, g.1),
 )

@@ -38,6 +38,7 @@ use Rattle.work_desk.specs.Keeping.{AreFrom, AreKept, AreLeft, ArePlaced, Holdin
 use Rattle.work_desk.specs.Run.{Tells}
 use Rattle.work_desk.specs.Settling.{Settling}
 use Rattle.work_desk.specs.Stops.{Judges, NotKeep, halted}
+use Rattle.ready_core.proofs.Counted.{requested as job_of}
 
 -- ---- stops
 
@@ -61,15 +62,6 @@ rose_before f g h earlier rose =
     omega (arith, le-min one (min-le_right (f + 1) top), rose)
 
 -- ---- one settle
-
--- the job of a request
-pub job_of : (taken : List TakenJob) (r : Request) → Contains (requests taken) r → (j : TakenJob) × Contains taken j × (j.request ≡ r)
-job_of [] r c = absurd (none_within r c)
-job_of (x ∷ xs) r c = by_case (job_of xs r) (first_or_later x.request (requests xs) r c)
-  where
-    by_case : (Contains (requests xs) r → (j : TakenJob) × Contains xs j × (j.request ≡ r)) → (x.request ≡ r) ⊎ Contains (requests xs) r → (j : TakenJob) × Contains (x ∷ xs) j × (j.request ≡ r)
-    by_case rest (inl same) = (x, contains_first x xs, same)
-    by_case rest (inr d) = let p = rest d in (p.0, contains_later x xs p.0 p.1, p.2)
 
 judged_keeps : (c : CoreState) (s t : Option Stop) → Judges c s t → NotKeep s t
 judged_keeps c None None m = record { keep = λ e. e; stays = λ e. e }

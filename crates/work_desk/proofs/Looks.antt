@@ -17,20 +17,16 @@ use Rattle.wdl_names.specs.Marks.{first_place}
 use Rattle.wdl_flow.specs.Marks.{entry_mark, entry_marks, place_mark}
 use Rattle.wdl_flow.proofs.Skip.{apart, skip}
 use Rattle.wdl_port.specs.Rows.{is_under, request_order, rises, row_order}
-use Rattle.wdl_port.proofs.RowLemmas.{row_total}
+use Rattle.wdl_port.proofs.RowLemmas.{row_total, less}
 use Rattle.flow_laws.proofs.Elements.{contains_first, contains_later}
 use Rattle.flow_laws.proofs.Rows.{at_itself, at_same}
 use Rattle.flow_laws.proofs.SameRequests.{request_same}
 use Rattle.ready_core.specs.Rows.{TakenJob, is_usable}
 use Rattle.work_desk.specs.Keeping.{ArePlaced}
 use Rattle.work_desk.specs.Run.{row_at, usable}
+use Rattle.wdl_flow.proofs.MarkLemmas.{entry_marks_agree as marks_agree}
 
 -- ---- where the search begins
-
-marks_agree : (place : List Segment) (attempt : ℕ) (e : Entry) → is_at place attempt (row_of e) ≡ true → entry_mark e ≡ place_mark attempt place
-marks_agree place attempt e h =
-    let p = at_same place attempt (row_of e) h in
-    ap (λ n. place_mark n e.request.place) p.1 ∙ ap (place_mark attempt) p.0
 
 pub row_at-skip : (place : List Segment) (attempt : ℕ) (es : List Entry)
     → row_at (drop (first_place (place_mark attempt place) (entry_marks es)) es) place attempt ≡ row_at es place attempt
@@ -51,11 +47,6 @@ before_itself : (o : Ordering) → o ≡ ordering_reverse o → is_lt o ≡ fals
 before_itself Less e = ap is_lt e
 before_itself Equal e = refl
 before_itself Greater e = refl
-
-less : (o : Ordering) → is_lt o ≡ true → o ≡ Less
-less Less h = refl
-less Equal h = absurd (false≢true h)
-less Greater h = absurd (false≢true h)
 
 under_next : (x y : Entry) (ys : List Entry) → is_lt (row_order x y) ≡ true → is_under y ys ≡ true → is_under x ys ≡ true
 under_next x y [] h u = refl

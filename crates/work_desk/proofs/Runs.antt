@@ -4,6 +4,7 @@ use Rattle.std.specs.Prelude.{All, Option, Some, None, IfNone, is_some, not, con
 use Rattle.std.proofs.lemmas.List.Elements.{Contains-append_left, All-append, All-weaker, All-nil}
 use Rattle.std.proofs.lemmas.List.{nil_from_length}
 use Rattle.std.proofs.lemmas.List.Sums.{sum_by-append, count_by-le-length}
+use Rattle.std.proofs.Math.Bool.{or-true}
 use Rattle.wdl_base.specs.declared.answer.Answer.{Answer}
 use Rattle.wdl_base.specs.declared.entry.Entry.{Entry}
 use Rattle.wdl_base.specs.declared.entry.Source.{Source}
@@ -44,10 +45,6 @@ count-no rows js j e =
 
 pub put_few : (rows : List Entry) (js : List TakenJob) → unkept rows js ≤ length js
 put_few rows js = count_by-le-length (λ j. not (usable rows j)) js
-
-or_true : (b : Bool) → (b || true) ≡ true
-or_true true = refl
-or_true false = refl
 
 -- what holds of a job that was taken still holds as more are taken
 given_more : (gives : Request → Answer → Type 0) (rows : List Entry) (taken : List TakenJob) (j : TakenJob) (r : Request) (a : Answer) (s : Source)
@@ -204,7 +201,7 @@ module _ (n : ℕ) (gives : Request → Answer → Type 0) (refuses : Request �
       → is_strict stop ≡ true → Busy c.origin n c.journal c.taken
   run_busy hand c h None run f strict = f refl
   run_busy hand c h (Some Failed) run f strict = inr (ap (λ b. b || (too_many (flow_of c) || all_taken (flow_of c) c.taken)) run.caused)
-  run_busy hand c h (Some TooMany) run f strict = inr (ap (λ b. has_fault (flow_of c) || (b || all_taken (flow_of c) c.taken)) run.caused ∙ or_true (has_fault (flow_of c)))
+  run_busy hand c h (Some TooMany) run f strict = inr (ap (λ b. has_fault (flow_of c) || (b || all_taken (flow_of c) c.taken)) run.caused ∙ or-true (has_fault (flow_of c)))
   run_busy hand c h (Some NoMemory) run f strict = cc
   run_busy hand c h (Some Keep) run f strict = cc
   run_busy hand c h (Some (Launch p)) run f strict = cc

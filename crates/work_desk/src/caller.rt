@@ -28,7 +28,8 @@ use std::sync::ledger::Ledger;
 use wdl_port::{KeepFault, Keeper, LaunchFault, Launcher};
 use wdl_value::{Steps, copy_place};
 
-/// What the caller of a run has: the core and the shares of the desk's ledgers, which are its own alone, and the first stop.
+/// What the caller of a run has: the core and the shares of the desk's ledgers, which are its own
+/// alone, and the first stop.
 #[derive(Drop)]
 pub(crate) struct Caller<P: Pact> {
     pub core: Core,
@@ -62,7 +63,8 @@ impl<P: Pact> Caller<P> {
         }
     }
 
-    // Takes a job, if one is to be taken, and puts it on the desk, or settles it by its row. False where there was none.
+    // Takes a job, if one is to be taken, and puts it on the desk, or settles it by its row. False
+    // where there was none.
     fn take_one<O: Progress, S: Ledger, R: Wait>(
         &mut self,
         rt: &R,
@@ -101,7 +103,8 @@ impl<P: Pact> Caller<P> {
         true
     }
 
-    // Takes jobs until as many are out as there are workers, or nothing more is to be taken, or the run stops.
+    // Takes jobs until as many are out as there are workers, or nothing more is to be taken, or the
+    // run stops.
     fn fill<O: Progress, S: Ledger, R: Wait>(
         &mut self,
         rt: &R,
@@ -246,8 +249,9 @@ impl<P: Pact> Caller<P> {
         }
     }
 
-    /// The caller's part of a run, up to the point where nothing is out and nothing more is to be taken, or, after a stop, all that
-    /// was out has come back. With `alone` it launches the jobs itself.
+    /// The caller's part of a run, up to the point where nothing is out and nothing more is to be
+    /// taken, or, after a stop, all that was out has come back. With `alone` it launches the jobs
+    /// itself.
     pub(crate) fn drive<L: Launcher, K: Keeper, O: Progress, S: Ledger, R: Wait>(
         &mut self,
         rt: &R,

@@ -26,7 +26,8 @@ pub struct Opened<P: Pact> {
 }
 
 impl<P: Pact> Desk<P> {
-    /// Returns an empty desk, with room for the jobs and the answers of all workers. Each blank becomes a ledger of the desk.
+    /// Returns an empty desk, with room for the jobs and the answers of all workers. Each blank
+    /// becomes a ledger of the desk.
     pub fn new(
         alloc: Global,
         workers: u32,

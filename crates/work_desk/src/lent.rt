@@ -122,7 +122,8 @@ impl<'s, K: Keeper, S: Ledger> Conducts for Lending<'s, K, S> {
     }
 }
 
-/// A progress that is lent for a run. A closure that takes it holds no reference that contracts follow.
+/// A progress that is lent for a run. A closure that takes it holds no reference that contracts
+/// follow.
 #[derive(Drop)]
 pub(crate) struct Lent<'s, T: Progress> {
     pub progress: &'s mut T,

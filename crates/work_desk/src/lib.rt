@@ -1,5 +1,6 @@
-//! A run of a core by several workers: the caller takes jobs and puts them on a desk under one lock, workers pick them, launch them
-//! and lay down the answers, and the caller collects, keeps and settles these.
+//! A run of a core by several workers: the caller takes jobs and puts them on a desk under one
+//! lock, workers pick them, launch them and lay down the answers, and the caller collects, keeps
+//! and settles these.
 #![tactic(auto)]
 
 mod caller;

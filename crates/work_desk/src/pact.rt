@@ -3,8 +3,8 @@ ghost use Rattle.std.specs.Prelude.{◌≡◌, ◌<◌, ℕ, ⊤};
 use std::marker::{Brand, Model, PhantomData};
 use std::sync::ledger::{Ledger, Share};
 
-/// One run: its launcher's relations, its number of workers and its two ledgers. It has no calls: the value under a lock is known
-/// by its type alone, so that the type names the run.
+/// One run: its launcher's relations, its number of workers and its two ledgers. It has no calls:
+/// the value under a lock is known by its type alone, so that the type names the run.
 pub trait Pact {
     ghost use Rattle.wdl_base.specs.declared.request.Request.{Request};
     ghost use Rattle.wdl_base.specs.declared.answer.Answer.{Answer};

@@ -1,7 +1,8 @@
 use ready_core::Job;
 use wdl_value::{Entry, Request};
 
-/// Sees a run as it goes on, for a person. Only the caller's thread calls it, and no call changes what the run does.
+/// Sees a run as it goes on, for a person. Only the caller's thread calls it, and no call changes
+/// what the run does.
 pub trait Progress {
     /// A job is put on the desk, to be launched.
     fn began(&mut self, job: &Job);

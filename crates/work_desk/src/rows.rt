@@ -16,7 +16,8 @@ use wdl_flow::place_mark;
 use wdl_names::Places;
 use wdl_value::{Entry, Items, NoMemory, Request, same_place};
 
-/// The rows of an earlier run, in rising order, found by their place and attempt in logarithmic time.
+/// The rows of an earlier run, in rising order, found by their place and attempt in logarithmic
+/// time.
 #[derive(Drop)]
 pub(crate) struct Rows {
     entries: Items<Entry>,
@@ -102,7 +103,8 @@ impl Rows {
     /// The row that is usable for a job. It takes no memory.
     pub(crate) fn find(&self, job: &Job) -> Option<&Entry>
         ensures found { MatchOption (option_copied result) (usable self.now job.now ≡ false)
-            (λ row. Contains self.now row × (is_usable job.now row ≡ true) × (usable self.now job.now ≡ true)) }
+            (λ row. Contains self.now row × (is_usable job.now row ≡ true)
+            × (usable self.now job.now ≡ true)) }
         ensures kept { are_kept self.now ≡ true }
     {
         let Some(row) = self.at(job.request()) else {

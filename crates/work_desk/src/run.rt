@@ -29,7 +29,8 @@ use std::thread::Threads;
 use wdl_port::{Keeper, Launcher};
 use wdl_value::{Counts, Entry, Items, Steps};
 
-/// What a run leaves: the core, why it stopped, if it did, and how many jobs were put on the desk, picked, finished and collected.
+/// What a run leaves: the core, why it stopped, if it did, and how many jobs were put on the desk,
+/// picked, finished and collected.
 #[derive(Drop)]
 pub struct Ran {
     pub core: Core,
@@ -150,11 +151,17 @@ fn in_threads<
             requires { (core ≡ started core.origin core.plan) × (shares ≡ held 0 0) × (workers ≡ P.workers) × (0 < workers)
                 × Tells (L.gives launcher.now) (L.refuses launcher.now) P.gives P.refuses
                 × Tells P.gives P.refuses (L.gives launcher.now) (L.refuses launcher.now)
-                × IsReady rows.now (keeper_view (C.kept lent.now) (C.path lent.now) (C.faults lent.now)) × ArePlaced rows.now }
+                × IsReady rows.now (keeper_view (C.kept lent.now) (C.path lent.now) (C.faults lent.now))
+                × ArePlaced rows.now }
             ensures { HasRun workers (L.gives launcher.entry.now) (L.refuses launcher.entry.now) rows.entry.now result.0.core result.0.stop result.0.counts × (result.0.core.origin ≡ core.origin)
-                × EndsPaid core (C.count lent.entry.now) result.0.core result.0.stop (C.count result.1.now)
-                × (C.keeper_name result.1.now ≡ C.keeper_name lent.entry.now) × (C.steps_name result.1.now ≡ C.steps_name lent.entry.now)
-                × Went (L.gives launcher.entry.now) result.0.core result.0.stop (keeper_view (C.kept lent.entry.now) (C.path lent.entry.now) (C.faults lent.entry.now)) (keeper_view (C.kept result.1.now) (C.path result.1.now) (C.faults result.1.now)) × (result.1.ghost_name ≡ lent.entry.ghost_name) }
+                × EndsPaid core (C.count lent.entry.now) result.0.core result.0.stop
+                (C.count result.1.now)
+                × (C.keeper_name result.1.now ≡ C.keeper_name lent.entry.now)
+                × (C.steps_name result.1.now ≡ C.steps_name lent.entry.now)
+                × Went (L.gives launcher.entry.now) result.0.core result.0.stop
+                (keeper_view (C.kept lent.entry.now) (C.path lent.entry.now) (C.faults lent.entry.now))
+                (keeper_view (C.kept result.1.now) (C.path result.1.now) (C.faults result.1.now))
+                × (result.1.ghost_name ≡ lent.entry.ghost_name) }
         {
             let mut alone = true;
             for _ in 0..workers {
@@ -233,11 +240,13 @@ fn run_with<
     )
 }
 
-/// Runs a core that has just been made by so many workers, 1 to 64, with the rows of an earlier run in rising order, which are those
-/// of the keeper where it tells them, and where the answers of launches are kept.
+/// Runs a core that has just been made by so many workers, 1 to 64, with the rows of an earlier run
+/// in rising order, which are those of the keeper where it tells them, and where the answers of
+/// launches are kept.
 ///
-/// A job that has a usable row is settled by it, and every other one is put on the desk and launched. It returns once nothing is
-/// out and nothing more is to be taken, or, after a stop, once all that was out has come back.
+/// A job that has a usable row is settled by it, and every other one is put on the desk and
+/// launched. It returns once nothing is out and nothing more is to be taken, or, after a stop, once
+/// all that was out has come back.
 pub fn run_kept<
     'a,
     L: Launcher + Sync,

@@ -1,4 +1,18 @@
-ghost use Rattle.std.specs.Prelude.{◌≡◌, ◌<◌, ◌≤◌, ◌+◌, ◌++◌, ◌∷◌, [], ℕ, true, length, OnOk, MatchOption, MatchResult};
+ghost use Rattle.std.specs.Prelude.{
+  ◌≡◌,
+  ◌<◌,
+  ◌≤◌,
+  ◌+◌,
+  ◌++◌,
+  ◌∷◌,
+  [],
+  ℕ,
+  true,
+  length,
+  OnOk,
+  MatchOption,
+  MatchResult,
+};
 ghost use Rattle.work_desk.specs.Held.{held};
 ghost use Rattle.work_desk.specs.Views.{DeskView, IsDesk, out_of, Good, counts};
 
@@ -73,7 +87,12 @@ impl<P: Pact> DeskState<P> {
     /// Takes a job to run it. `None` where no job waits. It takes no memory.
     pub fn pick(&mut self) -> Option<Job>
         ensures { MatchOption result ((self.old.waiting ≡ []) × (self.new ≡ self.old))
-            (λ j. (self.old.waiting ≡ self.new.waiting ++ j ∷ []) × (self.new ≡ record self.old { waiting = self.new.waiting; running = self.old.running + 1; picked = self.old.picked + 1 })) }
+            (λ j. (self.old.waiting ≡ self.new.waiting ++ j ∷ [])
+            × (self.new ≡ record self.old {
+              waiting = self.new.waiting;
+              running = self.old.running + 1;
+              picked = self.old.picked + 1;
+            })) }
     {
         let job = self.waiting.pop()?;
         self.running += 1;
@@ -81,11 +100,17 @@ impl<P: Pact> DeskState<P> {
         Some(job)
     }
 
-    /// Lays down the end of a launch. It is handed back where no job is being run. It takes no memory.
+    /// Lays down the end of a launch. It is handed back where no job is being run. It takes no
+    /// memory.
     pub fn finish(&mut self, f: Finished) -> Result<(), Finished>
         requires { Good P.gives P.refuses f }
         ensures { MatchResult result
-            (λ _. (self.new.running + 1 ≡ self.old.running) × (self.new ≡ record self.old { answers = self.old.answers ++ f ∷ []; running = self.new.running; finished = self.old.finished + 1 }))
+            (λ _. (self.new.running + 1 ≡ self.old.running)
+            × (self.new ≡ record self.old {
+              answers = self.old.answers ++ f ∷ [];
+              running = self.new.running;
+              finished = self.old.finished + 1;
+            }))
             (λ g. (g ≡ f) × (self.old.running ≡ 0) × (self.new ≡ self.old)) }
     {
         if self.running == 0 {
@@ -100,7 +125,11 @@ impl<P: Pact> DeskState<P> {
     /// Takes the end of a launch from the desk. `None` where none waits. It takes no memory.
     pub fn collect(&mut self, shares: &mut Shares<P>) -> Option<Finished>
         ensures { MatchOption result ((self.old.answers ≡ []) × (self.new ≡ self.old) × (shares.new ≡ shares.old))
-            (λ f. Good P.gives P.refuses f × (self.old.answers ≡ self.new.answers ++ f ∷ []) × (self.new ≡ record self.old { answers = self.new.answers; collected = self.old.collected + 1 }) × (shares.new ≡ held shares.old.put (shares.old.collected + 1))) }
+            (λ f. Good P.gives P.refuses f × (self.old.answers ≡ self.new.answers ++ f ∷ [])
+            × (self.new ≡ record self.old {
+              answers = self.new.answers;
+              collected = self.old.collected + 1;
+            }) × (shares.new ≡ held shares.old.put (shares.old.collected + 1))) }
     {
         let f = self.answers.pop()?;
         self.collected_book.add(&mut shares.collected, 1);
@@ -131,7 +160,8 @@ impl<P: Pact> DeskState<P> {
         self.answers.is_empty()
     }
 
-    /// How many jobs wait or are being run, and how many ends of launches wait, together: at most the workers.
+    /// How many jobs wait or are being run, and how many ends of launches wait, together: at most
+    /// the workers.
     pub fn out(&self) -> u32
         ensures { result ≡ out_of self.now }
     {

@@ -45,7 +45,8 @@ fn mistake<R: Threads + Wait + Clock + Sync>(
     Ok(Some(format!(in alloc; "{lines}\nbut {}", seen.as_str())?))
 }
 
-/// The first of the cases, which empty lines part, whose call shows anything else than what stands behind `>`; with what it shows.
+/// The first of the cases, which empty lines part, whose call shows anything else than what stands
+/// behind `>`; with what it shows.
 pub fn first_mistake<R: Threads + Wait + Clock + Sync>(
     rt: &R,
     alloc: Global,

@@ -2,20 +2,24 @@
 //!
 //! A case is lines of a word and what follows it. These make files of the shelf:
 //!
-//! - `say SECTION` begins a text with the task `say` that has that section too, and `version TEXT` one with that text;
-//! - `text TEXT`, `line TEXT` with a newline, and `times NUMBER PIECE` append to the text, and `file PATH` puts it on the shelf;
-//! - `inputs TEXT` puts that text on the shelf as `i.json`; `lost NUMBER` lets the read of that number fail, and `unkept NUMBER`
-//!   the call of that number of the journal's keeper.
+//! - `say SECTION` begins a text with the task `say` that has that section too, and `version TEXT`
+//!   one with that text;
+//! - `text TEXT`, `line TEXT` with a newline, and `times NUMBER PIECE` append to the text, and
+//!   `file PATH` puts it on the shelf;
+//! - `inputs TEXT` puts that text on the shelf as `i.json`; `lost NUMBER` lets the read of that
+//!   number fail, and `unkept NUMBER` the call of that number of the journal's keeper.
 //!
 //! These make answers of the launcher:
 //!
 //! - `left NAME TEXT` is a file of the next answer;
-//! - `answer PLACE ATTEMPT STATUS OUT` is the answer of that status with that line as standard output; `letters PLACE NUMBER` has so
-//!   many letters there, `odd PLACE` a byte that is no text, and `long PLACE` more than is kept;
+//! - `answer PLACE ATTEMPT STATUS OUT` is the answer of that status with that line as standard
+//!   output; `letters PLACE NUMBER` has so many letters there, `odd PLACE` a byte that is no text,
+//!   and `long PLACE` more than is kept;
 //! - `refuse PLACE` refuses that place.
 //!
-//! `$ WORDS` are the words of the call, and `room OUT ERR` the bytes that the two sinks take. The sink of the notes takes nothing, so that
-//! each write there fails, or the bytes of `notes NUMBER`. What is to be seen stands behind `>`.
+//! `$ WORDS` are the words of the call, and `room OUT ERR` the bytes that the two sinks take. The
+//! sink of the notes takes nothing, so that each write there fails, or the bytes of `notes NUMBER`.
+//! What is to be seen stands behind `>`.
 #![tactic(auto)]
 
 mod answers;

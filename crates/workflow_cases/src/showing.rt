@@ -45,7 +45,8 @@ fn mark_of(source: Source) -> &'static str {
     }
 }
 
-/// Behind `=` where the answer was kept: the directory of each job, its command, and the files that were laid there.
+/// Behind `=` where the answer was kept: the directory of each job, its command, and the files that
+/// were laid there.
 fn push_entries(shown: &mut String, journal: &[Entry]) -> Result<(), Fail> {
     for entry in journal {
         shown.push_str(mark_of(entry.source))?;
@@ -84,8 +85,9 @@ fn push_notes(shown: &mut String, notes: &str) -> Result<(), Fail> {
     Ok(())
 }
 
-/// What is seen of a call: the number of its status and how many jobs it collected, the jobs that were taken and settled, what was
-/// written to the output, behind `!` what was written to the error stream, the requests of its journal, and its notes.
+/// What is seen of a call: the number of its status and how many jobs it collected, the jobs that
+/// were taken and settled, what was written to the output, behind `!` what was written to the error
+/// stream, the requests of its journal, and its notes.
 pub fn shown<R: Threads + Wait + Clock + Sync>(
     rt: &R,
     alloc: Global,

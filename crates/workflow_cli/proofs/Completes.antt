@@ -1,6 +1,7 @@
 -- Which status comes.
-use Rattle.std.proofs.Common.{arith, ◌≡◌, inl, inr, ◌⊎◌, ℕ, false, true, List, [], Option, Some, None, Result, Ok, Err, Contains, ap, sym, subst, ◌∙◌, refl}
+use Rattle.std.proofs.Common.{◌≡◌, inl, inr, ◌⊎◌, ℕ, false, true, List, [], Option, Some, None, Result, Ok, Err, Contains, ap, sym, subst, ◌∙◌, refl}
 use Rattle.std.proofs.lemmas.Bool.{false≢true}
+use Rattle.std.proofs.lemmas.Option.{same_Some}
 use Rattle.wdl_base.specs.declared.answer.Answer.{Answer}
 use Rattle.wdl_base.specs.declared.fault.Fault.{Fault}
 use Rattle.wdl_base.specs.declared.request.Request.{Request}
@@ -33,12 +34,7 @@ use Rattle.workflow_cli.proofs.Commands.{main_naming, named_inputs, naming, no_c
 use Rattle.workflow_cli.proofs.Forms.{one_form}
 use Rattle.workflow_cli.proofs.Outcomes.{Outcome}
 use Rattle.workflow_cli.proofs.Works.{for_main}
-
-none_within : {A : Type 0} (x : A) → Contains [] x → ⊥
-none_within x c = omega (arith, c.1)
-
-some_same : {A : Type 0} {x y : A} → Some x ≡ Some y → x ≡ y
-some_same e = cc
+use Rattle.step_net.proofs.Gets.{none_in as none_within}
 
 module _ (tells : Tells) (refused : List ℕ → Type 0) (rose : Type 0) (gives : Request → Answer → Type 0) (refuses : Request → Type 0) (words : Words) (t : Trace) where
   abbrev Said : Status → List (List ℕ) → Type 0
@@ -266,7 +262,7 @@ module _ (tells : Tells) (refused : List ℕ → Type 0) (rose : Type 0) (gives 
     must_be file c d must h =
         let m = must h.has.files h.has.told in
         let e = sym h.is_typed ∙ m.typed h.lib.docs h.lib.structs h.has.library in
-        one_form d c (some_same e)
+        one_form d c (same_Some _ _ e)
 
     not_refused : (file : List ℕ) (c : Checked) → MustHave tells file c → (code : ℕ) (span : Span) (paths : List (List ℕ)) → IsRefused tells file code span paths → ⊥
     not_refused file c must code span paths (inl h) = let m = must h.none.files h.none.told in h.none.none m.docs m.structs m.is_library

@@ -1,5 +1,6 @@
 -- A keeper that was started, whose rows were read, and over which a run then went.
 use Rattle.std.proofs.Common.{◌≡◌, ◌≤◌, ◌⊎◌, inl, inr, ℕ, List, [], Option, Some, None, Result, Ok, Err, Contains, is_some, arith, ap, sym, subst, ◌∙◌, refl}
+use Rattle.std.proofs.lemmas.Option.{same_Some}
 use Rattle.wdl_base.specs.declared.answer.Answer.{Answer}
 use Rattle.wdl_base.specs.declared.entry.Entry.{Entry}
 use Rattle.wdl_base.specs.declared.request.Request.{Request}
@@ -13,13 +14,10 @@ use Rattle.work_desk.specs.Keeping.{AreFrom, AreKept, AreLeft, KeeperView, RowsW
 use Rattle.work_desk.specs.declared.stop.Stop.{Stop}
 use Rattle.work_desk.specs.declared.stop.Stop.TheVariants as end
 use Rattle.workflow_cli.specs.Stages.{IsOpened, OpenStops, Opens}
-use Rattle.workflow_stages.proofs.Started.{rose_later}
+use Rattle.wdl_sources.proofs.TakeLemmas.{rose_later}
 
 no_entry : (e : Entry) → Contains [] e → ⊥
 no_entry e c = omega (arith, c.1)
-
-some_same : {A : Type 0} {x y : A} → Some x ≡ Some y → x ≡ y
-some_same e = cc
 
 from_self : (gives : Request → Answer → Type 0) (taken : List TakenJob) (rows : List Entry) → AreFrom gives taken rows rows
 unfolding AreFrom
@@ -47,7 +45,7 @@ module _ (gives : Request → Answer → Type 0) (c : CoreState) (why : Option S
     faults = omega arith;
     keep = λ h. let p = sym e ∙ h in cc;
     told = refl;
-    rows = λ before after b a. subst (RowsAre k before) (some_same (sym b ∙ a)) (same_rows none k before);
+    rows = λ before after b a. subst (RowsAre k before) (same_Some _ _ (sym b ∙ a)) (same_rows none k before);
   }
 
   module _ (path : List ℕ) (k m l : KeeperView) (rows : List Entry) (o : IsOpened path k m rows) where

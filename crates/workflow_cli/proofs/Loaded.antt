@@ -17,7 +17,7 @@ use Rattle.wdl_load.specs.Loads.{AreLoadRows}
 use Rattle.ready_core.specs.Cores.{CoreState}
 use Rattle.work_desk.specs.declared.stop.Stop.{Stop as Why}
 use Rattle.work_desk.specs.declared.stop.Stop.TheVariants as end
-use Rattle.workflow_stages.specs.declared.ended.Stop.{Stop}
+use Rattle.workflow_stages.specs.declared.ended.CommandStop.{CommandStop}
 use Rattle.workflow_stages.specs.declared.ended.Work.{Work}
 use Rattle.workflow_stages.specs.declared.ended.Work.TheVariants as work
 use Rattle.workflow_stages.specs.declared.prepare.Prepared.{Prepared}
@@ -54,7 +54,7 @@ named_no_load words file (inr h) = main_no_load words file h.0 h.1
 
 -- ---- its stages
 
-pub starts : (n : ℕ) (files : List PathFile) (fails : List ℕ) (file : List ℕ) (before now : ℕ) (r : Result Prepared Stop)
+pub starts : (n : ℕ) (files : List PathFile) (fails : List ℕ) (file : List ℕ) (before now : ℕ) (r : Result Prepared CommandStop)
     → files ≡ load_files n → fails ≡ [] → file ≡ load_file
     → Prepares (λ p. bytes_at files p) (λ p. CanFail files fails p) (Rose before now) file None r → Starts n r
 starts n files fails file before now r e f g h =
@@ -63,11 +63,11 @@ starts n files fails file before now r e f g h =
     (before, now, subst (λ x. Prepares (load_tells n) (load_refused n) (Rose before now) x None r) g b)
 
 -- the inputs of a checked form that was found fit its main workflow
-pub fits_start : (n : ℕ) (r : Result Prepared Stop) → Starts n r → IfOk r (λ p. (f : FlowDef) × IsFitting p.checked p.given f)
+pub fits_start : (n : ℕ) (r : Result Prepared CommandStop) → Starts n r → IfOk r (λ p. (f : FlowDef) × IsFitting p.checked p.given f)
 fits_start n (Ok p) h = let g = h.2.0.fits in (g.flow, record { main = g.main; fit = g.fit })
 fits_start n (Err st) h = tt
 
-pub starved_start : (n : ℕ) (st : Stop) → st.status ≡ status.NoMemory → Starts n (Err st)
+pub starved_start : (n : ℕ) (st : CommandStop) → st.status ≡ status.NoMemory → Starts n (Err st)
 starved_start n st e = (0, 0, subst (λ s. PrepareStops (load_tells n) (load_refused n) (Rose 0 0) load_file None s st.paths) (sym e) tt)
 
 module _ (n : ℕ) (t : Trace) where
@@ -80,7 +80,7 @@ module _ (n : ℕ) (t : Trace) where
       inr (rows, of, subst (λ x. RunsMain (table_gives rows) (table_refuses rows) t (main_with c given x f) w) same a)
 
   -- words that ask for nothing, or for a load that wants memory
-  pub asks_loads : (words : Words) → IsLoadOf words n → IsIdle t → (s : Status) (st : Stop) → st.status ≡ s → AskStops words s → LoadsAs n t (work.Stop st)
+  pub asks_loads : (words : Words) → IsLoadOf words n → IsIdle t → (s : Status) (st : CommandStop) → st.status ≡ s → AskStops words s → LoadsAs n t (work.Stop st)
   asks_loads words asked idle status.NoMemory st e h =
       inl (0, 0, record { idle = idle; stop = st; is = refl; cause = subst (λ s. PrepareStops (load_tells n) (load_refused n) (Rose 0 0) load_file None s st.paths) (sym e) tt })
   asks_loads words asked idle status.Usage st e h = absurd (readable words (command.Load n) asked h)
@@ -100,7 +100,7 @@ module _ (n : ℕ) (t : Trace) where
   text_same : (a b : List ℕ) → work.Text a ≡ work.Text b → a ≡ b
   text_same a b e = cc
 
-  no_stop : (a : List ℕ) (st : Stop) → work.Text a ≡ work.Stop st → ⊥
+  no_stop : (a : List ℕ) (st : CommandStop) → work.Text a ≡ work.Stop st → ⊥
   no_stop a st e = cc
 
   no_stops : (a : List ℕ) (s : Status) → work.Text a ≡ stops s → ⊥
@@ -169,7 +169,7 @@ module _ (n : ℕ) (t : Trace) where
   stopped_not_ok c end.Keep s e h = not_ok s status.Keep h e refl
   stopped_not_ok c end.TooMany s e h = not_ok s status.TooMany h e refl
 
-  module _ (st : Stop) (o : st.status ≡ status.Ok) where
+  module _ (st : CommandStop) (o : st.status ≡ status.Ok) where
     is_stops : (s : Status) → work.Stop st ≡ stops s → s ≡ status.Ok
     is_stops s e = sym (ap status_of e) ∙ o
 
@@ -196,7 +196,7 @@ module _ (n : ℕ) (t : Trace) where
   -- ---- with Ok
 
   module _ (out out' err err' : Told) (rose_out rose_err : Type 0) (r : Status) (ok : r ≡ status.Ok) where
-    not_reported : (st : Stop) → LoadsAs n t (work.Stop st) → Reports st.status st.paths err err' rose_err r → ⊥
+    not_reported : (st : CommandStop) → LoadsAs n t (work.Stop st) → Reports st.status st.paths err err' rose_err r → ⊥
     not_reported st h (inl (inl x)) = never_ok st (sym x.0 ∙ ok) h
     not_reported st h (inl (inr x)) = not_ok r status.Write x.0 ok refl
     not_reported st h (inr (inl x)) = not_ok r status.NoMemory x.0 ok refl

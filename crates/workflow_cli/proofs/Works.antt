@@ -4,7 +4,7 @@ use Rattle.wdl_base.specs.declared.answer.Answer.{Answer}
 use Rattle.wdl_base.specs.declared.request.Request.{Request}
 use Rattle.report_text.specs.declared.status.Status.{Status}
 use Rattle.report_text.specs.declared.status.Status.TheVariants as status
-use Rattle.workflow_stages.specs.declared.ended.Stop.{Stop}
+use Rattle.workflow_stages.specs.declared.ended.CommandStop.{CommandStop}
 use Rattle.workflow_stages.specs.declared.ended.Work.{Work}
 use Rattle.workflow_stages.specs.declared.ended.Work.TheVariants as work
 use Rattle.workflow_stages.specs.Documents.{CheckStops, MainStops, Tells}
@@ -51,7 +51,7 @@ module _ (tells : Tells) (refused : List ℕ → Type 0) (rose : Type 0) (gives 
   asked_stops idle status.TooMany paths h = absurd h
 
   -- the words ask for nothing that is done
-  pub asks_is_work : IsIdle t → (s : Status) (stop : Stop) → stop.status ≡ s → AskStops words s → IsWork tells refused rose gives refuses words t (work.Stop stop)
+  pub asks_is_work : IsIdle t → (s : Status) (stop : CommandStop) → stop.status ≡ s → AskStops words s → IsWork tells refused rose gives refuses words t (work.Stop stop)
   asks_is_work idle s stop e h = record { run = inl idle; cause = asked_stops idle stop.status stop.paths (subst (AskStops words) (sym e) h) }
 
   check_stops : IsIdle t → (file : List ℕ) → Names words file → (s : Status) (paths : List (List ℕ)) → CheckStops tells file refused rose s paths → Said s paths

@@ -16,7 +16,7 @@ use Rattle.wdl_load.specs.Loads.{AreLoadRows, load_text}
 use Rattle.wdl_json.specs.Inputs.{inputs_in, main_of}
 use Rattle.ready_core.specs.Cores.{cost_at}
 use Rattle.ready_core.specs.Flows.{outputs_in}
-use Rattle.workflow_stages.specs.declared.ended.Stop.{Stop}
+use Rattle.workflow_stages.specs.declared.ended.CommandStop.{CommandStop}
 use Rattle.workflow_stages.specs.declared.ended.Work.{Work}
 use Rattle.workflow_stages.specs.declared.prepare.Prepared.{Prepared}
 use Rattle.workflow_stages.specs.Alone.{alone, alone_refused, only_file}
@@ -58,7 +58,7 @@ load_options n = record { workers = 4; root = codes "/tmp/wdl-run"; journal = No
 -- ---- stages
 
 -- the checked form of the document, or why there is none
-abbrev pub Starts : ℕ → Result Prepared Stop → Type 0
+abbrev pub Starts : ℕ → Result Prepared CommandStop → Type 0
 Starts n r = (before : ℕ) × (now : ℕ) × Prepares (load_tells n) (load_refused n) (Rose before now) load_file None r
 
 -- the run of its main workflow, by the rows of its calls

@@ -18,7 +18,7 @@ use Rattle.ready_core.specs.Cores.{CoreState}
 use Rattle.work_desk.specs.Keeping.{KeeperView}
 use Rattle.work_desk.specs.declared.stop.Stop.{Stop as Why}
 use Rattle.work_desk.specs.declared.stop.Stop.TheVariants as end
-use Rattle.workflow_stages.specs.declared.ended.Stop.{Stop}
+use Rattle.workflow_stages.specs.declared.ended.CommandStop.{CommandStop}
 use Rattle.workflow_stages.specs.declared.ended.Work.{Work}
 use Rattle.workflow_stages.specs.declared.ended.Work.TheVariants as work
 use Rattle.workflow_stages.specs.Documents.{CheckStops, HasChecked, Tells}
@@ -111,7 +111,7 @@ main_with c given options flow = record { checked = c; flow = flow; given = give
 -- the run ended before it began
 pub record HasStopped (tells : Tells) (refused : List ℕ → Type 0) (rose : Type 0) (file : List ℕ) (inputs : Option (List ℕ)) (t : Trace) (w : Work) : Type 0 where
   pub idle : IsIdle t
-  pub stop : Stop
+  pub stop : CommandStop
   pub is : w ≡ work.Stop stop
   pub cause : PrepareStops tells refused rose file inputs stop.status stop.paths
 

@@ -55,7 +55,8 @@ pub enum Command {
     Check {
         file: Text,
     },
-    /// Translates the main workflow of a document to CWL, or the inputs of a run of it where they are named.
+    /// Translates the main workflow of a document to CWL, or the inputs of a run of it where they
+    /// are named.
     Cwl {
         /// The document's path.
         file: Text,

@@ -6,8 +6,8 @@ use std::fs::{File, Files};
 use std::io::Read;
 use wdl_port::{ReadFault, Shelf, read_limit};
 
-/// The files of the system. It tells nothing of their content, may refuse each of them, and counts each error other than
-/// want of memory. A file is read up to 1,048,577 bytes.
+/// The files of the system. It tells nothing of their content, may refuse each of them, and counts
+/// each error other than want of memory. A file is read up to 1,048,577 bytes.
 #[derive(Drop)]
 pub struct FileShelf<R> {
     rt: R,

@@ -6,7 +6,7 @@ ghost use Rattle.workflow_cli.specs.Writing.{TellsLine, Reports, Finishes};
 use report_text::{Status, line_of, no_memory_line, write_line};
 use std::alloc::Global;
 use wdl_port::Sink;
-use workflow_stages::{Stop, Work, write_all};
+use workflow_stages::{CommandStop, Work, write_all};
 
 /// Writes the line of a status.
 fn tell_line<E: Sink>(status: Status, text: &str, err: &mut E) -> Status
@@ -19,11 +19,11 @@ fn tell_line<E: Sink>(status: Status, text: &str, err: &mut E) -> Status
 }
 
 /// Makes the line of a status and writes it.
-fn tell<E: Sink>(alloc: Global, stop: Stop, err: &mut E) -> Status
+fn tell<E: Sink>(alloc: Global, stop: CommandStop, err: &mut E) -> Status
     requires paths { HasPath stop.status stop.paths }
     ensures value { Reports stop.status stop.paths (E.told err.old) (E.told err.new) (Rose (E.faults err.old) (E.faults err.new)) result }
 {
-    let Stop {
+    let CommandStop {
         status,
         paths,
         note: _,
@@ -38,7 +38,8 @@ fn tell<E: Sink>(alloc: Global, stop: Stop, err: &mut E) -> Status
 pub fn finish<O: Sink, E: Sink>(alloc: Global, work: Work, out: &mut O, err: &mut E) -> Status
     requires paths { HasPaths work }
     ensures value { Finishes work (O.told out.old) (O.told out.new) (E.told err.old) (E.told err.new)
-        (Rose (O.faults out.old) (O.faults out.new)) (Rose (E.faults err.old) (E.faults err.new)) result }
+        (Rose (O.faults out.old) (O.faults out.new)) (Rose (E.faults err.old) (E.faults err.new))
+        result }
 {
     match work {
         Work::Text(text) => match write_all(out, text.as_str().as_bytes()) {

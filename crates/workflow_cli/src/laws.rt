@@ -1,6 +1,14 @@
 //! What the documents mean that are written: laws of the definitions, which say nothing of code.
 
-ghost use Rattle.workflow_cli.specs.Meaning.{BundlesAgree, DocumentsMean, DocumentsRead, FormsMean, ObjectsMean, ObjectsRead, PlainDocumentsMean};
+ghost use Rattle.workflow_cli.specs.Meaning.{
+  BundlesAgree,
+  DocumentsMean,
+  DocumentsRead,
+  FormsMean,
+  ObjectsMean,
+  ObjectsRead,
+  PlainDocumentsMean,
+};
 
 /// The CWL document that `cwl` writes is the text of a JSON value that reads as the process of the
 /// main workflow without aliases and struct inputs, and a newline; where struct inputs were

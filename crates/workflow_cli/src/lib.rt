@@ -1,4 +1,5 @@
-//! All that the program does, from the words of its command line to what it writes, and the real files and streams.
+//! All that the program does, from the words of its command line to what it writes, and the real
+//! files and streams.
 #![tactic(auto)]
 
 mod asking;

@@ -24,7 +24,7 @@ use std::time::Clock;
 use wdl_load::{load_table, load_text};
 use wdl_port::{MemoryShelf, MemorySink, TableLauncher};
 use wdl_value::{Items, NoMemory, Steps, Text};
-use workflow_stages::{Prepared, RecallingShelf, Stop, Work, shelf_of, start_of, stop_of};
+use workflow_stages::{CommandStop, Prepared, RecallingShelf, Work, shelf_of, start_of, stop_of};
 
 /// The path of the document on its shelf.
 const FILE: &str = "load.wdl";
@@ -56,7 +56,7 @@ fn source_of(alloc: Global, number: u32) -> Result<Source, NoMemory>
 }
 
 /// The checked form of the document of a load.
-fn load_start(alloc: Global, number: u32) -> Result<Prepared, Stop>
+fn load_start(alloc: Global, number: u32) -> Result<Prepared, CommandStop>
     requires number { (1 ≤ number) × (number ≤ 10000) }
     ensures outcome { spec.Starts number result }
     ensures fitting { IfOk result (λ p. (f : Flow) × IsFitting p.checked p.given f) }
@@ -113,7 +113,8 @@ fn run_load<R: Threads + Wait + Clock + Sync, S: Ledger>(
     requires number { (1 ≤ number) × (number ≤ 10000) }
     requires fitting { (f : Flow) × IsFitting prepared.checked prepared.given f }
     ensures value { (f : Flow) → IsFitting prepared.checked prepared.given f → (k : KeeperView)
-        → spec.RunsLoad number (work_trace result steps.old steps.new k k) (main_with prepared.checked prepared.given (spec.load_options number) f) result.work }
+        → spec.RunsLoad number (work_trace result steps.old steps.new k k)
+        (main_with prepared.checked prepared.given (spec.load_options number) f) result.work }
     ensures paths { HasPaths result.work }
 {
     let Ok(

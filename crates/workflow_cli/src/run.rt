@@ -1,6 +1,19 @@
 //! The run of the main workflow.
 
-ghost use Rattle.std.specs.Prelude.{◌≡◌, ◌≤◌, ◌⊎◌, ◌++◌, true, ℕ, List, [], codes, None, Some, IfOk};
+ghost use Rattle.std.specs.Prelude.{
+  ◌≡◌,
+  ◌≤◌,
+  ◌⊎◌,
+  ◌++◌,
+  true,
+  ℕ,
+  List,
+  [],
+  codes,
+  None,
+  Some,
+  IfOk,
+};
 ghost use Rattle.report_text.specs.Lines.{HasPath};
 ghost use Rattle.ready_core.specs.Cores.{IsPaidFor, flow_of, has_fault};
 ghost use Rattle.ready_core.specs.Flows.{outputs_in};
@@ -16,7 +29,17 @@ ghost use Rattle.workflow_stages.specs.Counting.{WorkCounts};
 ghost use Rattle.workflow_stages.specs.Paths.{HasPaths};
 ghost use Rattle.workflow_cli.specs.Reporting.{report_line};
 ghost use Rattle.workflow_cli.specs.Running.{NamesJournal, work_trace};
-ghost use Rattle.workflow_cli.specs.Stages.{IsBegun, IsFailedAs, IsFitting, IsOpened, RunsFile, RunsMain, StopsAs, Turns, main_with};
+ghost use Rattle.workflow_cli.specs.Stages.{
+  IsBegun,
+  IsFailedAs,
+  IsFitting,
+  IsOpened,
+  RunsFile,
+  RunsMain,
+  StopsAs,
+  Turns,
+  main_with,
+};
 
 use crate::asking::{Report, RunOptions};
 use crate::ended::Worked;
@@ -213,7 +236,8 @@ pub fn run_plain<L: Launcher + Sync, N: Sink, R: Threads + Wait + Clock + Sync, 
     requires workers { (1 ≤ options.now.workers) × (options.now.workers ≤ 64) }
     requires none { options.now.journal ≡ None }
     ensures value { (f : Flow) → IsFitting prepared.checked prepared.given f → (k : KeeperView)
-        → RunsMain (L.gives launcher.now) (L.refuses launcher.now) (work_trace result steps.old steps.new k k)
+        → RunsMain (L.gives launcher.now) (L.refuses launcher.now)
+        (work_trace result steps.old steps.new k k)
         (main_with prepared.checked prepared.given options.now f) result.work }
     ensures paths { HasPaths result.work }
 {
@@ -255,8 +279,11 @@ fn run_over<L: Launcher + Sync, K: Keeper, N: Sink, R: Threads + Wait + Clock + 
     requires rise { rises rows ≡ true }
     requires kept { are_kept rows ≡ true }
     ensures value { (f : Flow) → IsFitting prepared.checked prepared.given f → (path : List ℕ) (k : KeeperView)
-        → options.now.journal ≡ Some path → IsOpened path k (keeper_view (K.kept keeper.old) (K.path keeper.old) (K.faults keeper.old)) rows
-        → RunsMain (L.gives launcher.now) (L.refuses launcher.now) (work_trace result steps.old steps.new k (keeper_view (K.kept keeper.new) (K.path keeper.new) (K.faults keeper.new)))
+        → options.now.journal ≡ Some path → IsOpened path k
+        (keeper_view (K.kept keeper.old) (K.path keeper.old) (K.faults keeper.old)) rows
+        → RunsMain (L.gives launcher.now) (L.refuses launcher.now)
+        (work_trace result steps.old steps.new k
+        (keeper_view (K.kept keeper.new) (K.path keeper.new) (K.faults keeper.new)))
         (main_with prepared.checked prepared.given options.now f) result.work }
     ensures paths { HasPaths result.work }
     ensures path { K.path keeper.new ≡ K.path keeper.old }
@@ -296,7 +323,10 @@ fn run_main<L: Launcher + Sync, K: Keeper, N: Sink, R: Threads + Wait + Clock + 
     requires workers { (1 ≤ options.now.workers) × (options.now.workers ≤ 64) }
     requires fresh { K.path keeper.old ≡ None }
     ensures value { (f : Flow) → IsFitting prepared.checked prepared.given f
-        → RunsMain (L.gives launcher.now) (L.refuses launcher.now) (work_trace result steps.old steps.new (keeper_view (K.kept keeper.old) (K.path keeper.old) (K.faults keeper.old)) (keeper_view (K.kept keeper.new) (K.path keeper.new) (K.faults keeper.new)))
+        → RunsMain (L.gives launcher.now) (L.refuses launcher.now)
+        (work_trace result steps.old steps.new
+        (keeper_view (K.kept keeper.old) (K.path keeper.old) (K.faults keeper.old))
+        (keeper_view (K.kept keeper.new) (K.path keeper.new) (K.faults keeper.new)))
         (main_with prepared.checked prepared.given options.now f) result.work }
     ensures paths { HasPaths result.work }
     ensures keeper { (keeper.new ≡ keeper.old) ⊎ NamesJournal options.now.journal (K.path keeper.new) }
@@ -337,7 +367,9 @@ pub fn run<
     requires fresh { K.path keeper.old ≡ None }
     ensures value { RunsFile (F.tells shelf.old) (F.refuses shelf.old) (Rose (F.faults shelf.old) (F.faults shelf.new))
         (L.gives launcher.now) (L.refuses launcher.now) file.now inputs.now options.now
-        (work_trace result steps.old steps.new (keeper_view (K.kept keeper.old) (K.path keeper.old) (K.faults keeper.old)) (keeper_view (K.kept keeper.new) (K.path keeper.new) (K.faults keeper.new))) result.work }
+        (work_trace result steps.old steps.new
+        (keeper_view (K.kept keeper.old) (K.path keeper.old) (K.faults keeper.old))
+        (keeper_view (K.kept keeper.new) (K.path keeper.new) (K.faults keeper.new))) result.work }
     ensures counted { WorkCounts result.work (F.faults shelf.old) (F.faults shelf.new) }
     ensures paths { HasPaths result.work }
     ensures keeper { (keeper.new ≡ keeper.old) ⊎ NamesJournal options.now.journal (K.path keeper.new) }

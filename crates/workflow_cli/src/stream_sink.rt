@@ -3,7 +3,8 @@ ghost use Rattle.std.specs.Prelude.{◌≡◌, None};
 use std::io::Write;
 use wdl_port::{Sink, WriteFault};
 
-/// A stream. It tells nothing of what it holds, and counts each error: of the stream, and that it took nothing.
+/// A stream. It tells nothing of what it holds, and counts each error: of the stream, and that it
+/// took nothing.
 #[derive(Drop)]
 pub struct StreamSink<W> {
     writer: W,

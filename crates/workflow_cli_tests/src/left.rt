@@ -1,7 +1,8 @@
 use report_text::number_of;
 use workflow_cases::Outcome;
 
-/// The status of a run, how many jobs it launched, and how many entries it left in its journal and rows in its keeper.
+/// The status of a run, how many jobs it launched, and how many entries it left in its journal and
+/// rows in its keeper.
 pub fn ends(outcome: &Outcome) -> (u8, u64, usize, usize) {
     let ended = &outcome.ended;
     let launched = ended.counts.put;

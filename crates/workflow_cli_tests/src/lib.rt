@@ -1,5 +1,6 @@
-//! Tests of the top call, in a crate of their own: the gate proves a crate once more for the tests in it. They are one crate, since each
-//! crate of tests above the top call is linked and compiled with the whole program.
+//! Tests of the top call, in a crate of their own: the gate proves a crate once more for the tests
+//! in it. They are one crate, since each crate of tests above the top call is linked and compiled
+//! with the whole program.
 #![tactic(auto)]
 
 #[cfg(test)]
@@ -26,6 +27,8 @@ mod loads;
 mod notes;
 #[cfg(test)]
 mod progress;
+#[cfg(test)]
+mod records;
 #[cfg(test)]
 mod refusals;
 #[cfg(test)]

@@ -60,7 +60,8 @@ fn a_keeper_that_fails_has_status_10(rt: HostRuntime) -> Result<(), Fail> {
     Ok(())
 }
 
-/// How many jobs a run launches up to the job of this place, which is refused and has status 9; nothing where it leaves anything else.
+/// How many jobs a run launches up to the job of this place, which is refused and has status 9;
+/// nothing where it leaves anything else.
 fn launches_to<R: Threads + Wait + Clock + Sync + AllocGlobal>(
     rt: &R,
     place: &str,

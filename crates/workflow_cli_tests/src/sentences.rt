@@ -1,5 +1,5 @@
-//! What a person is told of each fault of a document. A row is a document with the fault between `«` and `»`, which are no part of the
-//! document, the code with its word, and the sentence.
+//! What a person is told of each fault of a document. A row is a document with the fault between
+//! `«` and `»`, which are no part of the document, the code with its word, and the sentence.
 
 use std::alloc::Global;
 use std::sync::Wait;
@@ -69,7 +69,8 @@ const TEXTS: &str = "\
 
 const VERSION: &str = "version 1.1\n";
 
-/// Faults of scope and types. A struct, a task and the beginning of a workflow stand before each document.
+/// Faults of scope and types. A struct, a task and the beginning of a workflow stand before each
+/// document.
 const CHECKS: &str = "\
     Int k = «y» | 301 UnknownName | the name `y` is not known here\n\
     call count { input: words = [\"a\"] } Int k = «count.nn» | 301 UnknownName \
@@ -202,8 +203,8 @@ fn seen<R: Threads + Wait + Clock + Sync + AllocGlobal>(
     shown(rt, alloc, case)
 }
 
-/// The first of the rows whose check is told otherwise, and what is seen of it. The front stands before each document, and ends with a
-/// newline.
+/// The first of the rows whose check is told otherwise, and what is seen of it. The front stands
+/// before each document, and ends with a newline.
 fn first_wrong<R: Threads + Wait + Clock + Sync + AllocGlobal>(
     rt: &R,
     front: &str,

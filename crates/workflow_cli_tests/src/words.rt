@@ -11,7 +11,8 @@ const UNREADABLE: &str = "\
     run --help w.wdl|cwl|cwl --inputs w.wdl|cwl --root /a w.wdl|load 0|load 10001|\
     bundle|bundle w.wdl w.wdl|run --root /a --root /b w.wdl";
 
-/// What is wrong with the first of these words, between bars, of which the call shows anything else.
+/// What is wrong with the first of these words, between bars, of which the call shows anything
+/// else.
 fn first_wrong<R: Threads + Wait + Clock + Sync + AllocGlobal>(
     rt: &R,
     all: &str,

@@ -6,7 +6,7 @@ use Rattle.wdl_library.specs.declared.library.Library.{Library}
 use Rattle.wdl_typed.specs.declared.checked.Checked.{Checked}
 use Rattle.wdl_imports.specs.Libraries.{HasLibrary}
 use Rattle.workflow_stages.specs.declared.checking.Located.{Located}
-use Rattle.workflow_stages.specs.declared.ended.Stop.{Stop}
+use Rattle.workflow_stages.specs.declared.ended.CommandStop.{CommandStop}
 use Rattle.workflow_stages.specs.Documents.{Checks, CheckStops, HasLocated, HasMain, HasMainIn, LocatesMain, LocatesMainIn, MainInStops, MainStops, Tells, Types, TypeStops}
 use Rattle.workflow_stages.proofs.Started.{has_number}
 
@@ -25,7 +25,7 @@ module _ (tells : Tells) (root : List ℕ) (refused : List ℕ → Type 0) (rose
   stops status.Keep paths t = absurd t
   stops status.TooMany paths t = absurd t
 
-  pub checks : (r : Result Checked Stop) → Types lib r → Checks tells root refused rose r
+  pub checks : (r : Result Checked CommandStop) → Types lib r → Checks tells root refused rose r
   checks (Ok c) t = record { lib = lib; has = h; is_typed = t }
   checks (Err stop) t = stops stop.status stop.paths t
 
@@ -62,6 +62,6 @@ module _ (tells : Tells) (root : List ℕ) (refused : List ℕ → Type 0) (rose
     abbrev pub has_main : HasMain tells root c number_of.0 t.flow paths
     has_main = record { located = located; numbered = number_of.1; main = t.main }
 
-  pub mains : (r : Result Located Stop) → LocatesMainIn lib root r → LocatesMain tells root refused rose r
+  pub mains : (r : Result Located CommandStop) → LocatesMainIn lib root r → LocatesMain tells root refused rose r
   mains (Ok l) t = ((number_of l.checked l.paths t).0, t.flow, has_main l.checked l.paths t)
   mains (Err stop) t = main_stops stop.status stop.paths t

@@ -1,10 +1,9 @@
 -- What a run starts with, over two calls of the shelf.
-use Rattle.std.proofs.Common.{◌≡◌, ◌≤◌, inl, inr, ℕ, List, Option, Some, None, Ok, IsSome, Bor, is_some, option_copied, arith, sym, subst, refl, true, false}
+use Rattle.std.proofs.Common.{◌≡◌, inl, inr, ℕ, List, Option, Some, None, Ok, IsSome, Bor, is_some, option_copied, sym, subst, refl, true, false}
 use Rattle.std.proofs.lemmas.Bool.{false≢true}
 use Rattle.wdl_value.specs.declared.env.Bind.{Bind}
 use Rattle.report_text.specs.declared.status.Status.{Status}
 use Rattle.report_text.specs.declared.status.Status.TheVariants as status
-use Rattle.wdl_port.specs.Causes.{Rose}
 use Rattle.wdl_port.specs.Files.{IsFile}
 use Rattle.wdl_library.specs.declared.library.Library.{Library}
 use Rattle.wdl_typed.specs.declared.checked.Checked.{Checked}
@@ -21,9 +20,6 @@ is_nothing (Some f) m e n = absurd (false≢true (sym n))
 pub is_something : (o : Option (Bor FlowDef)) (m : Option FlowDef) → option_copied o ≡ m → is_some o ≡ true → (f : FlowDef) × (m ≡ Some f)
 is_something None m e n = absurd (false≢true n)
 is_something (Some f) m e n = (f.now, sym e)
-
-pub rose_later : (a b c : ℕ) → a ≤ b → Rose b c → Rose a c
-rose_later a b c h r = grind (arith, h, r)
 
 -- the main workflow has a number
 pub has_number : (flows : List FlowDef) (main : Option ℕ) (f : FlowDef) → main_of flows main ≡ Some f → (k : ℕ) × (main ≡ Some k)

@@ -2,7 +2,7 @@
 use Rattle.std.specs.Prelude.{◌≡◌, ℕ, Bool, true, false, Result, Ok, Err}
 use Rattle.report_text.specs.declared.status.Status.{Status}
 use Rattle.report_text.specs.declared.status.Status.TheVariants as status
-use Rattle.workflow_stages.specs.declared.ended.Stop.{Stop}
+use Rattle.workflow_stages.specs.declared.ended.CommandStop.{CommandStop}
 use Rattle.workflow_stages.specs.declared.ended.Work.{Work}
 use Rattle.workflow_stages.specs.declared.ended.Work.TheVariants as work
 
@@ -23,7 +23,7 @@ ReadCounts (Ok a) before now = now ≡ before
 ReadCounts (Err s) before now = StatusCounts s before now
 
 -- of a stage that answers a stop
-abbrev pub StopCounts : {A : Type 0} → Result A Stop → ℕ → ℕ → Type 0
+abbrev pub StopCounts : {A : Type 0} → Result A CommandStop → ℕ → ℕ → Type 0
 StopCounts (Ok a) before now = now ≡ before
 StopCounts (Err stop) before now = StatusCounts stop.status before now
 

@@ -14,7 +14,7 @@ use Rattle.wdl_check_rules.specs.declared.fault.CheckFault.TheVariants.{Bad}
 use Rattle.wdl_json.specs.Inputs.{main_of}
 use Rattle.wdl_typed.specs.declared.flow.FlowDef.{FlowDef}
 use Rattle.workflow_stages.specs.declared.checking.Located.{Located}
-use Rattle.workflow_stages.specs.declared.ended.Stop.{Stop}
+use Rattle.workflow_stages.specs.declared.ended.CommandStop.{CommandStop}
 
 -- what a shelf tells of its files
 abbrev pub Tells : Type 0
@@ -87,7 +87,7 @@ module _ (tells : Tells) (root : List ℕ) where
   GatherStops refused rose status.NoMemory paths = ⊤
   GatherStops refused rose s paths = ⊥
 
-  abbrev pub Gathers : (List ℕ → Type 0) → Type 0 → Result Library Stop → Type 0
+  abbrev pub Gathers : (List ℕ → Type 0) → Type 0 → Result Library CommandStop → Type 0
   Gathers refused rose (Ok lib) = HasLibrary tells root lib
   Gathers refused rose (Err stop) = GatherStops refused rose stop.status stop.paths
 
@@ -97,7 +97,7 @@ module _ (tells : Tells) (root : List ℕ) where
   CheckStops refused rose status.NoMemory paths = ⊤
   CheckStops refused rose s paths = ⊥
 
-  abbrev pub Checks : (List ℕ → Type 0) → Type 0 → Result Checked Stop → Type 0
+  abbrev pub Checks : (List ℕ → Type 0) → Type 0 → Result Checked CommandStop → Type 0
   Checks refused rose (Ok c) = HasChecked c
   Checks refused rose (Err stop) = CheckStops refused rose stop.status stop.paths
 
@@ -107,7 +107,7 @@ module _ (tells : Tells) (root : List ℕ) where
   MainStops refused rose status.NoMemory paths = ⊤
   MainStops refused rose s paths = ⊥
 
-  abbrev pub LocatesMain : (List ℕ → Type 0) → Type 0 → Result Located Stop → Type 0
+  abbrev pub LocatesMain : (List ℕ → Type 0) → Type 0 → Result Located CommandStop → Type 0
   LocatesMain refused rose (Ok l) = (number : ℕ) × (f : FlowDef) × HasMain l.checked number f l.paths
   LocatesMain refused rose (Err stop) = MainStops refused rose stop.status stop.paths
 
@@ -127,11 +127,11 @@ TypeStops lib (status.Document code span) paths = Rules lib (Err (Bad code span)
 TypeStops lib status.NoMemory paths = ⊤
 TypeStops lib s paths = ⊥
 
-abbrev pub Types : Library → Result Checked Stop → Type 0
+abbrev pub Types : Library → Result Checked CommandStop → Type 0
 Types lib (Ok c) = Rules lib (Ok c)
 Types lib (Err stop) = TypeStops lib stop.status stop.paths
 
-abbrev pub LocatesIn : Library → Result Located Stop → Type 0
+abbrev pub LocatesIn : Library → Result Located CommandStop → Type 0
 LocatesIn lib (Ok l) = Rules lib (Ok l.checked) × (l.paths ≡ paths_of lib)
 LocatesIn lib (Err stop) = TypeStops lib stop.status stop.paths
 
@@ -147,7 +147,7 @@ pub record HasMainIn (lib : Library) (c : Checked) (paths : List (List ℕ)) : T
   pub flow : FlowDef
   pub main : main_of c.flows c.main ≡ Some flow
 
-abbrev pub LocatesMainIn : Library → List ℕ → Result Located Stop → Type 0
+abbrev pub LocatesMainIn : Library → List ℕ → Result Located CommandStop → Type 0
 LocatesMainIn lib root (Ok l) = HasMainIn lib l.checked l.paths
 LocatesMainIn lib root (Err stop) = MainInStops lib root stop.status stop.paths
 

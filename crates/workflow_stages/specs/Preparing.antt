@@ -9,7 +9,7 @@ use Rattle.wdl_typed.specs.declared.flow.FlowDef.{FlowDef}
 use Rattle.wdl_typed.specs.Journal.{inputs_fit}
 use Rattle.wdl_json.specs.Inputs.{inputs_in, main_of}
 use Rattle.wdl_json.specs.declared.fault.InputFault.TheVariants.{Bad}
-use Rattle.workflow_stages.specs.declared.ended.Stop.{Stop}
+use Rattle.workflow_stages.specs.declared.ended.CommandStop.{CommandStop}
 use Rattle.workflow_stages.specs.declared.prepare.Prepared.{Prepared}
 use Rattle.workflow_stages.specs.Documents.{HasChecked, HasMain, HasNoMain, IsRefused, IsUnreadDocument, Tells}
 
@@ -103,7 +103,7 @@ pub record IsPrepared (tells : Tells) (file : List ℕ) (inputs : Option (List �
   pub has : HasChecked tells file c
   pub fits : HasGiven tells inputs c given
 
-abbrev pub Prepares : Tells → (List ℕ → Type 0) → Type 0 → List ℕ → Option (List ℕ) → Result Prepared Stop → Type 0
+abbrev pub Prepares : Tells → (List ℕ → Type 0) → Type 0 → List ℕ → Option (List ℕ) → Result Prepared CommandStop → Type 0
 Prepares tells refused rose file inputs (Ok p) =
     IsPrepared tells file inputs p.checked p.given × ((number : ℕ) × (f : FlowDef) × HasMain tells file p.checked number f p.paths)
 Prepares tells refused rose file inputs (Err stop) = PrepareStops tells refused rose file inputs stop.status stop.paths

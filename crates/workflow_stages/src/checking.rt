@@ -1,13 +1,27 @@
 //! The documents, from their files to the checked form.
 
-ghost use Rattle.std.specs.Prelude.{◌≡◌, ◌≤◌, ◌↔◌, ◌<◌, ℕ, List, [], IfOk, IfErr, length, Some, None, slice_get};
+ghost use Rattle.std.specs.Prelude.{
+  ◌≡◌,
+  ◌≤◌,
+  ◌↔◌,
+  ◌<◌,
+  ℕ,
+  List,
+  [],
+  IfOk,
+  IfErr,
+  length,
+  Some,
+  None,
+  slice_get,
+};
 ghost use Rattle.report_text.specs.Lines.{HasPath};
 ghost use Rattle.wdl_port.specs.Causes.{Rose};
 ghost use Rattle.workflow_stages.specs.Counting.{StopCounts};
 ghost use Rattle.workflow_stages.specs.Documents as spec;
 ghost use Rattle.workflow_stages.specs.Documents.{Checks, Gathers, LocatesIn, Types, paths_of};
 
-use crate::ended::Stop;
+use crate::ended::CommandStop;
 use crate::note::note_on;
 use crate::recall::Recall;
 use report_text::Status;
@@ -27,12 +41,12 @@ pub struct Located {
 }
 
 /// A stop whose line names no document.
-pub fn stop_of(alloc: Global, status: Status) -> Stop
+pub fn stop_of(alloc: Global, status: Status) -> CommandStop
     ensures status { result.status ≡ status }
     ensures paths { result.paths ≡ [] }
     ensures note { result.note ≡ None }
 {
-    Stop {
+    CommandStop {
         status,
         paths: Items::new(alloc),
         note: None,
@@ -54,12 +68,12 @@ fn paths_to(alloc: Global, number: u32, path: Text) -> Result<Items<Text>, NoMem
 }
 
 /// The stop of a document in which a rule is broken.
-fn refused(alloc: Global, code: u16, path: Text, span: Span, note: Option<String>) -> Stop
+fn refused(alloc: Global, code: u16, path: Text, span: Span, note: Option<String>) -> CommandStop
     ensures value { spec.IsRefusal code span path result.status result.paths }
     ensures paths { HasPath result.status result.paths }
 {
     match paths_to(alloc, span.doc, path) {
-        Ok(paths) => Stop {
+        Ok(paths) => CommandStop {
             status: Status::Document(code, span),
             paths,
             note,
@@ -73,7 +87,7 @@ pub fn gathered<F: Shelf + Recall>(
     alloc: Global,
     file: &Text,
     shelf: &mut F,
-) -> Result<Library, Stop>
+) -> Result<Library, CommandStop>
     ensures outcome { Gathers (F.tells shelf.old) file.now (F.refuses shelf.old) (Rose (F.faults shelf.old) (F.faults shelf.new)) result }
     ensures counted { StopCounts result (F.faults shelf.old) (F.faults shelf.new) }
     ensures paths { IfErr result (λ s. HasPath s.status s.paths) }
@@ -104,7 +118,13 @@ fn library_paths(alloc: Global, library: &Library) -> Result<Items<Text>, NoMemo
 }
 
 /// The stop of a library in which a rule is broken.
-fn untyped<F: Recall>(alloc: Global, code: u16, span: Span, library: &Library, shelf: &F) -> Stop
+fn untyped<F: Recall>(
+    alloc: Global,
+    code: u16,
+    span: Span,
+    library: &Library,
+    shelf: &F,
+) -> CommandStop
     requires within { span.doc < length library.now.docs }
     ensures value { spec.IsUntypedStop code span (paths_of library.now) result.status result.paths }
     ensures paths { HasPath result.status result.paths }
@@ -112,7 +132,7 @@ fn untyped<F: Recall>(alloc: Global, code: u16, span: Span, library: &Library, s
     let path = &library.docs.as_slice()[span.doc as usize].path;
     let note = note_on(alloc, shelf, path, code, span, Some(library));
     match library_paths(alloc, library) {
-        Ok(paths) => Stop {
+        Ok(paths) => CommandStop {
             status: Status::Document(code, span),
             paths,
             note,
@@ -122,7 +142,7 @@ fn untyped<F: Recall>(alloc: Global, code: u16, span: Span, library: &Library, s
 }
 
 /// The checked form of a library.
-fn typed<F: Recall>(alloc: Global, library: &Library, shelf: &F) -> Result<Checked, Stop>
+fn typed<F: Recall>(alloc: Global, library: &Library, shelf: &F) -> Result<Checked, CommandStop>
     ensures outcome { Types library.now result }
     ensures paths { IfErr result (λ s. HasPath s.status s.paths) }
 {
@@ -134,7 +154,11 @@ fn typed<F: Recall>(alloc: Global, library: &Library, shelf: &F) -> Result<Check
 }
 
 /// The checked form of a library, with the paths of its documents.
-pub fn located_in<F: Recall>(alloc: Global, library: &Library, shelf: &F) -> Result<Located, Stop>
+pub fn located_in<F: Recall>(
+    alloc: Global,
+    library: &Library,
+    shelf: &F,
+) -> Result<Located, CommandStop>
     ensures outcome { LocatesIn library.now result }
     ensures paths { IfErr result (λ s. HasPath s.status s.paths) }
 {
@@ -153,7 +177,7 @@ pub fn checked_of<F: Shelf + Recall>(
     alloc: Global,
     file: &Text,
     shelf: &mut F,
-) -> Result<Checked, Stop>
+) -> Result<Checked, CommandStop>
     ensures outcome { Checks (F.tells shelf.old) file.now (F.refuses shelf.old) (Rose (F.faults shelf.old) (F.faults shelf.new)) result }
     ensures counted { StopCounts result (F.faults shelf.old) (F.faults shelf.new) }
     ensures paths { IfErr result (λ s. HasPath s.status s.paths) }

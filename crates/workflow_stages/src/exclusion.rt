@@ -5,7 +5,7 @@ ghost use Rattle.report_text.specs.Lines.{HasPath};
 ghost use Rattle.workflow_stages.specs.Paths as spec;
 
 use crate::checking::stop_of;
-use crate::ended::Stop;
+use crate::ended::CommandStop;
 use crate::note::note_on;
 use crate::recall::Recall;
 use report_text::Status;
@@ -30,7 +30,7 @@ pub fn outside<F: Recall>(
     span: Span,
     paths: Items<Text>,
     shelf: &F,
-) -> Stop
+) -> CommandStop
     ensures value { spec.IsOutsideStop rule span paths result.status result.paths }
     ensures paths { HasPath result.status result.paths }
 {
@@ -39,7 +39,7 @@ pub fn outside<F: Recall>(
         None => None,
     };
     match padded(alloc, paths, span.doc) {
-        Ok(paths) => Stop {
+        Ok(paths) => CommandStop {
             status: Status::NotInSubset(rule, span),
             paths,
             note,

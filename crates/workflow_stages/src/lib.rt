@@ -1,5 +1,6 @@
-//! The stages that the commands of the program share: a document is read with its imports and checked, its main workflow is
-//! found, and the inputs of that are read. A stage that does no more gives a `Stop`.
+//! The stages that the commands of the program share: a document is read with its imports and
+//! checked, its main workflow is found, and the inputs of that are read. A stage that does no more
+//! gives a `CommandStop`.
 #![tactic(auto)]
 
 mod alone;
@@ -14,7 +15,7 @@ mod writing;
 
 pub use alone::shelf_of;
 pub use checking::{Located, checked_of, gathered, stop_of};
-pub use ended::{Stop, Work};
+pub use ended::{CommandStop, Work};
 pub use exclusion::outside;
 pub use note::write_note;
 pub use prepare::{Prepared, main_flow, main_in, main_of, start_of};

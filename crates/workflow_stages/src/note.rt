@@ -1,4 +1,5 @@
-//! What a person is told of why a command does no more. No contract speaks of it, but for the place of a fault (`fault_notes`).
+//! What a person is told of why a command does no more. No contract speaks of it, but for the place
+//! of a fault (`fault_notes`).
 
 use crate::ended::Work;
 use crate::recall::Recall;
@@ -25,7 +26,8 @@ pub fn note_on<F: Recall>(
     document_note(alloc, path.as_str(), bytes, code, span, library).ok()
 }
 
-/// The note on inputs that break a rule, where the shelf kept them. Without a file of inputs their text is `{}`.
+/// The note on inputs that break a rule, where the shelf kept them. Without a file of inputs their
+/// text is `{}`.
 pub fn note_on_inputs<F: Recall>(
     alloc: Global,
     shelf: &F,

@@ -10,7 +10,7 @@ ghost use Rattle.workflow_stages.specs.Documents.{LocatesMain, LocatesMainIn};
 ghost use Rattle.workflow_stages.specs.Preparing as spec;
 
 use crate::checking::{Located, gathered, located_in, stop_of};
-use crate::ended::Stop;
+use crate::ended::CommandStop;
 use crate::inputs::{given_of, inputs_text};
 use crate::note::{note_on, note_on_inputs};
 use crate::recall::Recall;
@@ -46,7 +46,7 @@ fn only_path(alloc: Global, file: &Text) -> Result<Items<Text>, NoMemory>
 }
 
 /// The stop of a document without a main workflow.
-fn stop_without_main<F: Recall>(alloc: Global, file: &Text, shelf: &F) -> Stop
+fn stop_without_main<F: Recall>(alloc: Global, file: &Text, shelf: &F) -> CommandStop
     ensures value { spec.IsMainlessStop file.now result.status result.paths }
     ensures paths { HasPath result.status result.paths }
 {
@@ -57,7 +57,7 @@ fn stop_without_main<F: Recall>(alloc: Global, file: &Text, shelf: &F) -> Stop
     };
     let note = note_on(alloc, shelf, file, 327, span, None);
     match only_path(alloc, file) {
-        Ok(paths) => Stop {
+        Ok(paths) => CommandStop {
             status: Status::Document(327, span),
             paths,
             note,
@@ -66,13 +66,14 @@ fn stop_without_main<F: Recall>(alloc: Global, file: &Text, shelf: &F) -> Stop
     }
 }
 
-/// The checked form of a library, which has a main workflow. Its first document is the one at the path.
+/// The checked form of a library, which has a main workflow. Its first document is the one at the
+/// path.
 pub fn main_in<F: Recall>(
     alloc: Global,
     library: &Library,
     file: &Text,
     shelf: &F,
-) -> Result<Located, Stop>
+) -> Result<Located, CommandStop>
     ensures outcome { LocatesMainIn library.now file.now result }
     ensures paths { IfErr result (λ s. HasPath s.status s.paths) }
 {
@@ -91,7 +92,7 @@ pub fn main_of<F: Shelf + Recall>(
     alloc: Global,
     file: &Text,
     shelf: &mut F,
-) -> Result<Located, Stop>
+) -> Result<Located, CommandStop>
     ensures outcome { LocatesMain (F.tells shelf.old) file.now (F.refuses shelf.old) (Rose (F.faults shelf.old) (F.faults shelf.new)) result }
     ensures counted { StopCounts result (F.faults shelf.old) (F.faults shelf.new) }
     ensures paths { IfErr result (λ s. HasPath s.status s.paths) }
@@ -129,12 +130,12 @@ fn unfit<F: Recall>(
     checked: &Checked,
     inputs: &Option<Text>,
     shelf: &F,
-) -> Stop
+) -> CommandStop
     ensures status { result.status ≡ status }
     ensures paths { result.paths ≡ [] }
 {
     let note = note_on_inputs(alloc, shelf, inputs, &status, main_flow(checked));
-    Stop {
+    CommandStop {
         status,
         paths: Items::new(alloc),
         note,
@@ -147,7 +148,7 @@ pub fn start_of<F: Shelf + Recall>(
     file: &Text,
     inputs: &Option<Text>,
     shelf: &mut F,
-) -> Result<Prepared, Stop>
+) -> Result<Prepared, CommandStop>
     ensures outcome { spec.Prepares (F.tells shelf.old) (F.refuses shelf.old) (Rose (F.faults shelf.old) (F.faults shelf.new)) file.now inputs.now result }
     ensures counted { StopCounts result (F.faults shelf.old) (F.faults shelf.new) }
     ensures paths { IfErr result (λ s. HasPath s.status s.paths) }

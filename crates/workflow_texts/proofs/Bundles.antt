@@ -16,7 +16,7 @@ use Rattle.wdl_bundle.specs.Bundled.{Answers}
 use Rattle.wdl_bundle.specs.declared.fault.BundleFault.{BundleFault}
 use Rattle.wdl_bundle.specs.declared.fault.BundleFault.TheVariants as fault
 use Rattle.wdl_print.specs.Printed.{printed_document}
-use Rattle.workflow_stages.specs.declared.ended.Stop.{Stop}
+use Rattle.workflow_stages.specs.declared.ended.CommandStop.{CommandStop}
 use Rattle.workflow_stages.specs.declared.ended.Work.{Work}
 use Rattle.workflow_stages.specs.declared.ended.Work.TheVariants as work
 use Rattle.workflow_stages.specs.Alone.{alone, alone_refused, only_file}
@@ -42,13 +42,13 @@ no_text lib fault.NoMemory h = tt
 
 module _ (file text : List ℕ) where
   -- what a shelf of that text alone gives
-  pub form_alone : (files : List PathFile) (fails : List ℕ) (before now : ℕ) (r : Result Checked Stop) → files ≡ only_file file text → fails ≡ []
+  pub form_alone : (files : List PathFile) (fails : List ℕ) (before now : ℕ) (r : Result Checked CommandStop) → files ≡ only_file file text → fails ≡ []
       → Checks (λ p. bytes_at files p) file (λ p. CanFail files fails p) (Rose before now) r → ChecksAlone file text r
   form_alone files fails before now r e f h =
       let a = subst (λ (fs : List PathFile). Checks (λ p. bytes_at fs p) file (λ p. CanFail fs fails p) (Rose before now) r) e h in
       (before, now, subst (λ (ns : List ℕ). Checks (alone file text) file (λ p. CanFail (only_file file text) ns p) (Rose before now) r) f a)
 
-  pub starved_alone : (st : Stop) → st.status ≡ status.NoMemory → ChecksAlone file text (Err st)
+  pub starved_alone : (st : CommandStop) → st.status ≡ status.NoMemory → ChecksAlone file text (Err st)
   starved_alone st e = (0, 0, subst (λ (s : Status). CheckStops (alone file text) file (alone_refused file text) (Rose 0 0) s st.paths) (sym e) tt)
 
 module _ (c : Checked) (file text : List ℕ) where

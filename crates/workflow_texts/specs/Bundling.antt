@@ -15,7 +15,7 @@ use Rattle.wdl_bundle.specs.declared.fault.BundleFault.{BundleFault}
 use Rattle.wdl_bundle.specs.declared.fault.BundleFault.TheVariants as fault
 use Rattle.wdl_print.specs.Printed.{printed_document}
 use Rattle.wdl_same.specs.Forms as forms
-use Rattle.workflow_stages.specs.declared.ended.Stop.{Stop}
+use Rattle.workflow_stages.specs.declared.ended.CommandStop.{CommandStop}
 use Rattle.workflow_stages.specs.declared.ended.Work.{Work}
 use Rattle.workflow_stages.specs.declared.ended.Work.TheVariants as work
 use Rattle.workflow_stages.specs.Alone.{alone, alone_refused}
@@ -158,7 +158,7 @@ HasText lib (Err (fault.Bad rule span)) = CallsWorkflow lib rule span ⊎ IsTooL
 HasText lib (Err fault.NoMemory) = ⊤
 
 -- the checked form that the text has alone, or why it has none
-abbrev pub ChecksAlone : List ℕ → List ℕ → Result Checked Stop → Type 0
+abbrev pub ChecksAlone : List ℕ → List ℕ → Result Checked CommandStop → Type 0
 ChecksAlone file text r = (before : ℕ) × (now : ℕ) × Checks (alone file text) file (alone_refused file text) (Rose before now) r
 
 abbrev pub is_starved : Status → Bool

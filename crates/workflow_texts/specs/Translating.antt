@@ -18,7 +18,7 @@ use Rattle.cwl_records.specs.declared.leaf.RecordLeaf.{RecordLeaf}
 use Rattle.cwl_records.specs.declared.lowering.Lowered.{Lowered}
 use Rattle.cwl_subset.specs.declared.subset.Subset.{Subset}
 use Rattle.wide_formed.specs.Forms.{LoweredForm, Says as SaysForm, lowering}
-use Rattle.workflow_stages.specs.declared.ended.Stop.{Stop}
+use Rattle.workflow_stages.specs.declared.ended.CommandStop.{CommandStop}
 use Rattle.workflow_stages.specs.declared.ended.Work.{Work}
 use Rattle.workflow_stages.specs.declared.ended.Work.TheVariants as work
 use Rattle.workflow_stages.specs.Documents.{HasMain, MainStops, Tells}
@@ -145,7 +145,7 @@ FormStops c all (status.NotInSubset rule span) paths = ((number : ℕ) → c.mai
 FormStops c all status.NoMemory paths = ⊤
 FormStops c all s paths = ⊥
 
-abbrev pub SubsetOf : Checked → List (List ℕ) → Result Subset Stop → Type 0
+abbrev pub SubsetOf : Checked → List (List ℕ) → Result Subset CommandStop → Type 0
 SubsetOf c all (Ok s) = s.checked ≡ c
 SubsetOf c all (Err stop) = FormStops c all stop.status stop.paths
 

@@ -17,7 +17,7 @@ use wdl_same::same_but_names;
 use wdl_typed::Checked;
 use wdl_value::{NoMemory, Span, Text};
 use workflow_stages::{
-    Located, Recall, Stop, Work, checked_of, gathered, main_in, outside, shelf_of, stop_of,
+    CommandStop, Located, Recall, Work, checked_of, gathered, main_in, outside, shelf_of, stop_of,
 };
 
 /// The fault of a rule that a bundle breaks as a whole.
@@ -53,7 +53,7 @@ fn bundle_text(alloc: Global, library: &Library) -> Result<Text, BundleFault>
 }
 
 /// The checked form that the text has alone, at that path.
-fn form_alone(alloc: Global, file: &Text, text: &Text) -> Result<Checked, Stop>
+fn form_alone(alloc: Global, file: &Text, text: &Text) -> Result<Checked, CommandStop>
     ensures value { spec.ChecksAlone file.now text.now result }
 {
     let Ok(mut shelf) = shelf_of(alloc, file, text) else {
@@ -83,7 +83,8 @@ fn keeps_form(alloc: Global, checked: &Checked, file: &Text, text: &Text) -> Res
     }
 }
 
-/// The text of the bundle of a library with this checked form, whose first document is the one at the path.
+/// The text of the bundle of a library with this checked form, whose first document is the one at
+/// the path.
 fn checked_text(
     alloc: Global,
     library: &Library,
@@ -123,8 +124,9 @@ fn bundle_in<F: Recall>(
     }
 }
 
-/// The main workflow of the document at a path and all that it imports as one document. What was made is read and checked
-/// again before it is given out: it has the checked form of the documents, but for the names and numbers of tasks.
+/// The main workflow of the document at a path and all that it imports as one document. What was
+/// made is read and checked again before it is given out: it has the checked form of the documents,
+/// but for the names and numbers of tasks.
 pub fn bundled<F: Shelf + Recall>(alloc: Global, file: &Text, shelf: &mut F) -> Work
     ensures value { spec.WritesBundle (F.tells shelf.old) (F.refuses shelf.old) (Rose (F.faults shelf.old) (F.faults shelf.new)) file.now result }
     ensures counted { WorkCounts result (F.faults shelf.old) (F.faults shelf.new) }

@@ -1,5 +1,6 @@
-//! The texts that the program makes of a document: its main workflow as CWL, or with its imports as one document, and the
-//! inputs of that workflow as a form. Each is the work of a command, up to the writing.
+//! The texts that the program makes of a document: its main workflow as CWL, or with its imports as
+//! one document, and the inputs of that workflow as a form. Each is the work of a command, up to
+//! the writing.
 #![tactic(auto)]
 
 mod bundling;

@@ -24,7 +24,9 @@ use wdl_port::Shelf;
 use wdl_typed::{Checked, TInput};
 use wdl_value::{Env, Items, NoMemory, Structs, Text};
 use wide_formed::see_members;
-use workflow_stages::{Located, Prepared, Recall, Stop, Work, main_of, outside, start_of, stop_of};
+use workflow_stages::{
+    CommandStop, Located, Prepared, Recall, Work, main_of, outside, start_of, stop_of,
+};
 
 /// The checked form as one of the subset.
 fn subset_of<F: Recall>(
@@ -32,7 +34,7 @@ fn subset_of<F: Recall>(
     checked: Checked,
     paths: Items<Text>,
     shelf: &F,
-) -> Result<Subset, Stop>
+) -> Result<Subset, CommandStop>
     requires main { IsSome checked.main }
     ensures value { spec.SubsetOf checked paths result }
     ensures paths { IfErr result (λ s. HasPath s.status s.paths) }
@@ -46,8 +48,8 @@ fn subset_of<F: Recall>(
     }
 }
 
-/// The text of a process whose inputs are records where struct inputs were replaced (CWL v1.2 Workflow,
-/// "InputRecordSchema").
+/// The text of a process whose inputs are records where struct inputs were replaced (CWL v1.2
+/// Workflow, "InputRecordSchema").
 fn wide_text(
     alloc: Global,
     records: &[RecordLeaf],
@@ -69,7 +71,8 @@ fn wide_text(
     }
 }
 
-/// The text of the process of a form without aliases and struct inputs, where these were replaced by these leaves.
+/// The text of the process of a form without aliases and struct inputs, where these were replaced
+/// by these leaves.
 fn process_line(
     alloc: Global,
     records: &[RecordLeaf],
@@ -220,8 +223,8 @@ fn object<F: Shelf + Recall>(
     }
 }
 
-/// The CWL document of the main workflow of the document at a path; or, where the file of inputs is named, the CWL input
-/// object of these.
+/// The CWL document of the main workflow of the document at a path; or, where the file of inputs is
+/// named, the CWL input object of these.
 pub fn cwl<F: Shelf + Recall>(
     alloc: Global,
     file: &Text,

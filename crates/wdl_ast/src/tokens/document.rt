@@ -73,8 +73,9 @@ fn push_sections(out: &mut TokenList, sections: &[Section]) -> Result<(), NoMemo
     Ok(())
 }
 
-/// The tokens that a document stands for, with their spans, in the order of the text. The tree determines them: it
-/// has one field for each word, mark and literal. Its recursion is as deep as blocks and expressions stand in one another.
+/// The tokens that a document stands for, with their spans, in the order of the text. The tree
+/// determines them: it has one field for each word, mark and literal. Its recursion is as deep as
+/// blocks and expressions stand in one another.
 pub fn tokens_of(alloc: Global, document: &Document) -> Result<Items<Token>, NoMemory>
     ensures value { IfOk result (λ ts. ts ≡ spec.document_words document.now) }
 {

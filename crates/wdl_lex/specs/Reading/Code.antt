@@ -7,8 +7,8 @@ use Rattle.wdl_ast.specs.Spelled.Classes.{Bytes, is_letter, is_word_byte, is_dig
 use Rattle.wdl_ast.specs.Spelled.Marks.{single, double, triple}
 use Rattle.wdl_ast.specs.Spelled.Code.{stands_alone, fits}
 use Rattle.wdl_lex.specs.declared.fault.Flaw.{Flaw}
-use Rattle.wdl_lex.specs.declared.fault.Stop.{Stop}
-use Rattle.wdl_lex.specs.declared.fault.Stop.TheVariants as stop
+use Rattle.wdl_lex.specs.declared.fault.NoToken.{NoToken}
+use Rattle.wdl_lex.specs.declared.fault.NoToken.TheVariants as stop
 use Rattle.wdl_lex.specs.Limits.{is_short}
 pub use Rattle.wdl_lex.specs.Faults.{flaw, char_len}
 use Rattle.wdl_lex.specs.Reading.Numbers.{frac_len, int_at}
@@ -50,14 +50,14 @@ checked limited z (Some t) =
 unfoldable pub code_token : Bool → Bool → Bool → Bytes → Result Found Flaw
 code_token limited awaits closes z = checked limited z (longest_at awaits closes z)
 
-abbrev pub flawed : ℕ → ℕ → Stop
+abbrev pub flawed : ℕ → ℕ → NoToken
 flawed c to = stop.Flaw (flaw c 0 to)
 
 -- what a function that reads a token ensures: what reading gives, unless memory runs out
-abbrev pub Fails : {A : Type 0} → Result A Flaw → Stop → Type 0
+abbrev pub Fails : {A : Type 0} → Result A Flaw → NoToken → Type 0
 Fails read stop.NoMemory = Unit {0}
 Fails read (stop.Flaw f) = read ≡ Err f
 
-abbrev pub Gives : {A : Type 0} → Result A Flaw → Result A Stop → Type 0
+abbrev pub Gives : {A : Type 0} → Result A Flaw → Result A NoToken → Type 0
 Gives read (Ok x) = read ≡ Ok x
 Gives read (Err e) = Fails read e

@@ -10,7 +10,7 @@ use crate::grammar::Grammar;
 use crate::grammar::choice::ends_in_choice;
 use sqlite_items::Boxed;
 use std::alloc::Global;
-use token_reading::{Chain, Cursor, Refusal, Rule, Stop, Tall, deeper, linked};
+use token_reading::{Chain, Cursor, Refusal, Rule, RuleStop, Tall, deeper, linked};
 use wdl_ast::{BinaryOperator, Expr, Ident, Mark, UnaryOperator};
 use wdl_value::{NoMemory, Span};
 
@@ -83,7 +83,7 @@ fn signed(
     })
 }
 
-impl<F: Fn(Global, &mut Cursor<'_>, usize, Rule) -> Result<Tall<Expr>, Stop>> Grammar<F> {
+impl<F: Fn(Global, &mut Cursor<'_>, usize, Rule) -> Result<Tall<Expr>, RuleStop>> Grammar<F> {
     /// One more link.
     fn linked(
         &self,
@@ -91,7 +91,7 @@ impl<F: Fn(Global, &mut Cursor<'_>, usize, Rule) -> Result<Tall<Expr>, Stop>> Gr
         links: usize,
         inside: usize,
         tree: Expr,
-    ) -> Result<(Chain, bool), Stop>
+    ) -> Result<(Chain, bool), RuleStop>
         requires { Nests self.now.depth (F.pre self.now.expr) (F.post self.now.expr) }
         ensures { (chain : Chain) (ts : List Token) → Reads (spec.told chain (spec.step (outcome.linked self.now.depth span links inside tree ts))) result ts }
     {
@@ -103,7 +103,7 @@ impl<F: Fn(Global, &mut Cursor<'_>, usize, Rule) -> Result<Tall<Expr>, Stop>> Gr
 
     /// The member or the index behind an expression, and whether one stands there.
     #[tactic(auto, using(std::proofs::lemmas::Grind::common_steps), unfolding(token_reading::specs::Outcome::attempt, token_reading::specs::Outcome::found, crate::specs::Reading::suffix))]
-    fn suffix(&self, tokens: &mut Cursor<'_>, chain: Chain) -> Result<(Chain, bool), Stop>
+    fn suffix(&self, tokens: &mut Cursor<'_>, chain: Chain) -> Result<(Chain, bool), RuleStop>
         requires { Nests self.now.depth (F.pre self.now.expr) (F.post self.now.expr) }
         ensures { Reads (spec.told chain (spec.suffix self.now.depth (spec.expr self.now.depth) chain tokens.old)) result tokens.new }
     {
@@ -135,7 +135,7 @@ impl<F: Fn(Global, &mut Cursor<'_>, usize, Rule) -> Result<Tall<Expr>, Stop>> Gr
                     Ok((chain, false))
                 }
             },
-            Err(Stop::Refused(Refusal::Missing)) => {
+            Err(RuleStop::Refused(Refusal::Missing)) => {
                 tokens.back(before);
                 Ok((chain, false))
             }
@@ -144,7 +144,7 @@ impl<F: Fn(Global, &mut Cursor<'_>, usize, Rule) -> Result<Tall<Expr>, Stop>> Gr
     }
 
     #[tactic(auto, using(std::proofs::lemmas::Grind::common_steps), unfolding(token_reading::specs::Outcome::then_, crate::specs::Reading::post, crate::specs::Reading::turns))]
-    fn post(&self, tokens: &mut Cursor<'_>) -> Result<Tall<Expr>, Stop>
+    fn post(&self, tokens: &mut Cursor<'_>) -> Result<Tall<Expr>, RuleStop>
         requires { Nests self.now.depth (F.pre self.now.expr) (F.post self.now.expr) }
         ensures { Reads (spec.post self.now.depth (spec.expr self.now.depth) tokens.old) result tokens.new }
     {
@@ -159,9 +159,10 @@ impl<F: Fn(Global, &mut Cursor<'_>, usize, Rule) -> Result<Tall<Expr>, Stop>> Gr
         Ok(chain.left)
     }
 
-    /// Reads a unary expression: one with signs, a choice, or a primary with its members and indices.
+    /// Reads a unary expression: one with signs, a choice, or a primary with its members and
+    /// indices.
     #[tactic(auto, using(std::proofs::lemmas::Grind::common_steps), unfolding(token_reading::specs::Outcome::then_, token_reading::specs::Outcome::found, crate::specs::Reading::unary))]
-    pub fn unary(&self, tokens: &mut Cursor<'_>) -> Result<Tall<Expr>, Stop>
+    pub fn unary(&self, tokens: &mut Cursor<'_>) -> Result<Tall<Expr>, RuleStop>
         requires { Nests self.now.depth (F.pre self.now.expr) (F.post self.now.expr) }
         ensures { Reads (spec.unary self.now.depth (spec.expr self.now.depth) tokens.old) result tokens.new }
     {
@@ -179,7 +180,8 @@ impl<F: Fn(Global, &mut Cursor<'_>, usize, Rule) -> Result<Tall<Expr>, Stop>> Gr
         }
     }
 
-    /// One more operand, and whether its operator stands there. None stands behind a choice, which took all that goes on.
+    /// One more operand, and whether its operator stands there. None stands behind a choice, which
+    /// took all that goes on.
     #[cycle(rules)]
     #[tactic(auto, using(std::proofs::lemmas::Grind::common_steps), unfolding(token_reading::specs::Outcome::attempt, token_reading::specs::Outcome::found, crate::specs::Reading::operation))]
     fn operation(
@@ -187,7 +189,7 @@ impl<F: Fn(Global, &mut Cursor<'_>, usize, Rule) -> Result<Tall<Expr>, Stop>> Gr
         tokens: &mut Cursor<'_>,
         k: usize,
         chain: Chain,
-    ) -> Result<(Chain, bool), Stop>
+    ) -> Result<(Chain, bool), RuleStop>
         requires { Nests self.now.depth (F.pre self.now.expr) (F.post self.now.expr) }
         ensures { Reads (spec.told chain (spec.operation self.now.depth (spec.expr self.now.depth) (spec.rule_at self.now.depth (spec.expr self.now.depth) k) k chain tokens.old)) result tokens.new }
     {
@@ -204,7 +206,7 @@ impl<F: Fn(Global, &mut Cursor<'_>, usize, Rule) -> Result<Tall<Expr>, Stop>> Gr
                 let tree = binary(self.alloc, chain.left, operator, sign, right)?;
                 self.linked(sign, chain.links, inside, tree)
             }
-            Err(Stop::Refused(Refusal::Missing)) => {
+            Err(RuleStop::Refused(Refusal::Missing)) => {
                 tokens.back(before);
                 Ok((chain, false))
             }
@@ -215,7 +217,7 @@ impl<F: Fn(Global, &mut Cursor<'_>, usize, Rule) -> Result<Tall<Expr>, Stop>> Gr
     /// Reads rule `k`: 0 is a unary expression, 1 a product, and 6 a disjunction.
     #[cycle(rules)]
     #[tactic(auto, using(std::proofs::lemmas::Grind::common_steps), unfolding(token_reading::specs::Outcome::then_, crate::specs::Reading::turns, crate::specs::Reading::rule_at))]
-    pub fn rule(&self, tokens: &mut Cursor<'_>, k: usize) -> Result<Tall<Expr>, Stop>
+    pub fn rule(&self, tokens: &mut Cursor<'_>, k: usize) -> Result<Tall<Expr>, RuleStop>
         requires { Nests self.now.depth (F.pre self.now.expr) (F.post self.now.expr) }
         ensures { Reads (spec.rule_at self.now.depth (spec.expr self.now.depth) k tokens.old) result tokens.new }
     {

@@ -7,7 +7,7 @@ ghost use Rattle.wdl_parse_expr.specs.Nests.{Nests};
 use crate::grammar::Grammar;
 use sqlite_items::Boxed;
 use std::alloc::Global;
-use token_reading::{Cursor, Rule, Stop, Tall, deeper, missing};
+use token_reading::{Cursor, Rule, RuleStop, Tall, deeper, missing};
 use wdl_ast::Expr;
 use wdl_value::{NoMemory, Span};
 
@@ -32,7 +32,8 @@ fn choice(
     })
 }
 
-/// Whether the last operand of an expression is an `if`, so that no operator stands behind the whole.
+/// Whether the last operand of an expression is an `if`, so that no operator stands behind the
+/// whole.
 #[tactic(auto, unfolding(crate::specs::Grammar::ends_in_choice))]
 pub fn ends_in_choice(expr: &Expr) -> bool
     ensures { result ≡ grammar.ends_in_choice expr.now }
@@ -45,7 +46,7 @@ pub fn ends_in_choice(expr: &Expr) -> bool
     }
 }
 
-impl<F: Fn(Global, &mut Cursor<'_>, usize, Rule) -> Result<Tall<Expr>, Stop>> Grammar<F> {
+impl<F: Fn(Global, &mut Cursor<'_>, usize, Rule) -> Result<Tall<Expr>, RuleStop>> Grammar<F> {
     /// The branch behind `else`, with the spans of the three words.
     #[tactic(auto, using(std::proofs::lemmas::Grind::common_steps), unfolding(token_reading::specs::Outcome::then_, crate::specs::Reading::other_choice))]
     fn other_choice(
@@ -54,7 +55,7 @@ impl<F: Fn(Global, &mut Cursor<'_>, usize, Rule) -> Result<Tall<Expr>, Stop>> Gr
         spans: (Span, Span, Span),
         condition: Tall<Expr>,
         accepted: Tall<Expr>,
-    ) -> Result<Tall<Expr>, Stop>
+    ) -> Result<Tall<Expr>, RuleStop>
         requires { Nests self.now.depth (F.pre self.now.expr) (F.post self.now.expr) }
         ensures { Reads (spec.other_choice self.now.depth (spec.expr self.now.depth) spans.0 condition spans.1 accepted spans.2 tokens.old) result tokens.new }
     {
@@ -69,7 +70,7 @@ impl<F: Fn(Global, &mut Cursor<'_>, usize, Rule) -> Result<Tall<Expr>, Stop>> Gr
 
     /// `if` with its two branches.
     #[tactic(auto, using(std::proofs::lemmas::Grind::common_steps), unfolding(token_reading::specs::Outcome::then_, token_reading::specs::Outcome::found, crate::specs::Reading::choice))]
-    pub fn choice(&self, tokens: &mut Cursor<'_>, keyword: Span) -> Result<Tall<Expr>, Stop>
+    pub fn choice(&self, tokens: &mut Cursor<'_>, keyword: Span) -> Result<Tall<Expr>, RuleStop>
         requires { Nests self.now.depth (F.pre self.now.expr) (F.post self.now.expr) }
         ensures { Reads (spec.choice self.now.depth (spec.expr self.now.depth) keyword tokens.old) result tokens.new }
     {

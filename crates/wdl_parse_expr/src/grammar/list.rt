@@ -7,7 +7,7 @@ ghost use Rattle.wdl_parse_expr.specs.Nests.{Nests};
 use crate::grammar::Grammar;
 use sqlite_items::Items;
 use std::alloc::Global;
-use token_reading::{Closed, Cursor, Rule, Stop, Tall, deeper, missing};
+use token_reading::{Closed, Cursor, Rule, RuleStop, Tall, deeper, missing};
 use wdl_ast::{Expr, ListItem, MapEntry, Mark, MemberEntry};
 use wdl_value::Span;
 
@@ -35,10 +35,10 @@ pub trait Element: Sized {
 
     ghost reading: { ℕ → Parser (Tall Self) };
 
-    fn read<F: Fn(Global, &mut Cursor<'_>, usize, Rule) -> Result<Tall<Expr>, Stop>>(
+    fn read<F: Fn(Global, &mut Cursor<'_>, usize, Rule) -> Result<Tall<Expr>, RuleStop>>(
         grammar: &Grammar<F>,
         tokens: &mut Cursor<'_>,
-    ) -> Result<Tall<Self>, Stop>
+    ) -> Result<Tall<Self>, RuleStop>
         requires { Nests grammar.now.depth (F.pre grammar.now.expr) (F.post grammar.now.expr) }
         ensures { Reads (reading grammar.now.depth tokens.old) result tokens.new };
 }
@@ -49,10 +49,10 @@ impl Element for Expr {
 
     ghost reading = { λ d. spec.expr d rule.Expr };
 
-    fn read<F: Fn(Global, &mut Cursor<'_>, usize, Rule) -> Result<Tall<Expr>, Stop>>(
+    fn read<F: Fn(Global, &mut Cursor<'_>, usize, Rule) -> Result<Tall<Expr>, RuleStop>>(
         grammar: &Grammar<F>,
         tokens: &mut Cursor<'_>,
-    ) -> Result<Tall<Expr>, Stop> {
+    ) -> Result<Tall<Expr>, RuleStop> {
         grammar.inner(tokens, Rule::Expr)
     }
 }
@@ -63,10 +63,10 @@ impl Element for MapEntry<Expr> {
     ghost reading = { λ d. spec.entry (spec.expr d) };
 
     #[tactic(auto, using(std::proofs::lemmas::Grind::common_steps), unfolding(token_reading::specs::Outcome::then_, token_reading::specs::Outcome::found, crate::specs::Reading::entry))]
-    fn read<F: Fn(Global, &mut Cursor<'_>, usize, Rule) -> Result<Tall<Expr>, Stop>>(
+    fn read<F: Fn(Global, &mut Cursor<'_>, usize, Rule) -> Result<Tall<Expr>, RuleStop>>(
         grammar: &Grammar<F>,
         tokens: &mut Cursor<'_>,
-    ) -> Result<Tall<MapEntry<Expr>>, Stop> {
+    ) -> Result<Tall<MapEntry<Expr>>, RuleStop> {
         let key = grammar.inner(tokens, Rule::Expr)?;
         let Some(colon) = tokens.eat(Mark::Colon) else {
             return missing();
@@ -89,10 +89,10 @@ impl Element for MemberEntry<Expr> {
     ghost reading = { λ d. spec.member (spec.expr d) };
 
     #[tactic(auto, using(std::proofs::lemmas::Grind::common_steps), unfolding(token_reading::specs::Outcome::then_, token_reading::specs::Outcome::found, crate::specs::Reading::member))]
-    fn read<F: Fn(Global, &mut Cursor<'_>, usize, Rule) -> Result<Tall<Expr>, Stop>>(
+    fn read<F: Fn(Global, &mut Cursor<'_>, usize, Rule) -> Result<Tall<Expr>, RuleStop>>(
         grammar: &Grammar<F>,
         tokens: &mut Cursor<'_>,
-    ) -> Result<Tall<MemberEntry<Expr>>, Stop> {
+    ) -> Result<Tall<MemberEntry<Expr>>, RuleStop> {
         let Some(name) = tokens.ident(grammar.alloc)? else {
             return missing();
         };
@@ -118,7 +118,7 @@ fn ended<E: Element + Drop>(
     close: Mark,
     items: Items<ListItem<E>>,
     inside: usize,
-) -> Result<Closed<E>, Stop>
+) -> Result<Closed<E>, RuleStop>
     ensures { (d : ℕ) → Reads (spec.ended (E.reading d) close items inside tokens.old) result tokens.new }
 {
     match tokens.eat(close) {
@@ -131,14 +131,14 @@ fn ended<E: Element + Drop>(
     }
 }
 
-impl<F: Fn(Global, &mut Cursor<'_>, usize, Rule) -> Result<Tall<Expr>, Stop>> Grammar<F> {
+impl<F: Fn(Global, &mut Cursor<'_>, usize, Rule) -> Result<Tall<Expr>, RuleStop>> Grammar<F> {
     /// The elements up to a closing mark.
     #[tactic(auto, using(std::proofs::lemmas::Grind::common_steps), unfolding(token_reading::specs::Outcome::then_, token_reading::specs::Outcome::found, crate::specs::Reading::list_from))]
     pub fn list<E: Element + Drop>(
         &self,
         tokens: &mut Cursor<'_>,
         close: Mark,
-    ) -> Result<Closed<E>, Stop>
+    ) -> Result<Closed<E>, RuleStop>
         requires { Nests self.now.depth (F.pre self.now.expr) (F.post self.now.expr) }
         ensures { Reads (spec.list_of (E.reading self.now.depth) close tokens.old) result tokens.new }
     {

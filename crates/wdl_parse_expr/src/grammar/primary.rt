@@ -8,11 +8,11 @@ use crate::grammar::Grammar;
 use crate::grammar::list::ends_bare;
 use sqlite_items::Boxed;
 use std::alloc::Global;
-use token_reading::{Cursor, Refusal, Rule, Stop, Tall, bad, deeper, left_out, missing};
+use token_reading::{Cursor, Refusal, Rule, RuleStop, Tall, bad, deeper, left_out, missing};
 use wdl_ast::{Expr, Ident, Kind, MapEntry, Mark, MemberEntry, Token};
 use wdl_value::{Name, NameFault, NoMemory, Span, Text};
 
-fn leaf(tree: Expr) -> Result<Tall<Expr>, Stop>
+fn leaf(tree: Expr) -> Result<Tall<Expr>, RuleStop>
     ensures { (ts : List Token) → Reads (spec.leaf tree ts) result ts }
 {
     Ok(Tall { tree, depth: 1 })
@@ -47,7 +47,7 @@ fn pair(
     })
 }
 
-impl<F: Fn(Global, &mut Cursor<'_>, usize, Rule) -> Result<Tall<Expr>, Stop>> Grammar<F> {
+impl<F: Fn(Global, &mut Cursor<'_>, usize, Rule) -> Result<Tall<Expr>, RuleStop>> Grammar<F> {
     /// A call. Where its arguments do not follow, reading goes back, and the name stands alone.
     #[tactic(auto, using(std::proofs::lemmas::Grind::common_steps), unfolding(token_reading::specs::Outcome::attempt, crate::specs::Reading::arguments))]
     fn arguments<'a>(
@@ -56,7 +56,7 @@ impl<F: Fn(Global, &mut Cursor<'_>, usize, Rule) -> Result<Tall<Expr>, Stop>> Gr
         name: Ident,
         opening: Span,
         before: &'a [Token],
-    ) -> Result<Tall<Expr>, Stop>
+    ) -> Result<Tall<Expr>, RuleStop>
         requires { Nests self.now.depth (F.pre self.now.expr) (F.post self.now.expr) }
         ensures { Reads (spec.arguments self.now.depth (spec.expr self.now.depth) name opening tokens.old before.now) result tokens.new }
     {
@@ -75,7 +75,7 @@ impl<F: Fn(Global, &mut Cursor<'_>, usize, Rule) -> Result<Tall<Expr>, Stop>> Gr
                 };
                 self.grown(opening, list.inside, call)
             }
-            Err(Stop::Refused(Refusal::Missing)) => {
+            Err(RuleStop::Refused(Refusal::Missing)) => {
                 tokens.back(before);
                 leaf(Expr::Name(name))
             }
@@ -90,7 +90,7 @@ impl<F: Fn(Global, &mut Cursor<'_>, usize, Rule) -> Result<Tall<Expr>, Stop>> Gr
         name: Ident,
         opening: Span,
         before: &'a [Token],
-    ) -> Result<Tall<Expr>, Stop>
+    ) -> Result<Tall<Expr>, RuleStop>
         requires { Nests self.now.depth (F.pre self.now.expr) (F.post self.now.expr) }
         ensures { Reads (spec.call self.now.depth (spec.expr self.now.depth) name opening tokens.old before.now) result tokens.new }
     {
@@ -100,7 +100,8 @@ impl<F: Fn(Global, &mut Cursor<'_>, usize, Rule) -> Result<Tall<Expr>, Stop>> Gr
         }
     }
 
-    /// A struct literal. Where its members do not follow, reading goes back, and the name stands alone.
+    /// A struct literal. Where its members do not follow, reading goes back, and the name stands
+    /// alone.
     #[tactic(auto, using(std::proofs::lemmas::Grind::common_steps), unfolding(token_reading::specs::Outcome::attempt, crate::specs::Reading::struct_literal))]
     fn struct_literal<'a>(
         &self,
@@ -108,7 +109,7 @@ impl<F: Fn(Global, &mut Cursor<'_>, usize, Rule) -> Result<Tall<Expr>, Stop>> Gr
         name: Ident,
         opening: Span,
         before: &'a [Token],
-    ) -> Result<Tall<Expr>, Stop>
+    ) -> Result<Tall<Expr>, RuleStop>
         requires { Nests self.now.depth (F.pre self.now.expr) (F.post self.now.expr) }
         ensures { Reads (spec.struct_literal self.now.depth (spec.expr self.now.depth) name opening tokens.old before.now) result tokens.new }
     {
@@ -122,7 +123,7 @@ impl<F: Fn(Global, &mut Cursor<'_>, usize, Rule) -> Result<Tall<Expr>, Stop>> Gr
                 };
                 self.grown(opening, list.inside, literal)
             }
-            Err(Stop::Refused(Refusal::Missing)) => {
+            Err(RuleStop::Refused(Refusal::Missing)) => {
                 tokens.back(before);
                 leaf(Expr::Name(name))
             }
@@ -132,7 +133,7 @@ impl<F: Fn(Global, &mut Cursor<'_>, usize, Rule) -> Result<Tall<Expr>, Stop>> Gr
 
     /// What begins with a name.
     #[tactic(auto, using(std::proofs::lemmas::Grind::common_steps), unfolding(token_reading::specs::Outcome::found, crate::specs::Reading::named))]
-    fn named(&self, tokens: &mut Cursor<'_>, name: Ident) -> Result<Tall<Expr>, Stop>
+    fn named(&self, tokens: &mut Cursor<'_>, name: Ident) -> Result<Tall<Expr>, RuleStop>
         requires { Nests self.now.depth (F.pre self.now.expr) (F.post self.now.expr) }
         ensures { Reads (spec.named self.now.depth (spec.expr self.now.depth) name tokens.old) result tokens.new }
     {
@@ -154,7 +155,7 @@ impl<F: Fn(Global, &mut Cursor<'_>, usize, Rule) -> Result<Tall<Expr>, Stop>> Gr
         opening: Span,
         left: Tall<Expr>,
         comma: Span,
-    ) -> Result<Tall<Expr>, Stop>
+    ) -> Result<Tall<Expr>, RuleStop>
         requires { Nests self.now.depth (F.pre self.now.expr) (F.post self.now.expr) }
         ensures { Reads (spec.pair_end self.now.depth (spec.expr self.now.depth) opening left comma tokens.old) result tokens.new }
     {
@@ -169,7 +170,7 @@ impl<F: Fn(Global, &mut Cursor<'_>, usize, Rule) -> Result<Tall<Expr>, Stop>> Gr
 
     /// An expression in parentheses, or a pair.
     #[tactic(auto, using(std::proofs::lemmas::Grind::common_steps), unfolding(token_reading::specs::Outcome::then_, token_reading::specs::Outcome::found, crate::specs::Reading::paren))]
-    fn paren(&self, tokens: &mut Cursor<'_>, opening: Span) -> Result<Tall<Expr>, Stop>
+    fn paren(&self, tokens: &mut Cursor<'_>, opening: Span) -> Result<Tall<Expr>, RuleStop>
         requires { Nests self.now.depth (F.pre self.now.expr) (F.post self.now.expr) }
         ensures { Reads (spec.paren self.now.depth (spec.expr self.now.depth) opening tokens.old) result tokens.new }
     {
@@ -186,7 +187,7 @@ impl<F: Fn(Global, &mut Cursor<'_>, usize, Rule) -> Result<Tall<Expr>, Stop>> Gr
     }
 
     #[tactic(auto, using(std::proofs::lemmas::Grind::common_steps), unfolding(token_reading::specs::Outcome::then_, crate::specs::Reading::list))]
-    fn list_literal(&self, tokens: &mut Cursor<'_>, opening: Span) -> Result<Tall<Expr>, Stop>
+    fn list_literal(&self, tokens: &mut Cursor<'_>, opening: Span) -> Result<Tall<Expr>, RuleStop>
         requires { Nests self.now.depth (F.pre self.now.expr) (F.post self.now.expr) }
         ensures { Reads (spec.list self.now.depth (spec.expr self.now.depth) opening tokens.old) result tokens.new }
     {
@@ -200,7 +201,7 @@ impl<F: Fn(Global, &mut Cursor<'_>, usize, Rule) -> Result<Tall<Expr>, Stop>> Gr
     }
 
     #[tactic(auto, using(std::proofs::lemmas::Grind::common_steps), unfolding(token_reading::specs::Outcome::then_, crate::specs::Reading::map_literal))]
-    fn map_literal(&self, tokens: &mut Cursor<'_>, opening: Span) -> Result<Tall<Expr>, Stop>
+    fn map_literal(&self, tokens: &mut Cursor<'_>, opening: Span) -> Result<Tall<Expr>, RuleStop>
         requires { Nests self.now.depth (F.pre self.now.expr) (F.post self.now.expr) }
         ensures { Reads (spec.map_literal self.now.depth (spec.expr self.now.depth) opening tokens.old) result tokens.new }
     {
@@ -215,7 +216,12 @@ impl<F: Fn(Global, &mut Cursor<'_>, usize, Rule) -> Result<Tall<Expr>, Stop>> Gr
 
     /// What begins with a reserved word.
     #[tactic(auto, unfolding(crate::specs::Reading::literal))]
-    fn literal(&self, tokens: &mut Cursor<'_>, word: &Text, span: Span) -> Result<Tall<Expr>, Stop>
+    fn literal(
+        &self,
+        tokens: &mut Cursor<'_>,
+        word: &Text,
+        span: Span,
+    ) -> Result<Tall<Expr>, RuleStop>
         ensures { Reads (spec.literal self.now.depth (spec.expr self.now.depth) word.now span tokens.old) result tokens.new }
     {
         if word.is("true") {
@@ -235,20 +241,25 @@ impl<F: Fn(Global, &mut Cursor<'_>, usize, Rule) -> Result<Tall<Expr>, Stop>> Gr
     }
 
     #[tactic(auto, using(std::proofs::lemmas::Grind::common_steps), unfolding(crate::specs::Reading::worded))]
-    fn worded(&self, tokens: &mut Cursor<'_>, word: &Text, span: Span) -> Result<Tall<Expr>, Stop>
+    fn worded(
+        &self,
+        tokens: &mut Cursor<'_>,
+        word: &Text,
+        span: Span,
+    ) -> Result<Tall<Expr>, RuleStop>
         requires { Nests self.now.depth (F.pre self.now.expr) (F.post self.now.expr) }
         ensures { Reads (spec.worded self.now.depth (spec.expr self.now.depth) word.now span tokens.old) result tokens.new }
     {
         match Name::new(self.alloc, word.as_str()) {
             Ok(name) => self.named(tokens, Ident { name, span }),
             Err(NameFault::NotAName) => self.literal(tokens, word, span),
-            Err(NameFault::NoMemory) => Err(Stop::NoMemory),
+            Err(NameFault::NoMemory) => Err(RuleStop::NoMemory),
         }
     }
 
     /// A literal, a name, a call, a string, or what stands in brackets.
     #[tactic(auto, using(std::proofs::lemmas::Grind::common_steps), unfolding(crate::specs::Reading::primary))]
-    pub fn primary(&self, tokens: &mut Cursor<'_>) -> Result<Tall<Expr>, Stop>
+    pub fn primary(&self, tokens: &mut Cursor<'_>) -> Result<Tall<Expr>, RuleStop>
         requires { Nests self.now.depth (F.pre self.now.expr) (F.post self.now.expr) }
         ensures { Reads (spec.primary self.now.depth (spec.expr self.now.depth) tokens.old) result tokens.new }
     {

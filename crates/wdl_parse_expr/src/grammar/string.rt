@@ -6,18 +6,18 @@ ghost use Rattle.wdl_parse_expr.specs.Nests.{Nests};
 use crate::grammar::Grammar;
 use sqlite_items::Items;
 use std::alloc::Global;
-use token_reading::{Cursor, Rule, Stop, Tall, deeper, grown, missing, read_options};
+use token_reading::{Cursor, Rule, RuleStop, Tall, deeper, grown, missing, read_options};
 use wdl_ast::{Chars, Expr, HoleMark, Kind, Placeholder, Quote, StringPart, StringTree};
 use wdl_value::Span;
 
-impl<F: Fn(Global, &mut Cursor<'_>, usize, Rule) -> Result<Tall<Expr>, Stop>> Grammar<F> {
+impl<F: Fn(Global, &mut Cursor<'_>, usize, Rule) -> Result<Tall<Expr>, RuleStop>> Grammar<F> {
     #[tactic(auto, using(std::proofs::lemmas::Grind::common_steps), unfolding(token_reading::specs::Outcome::then_, token_reading::specs::Outcome::found, crate::specs::Reading::hole))]
     fn hole(
         &self,
         tokens: &mut Cursor<'_>,
         mark: HoleMark,
         opening: Span,
-    ) -> Result<Tall<StringPart<Expr>>, Stop>
+    ) -> Result<Tall<StringPart<Expr>>, RuleStop>
         requires { Nests self.now.depth (F.pre self.now.expr) (F.post self.now.expr) }
         ensures { Reads (spec.hole (spec.expr self.now.depth) mark opening tokens.old) result tokens.new }
     {
@@ -39,7 +39,7 @@ impl<F: Fn(Global, &mut Cursor<'_>, usize, Rule) -> Result<Tall<Expr>, Stop>> Gr
     }
 
     #[tactic(auto, using(std::proofs::lemmas::Grind::common_steps), unfolding(token_reading::specs::Outcome::then_))]
-    fn part(&self, tokens: &mut Cursor<'_>) -> Result<Option<Tall<StringPart<Expr>>>, Stop>
+    fn part(&self, tokens: &mut Cursor<'_>) -> Result<Option<Tall<StringPart<Expr>>>, RuleStop>
         requires { Nests self.now.depth (F.pre self.now.expr) (F.post self.now.expr) }
         ensures { Reads (spec.part_at (spec.expr self.now.depth) tokens.old) result tokens.new }
     {
@@ -68,7 +68,7 @@ impl<F: Fn(Global, &mut Cursor<'_>, usize, Rule) -> Result<Tall<Expr>, Stop>> Gr
 
     /// The parts of a string or a command, up to its end.
     #[tactic(auto, using(std::proofs::lemmas::Grind::common_steps), unfolding(token_reading::specs::Outcome::then_, crate::specs::Reading::parts_from))]
-    pub fn parts(&self, tokens: &mut Cursor<'_>) -> Result<Tall<Items<StringPart<Expr>>>, Stop>
+    pub fn parts(&self, tokens: &mut Cursor<'_>) -> Result<Tall<Items<StringPart<Expr>>>, RuleStop>
         requires { Nests self.now.depth (F.pre self.now.expr) (F.post self.now.expr) }
         ensures { Reads (spec.parts (spec.expr self.now.depth) tokens.old) result tokens.new }
     {
@@ -97,7 +97,7 @@ impl<F: Fn(Global, &mut Cursor<'_>, usize, Rule) -> Result<Tall<Expr>, Stop>> Gr
         tokens: &mut Cursor<'_>,
         quote: Quote,
         opening: Span,
-    ) -> Result<Tall<Expr>, Stop>
+    ) -> Result<Tall<Expr>, RuleStop>
         requires { Nests self.now.depth (F.pre self.now.expr) (F.post self.now.expr) }
         ensures { Reads (spec.text self.now.depth (spec.expr self.now.depth) quote opening tokens.old) result tokens.new }
     {

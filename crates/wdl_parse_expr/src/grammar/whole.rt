@@ -4,11 +4,11 @@ ghost use Rattle.wdl_parse_expr.specs.Nests.{Nests};
 
 use crate::grammar::Grammar;
 use std::alloc::Global;
-use token_reading::{Cursor, Rule, Stop, Tall, too_deep};
+use token_reading::{Cursor, Rule, RuleStop, Tall, too_deep};
 use wdl_ast::Expr;
 
-impl<F: Fn(Global, &mut Cursor<'_>, usize, Rule) -> Result<Tall<Expr>, Stop>> Grammar<F> {
-    fn of_rule(&self, tokens: &mut Cursor<'_>, rule: Rule) -> Result<Tall<Expr>, Stop>
+impl<F: Fn(Global, &mut Cursor<'_>, usize, Rule) -> Result<Tall<Expr>, RuleStop>> Grammar<F> {
+    fn of_rule(&self, tokens: &mut Cursor<'_>, rule: Rule) -> Result<Tall<Expr>, RuleStop>
         requires { Nests self.now.depth (F.pre self.now.expr) (F.post self.now.expr) }
         ensures { Reads (spec.of_rule self.now.depth (spec.expr self.now.depth) rule tokens.old) result tokens.new }
     {
@@ -25,7 +25,7 @@ pub fn expr(
     tokens: &mut Cursor<'_>,
     depth: usize,
     rule: Rule,
-) -> Result<Tall<Expr>, Stop>
+) -> Result<Tall<Expr>, RuleStop>
     ensures { Reads (spec.expr depth rule tokens.old) result tokens.new }
 {
     if depth == 0 {

@@ -2,9 +2,9 @@ use Rattle.std.proofs.Common.{◌≡◌, false, ap, ◌∙◌}
 use Rattle.serde_json.specs.View.{view}
 use Rattle.serde_json.specs.Written.{has_float, compact_text}
 use Rattle.wdl_base.specs.Plain.{has_nul}
-use Rattle.wdl_json.proofs.Texts.{text_nul}
 use Rattle.cwl_emit.proofs.Exact.{object_exact}
 use Rattle.cwl_emit.proofs.object.object_text.Goals as goal
+use Rattle.json_laws.proofs.Texts.{text_nul}
 
 pub from_string-requires : goal.from_string-requires
 from_string-requires c =

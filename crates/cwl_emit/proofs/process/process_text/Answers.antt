@@ -2,11 +2,11 @@ use Rattle.std.proofs.Common.{◌≡◌, true, false, ap, ◌∙◌}
 use Rattle.serde_json.specs.View.{view}
 use Rattle.serde_json.specs.Written.{has_float, compact_text}
 use Rattle.wdl_base.specs.Plain.{has_nul}
-use Rattle.wdl_json.proofs.Texts.{text_nul}
 use Rattle.json_values.specs.Ordered.{is_ordered}
 use Rattle.cwl_emit.proofs.Exact.{process_exact}
 use Rattle.cwl_emit.proofs.Flows.{process_is}
 use Rattle.cwl_emit.proofs.process.process_text.Goals as goal
+use Rattle.json_laws.proofs.Texts.{text_nul}
 
 pub from_string-requires : goal.from_string-requires
 from_string-requires c =

@@ -1,6 +1,7 @@
 use Rattle.std.proofs.Common.{◌≡◌, Err, codes, arith}
-use Rattle.cwl_model.proofs.FieldLoops.{prefix_is, suffix_is, no_inputs, no_path, no_input, name_fault}
+use Rattle.cwl_model.proofs.FieldLoops.{suffix_is, no_inputs, no_path, no_input, name_fault}
 use Rattle.cwl_model.proofs.field.reference_of.Goals as goal
+use Rattle.wdl_base.proofs.PlaceLemmas.{stripped as prefix_is}
 
 pub returns-in_default : goal.returns-in_default
 returns-in_default c = no_inputs c.args.word.now (rw c.in_default.is at c.strip_prefix.ensures.cases)

@@ -3,8 +3,8 @@ use Rattle.json.specs.Print.{quoted}
 use Rattle.serde_json.specs.View.{view}
 use Rattle.serde_json.specs.Written.{compact_text, has_float}
 use Rattle.wdl_base.specs.Plain.{has_nul}
-use Rattle.wdl_json.proofs.Texts.{text_nul}
 use Rattle.input_form.proofs.line.quoted.Goals as goal
+use Rattle.json_laws.proofs.Texts.{text_nul}
 
 pub from_string-requires : goal.from_string-requires
 from_string-requires c =

@@ -2,8 +2,9 @@ use Rattle.std.proofs.Common.{false, ap, ◌≡◌, ◌∙◌}
 use Rattle.serde_json.specs.View.{view}
 use Rattle.serde_json.specs.Written.{compact_text, has_float}
 use Rattle.wdl_base.specs.Plain.{has_nul}
-use Rattle.wdl_json.proofs.Texts.{text_nul, value_exact}
+use Rattle.wdl_json.proofs.Texts.{value_exact}
 use Rattle.input_form.proofs.line.value_text.Goals as goal
+use Rattle.json_laws.proofs.Texts.{text_nul}
 
 pub from_string-requires : goal.from_string-requires
 from_string-requires c =

@@ -1,7 +1,7 @@
 use Rattle.std.proofs.Common.{◌≡◌, List, [], ap, ◌∙◌, subst}
 use Rattle.wdl_typed.specs.declared.flow.Statement.{Statement}
 use Rattle.wdl_typed.specs.declared.task.TInput.{TInput}
-use Rattle.plan_layout.specs.declared.scope.Scope.{Scope}
+use Rattle.plan_layout.specs.declared.scope.CellScope.{CellScope}
 use Rattle.plan_layout.specs.Laid.{input_needs, output_needs, with_inputs}
 use Rattle.plan_layout.specs.Steps.{LaysBody, scope_behind}
 use Rattle.plan_layout.proofs.Parts.{path_same}
@@ -10,8 +10,8 @@ use Rattle.plan_layout.proofs.flows.lay_flow.Goals as goal
 
 pub lay_outputs-requires : goal.lay_outputs-requires
 lay_outputs-requires c =
-    ap (λ (s : Scope). s.path) c.in_ok-body.ensures.behind ∙ path_same c.args.origin.now c.as_slice-body.result.now c.lay_inputs.new.scope c.len-before.result c.len-after.result
-    ∙ ap (λ (s : Scope). s.path) c.in_ok-inputs.ensures.seen
+    ap (λ (s : CellScope). s.path) c.in_ok-body.ensures.behind ∙ path_same c.args.origin.now c.as_slice-body.result.now c.lay_inputs.new.scope c.len-before.result c.len-after.result
+    ∙ ap (λ (s : CellScope). s.path) c.in_ok-inputs.ensures.seen
 
 pub returns : goal.returns
 returns c =
@@ -19,9 +19,9 @@ returns c =
     let f = c.args.def.now in
     let s = c.lay_inputs.new.scope in
     let start : s ≡ inputs_scope f =
-    c.in_ok-inputs.ensures.seen ∙ ap (λ (x : Scope). behind_inputs x c.as_slice.result.now) c.empty-scope.ensures ∙ ap (λ (is : List TInput). record { names = with_inputs [] is; calls = []; path = [] }) c.as_slice.ensures in
+    c.in_ok-inputs.ensures.seen ∙ ap (λ (x : CellScope). behind_inputs x c.as_slice.result.now) c.empty-scope.ensures ∙ ap (λ (is : List TInput). record { names = with_inputs [] is; calls = []; path = [] }) c.as_slice.ensures in
     let inputs =
-    c.in_ok-inputs.ensures.needs ∙ ap (λ (x : Scope). input_needs x.names c.as_slice.result.now) c.empty-scope.ensures ∙ ap (input_needs []) c.as_slice.ensures in
+    c.in_ok-inputs.ensures.needs ∙ ap (λ (x : CellScope). input_needs x.names c.as_slice.result.now) c.empty-scope.ensures ∙ ap (input_needs []) c.as_slice.ensures in
     let body =
     subst (λ (ss : List Statement). LaysBody o ss s.names s.calls s.path c.len-before.result c.len-after.result c.args.bodies.now c.lay_body.new.bodies c.in_ok-body.body) c.as_slice-body.ensures c.in_ok-body.ensures.laid in
     let behind =

@@ -1,10 +1,11 @@
 use Rattle.std.proofs.Common.{◌≡◌, ◌<◌, ◌≤◌, ℕ, ◌+◌, Some, false, true, length, slice_get, ap, sym, subst, ◌∙◌}
 use Rattle.std.proofs.lemmas.List.{length-map}
+use Rattle.std.proofs.lemmas.Option.{same_Some}
 use Rattle.wdl_typed.specs.Requests.{is_success}
 use Rattle.wdl_typed.specs.Statuses.{successes_of}
 use Rattle.wdl_task.specs.declared.request.Prepared.{Prepared}
 use Rattle.value_net.specs.Nets.{view}
-use Rattle.step_net.proofs.Gets.{get_map, some_same}
+use Rattle.step_net.proofs.Gets.{get_map}
 use Rattle.plan_steps.specs.Arriving.{CanConclude, IsTaken, goes_on}
 use Rattle.plan_steps.specs.Askings.{Call, call_of, calls, place_in}
 use Rattle.plan_steps.specs.Doing.{asks, field}
@@ -31,8 +32,8 @@ answer_taken-requires-clause-can g c =
     let found = c.in-Some.ensures in
     let inside : c.in-Some.at < length c.args.asking.now.asked.items = subst (λ (n : ℕ). c.in-Some.at < n) (length-map c.args.asking.now.asked.items call_of) (within (calls c.args.asking.now) c.in-Some.at found.0 found.1) in
     let t = c.take-prepared.ensures.ready in
-    let place : c.take-prepared.result.request.place ≡ c.args.place.now = some_same (sym c.take-prepared.ensures.place ∙ get_map place_in (calls c.args.asking.now) c.in-Some.at found.0 found.1) ∙ found.2 in
-    let own : call_of c.index.result.now ≡ found.0 = some_same (sym (call_there c.args.asking.now.asked.items c.in-Some.at c.index.result.now inside c.index.ensures) ∙ found.1) in
+    let place : c.take-prepared.result.request.place ≡ c.args.place.now = same_Some _ _ (sym c.take-prepared.ensures.place ∙ get_map place_in (calls c.args.asking.now) c.in-Some.at found.0 found.1) ∙ found.2 in
+    let own : call_of c.index.result.now ≡ found.0 = same_Some _ _ (sym (call_there c.args.asking.now.asked.items c.in-Some.at c.index.result.now inside c.index.ensures) ∙ found.1) in
     can_as c.args.ground.now.checked.now c.args.ground.now.layout.now (field c.args.growth.now) (view c.args.growth.now.entered.net).rules c.index.result.now.step found.0.step c.take-prepared.result (ap (λ (x : Call). x.step) own)
     (c.requires.can c.in-Some.at found.0 t.at c.take-prepared.result found.1 found.2 t.there place)
 
@@ -41,8 +42,8 @@ answer_taken-requires-clause-place g c =
     let found = c.in-Some.ensures in
     let inside : c.in-Some.at < length c.args.asking.now.asked.items = subst (λ (n : ℕ). c.in-Some.at < n) (length-map c.args.asking.now.asked.items call_of) (within (calls c.args.asking.now) c.in-Some.at found.0 found.1) in
     let t = c.take-prepared.ensures.ready in
-    let place : c.take-prepared.result.request.place ≡ c.args.place.now = some_same (sym c.take-prepared.ensures.place ∙ get_map place_in (calls c.args.asking.now) c.in-Some.at found.0 found.1) ∙ found.2 in
-    let own : call_of c.index.result.now ≡ found.0 = some_same (sym (call_there c.args.asking.now.asked.items c.in-Some.at c.index.result.now inside c.index.ensures) ∙ found.1) in
+    let place : c.take-prepared.result.request.place ≡ c.args.place.now = same_Some _ _ (sym c.take-prepared.ensures.place ∙ get_map place_in (calls c.args.asking.now) c.in-Some.at found.0 found.1) ∙ found.2 in
+    let own : call_of c.index.result.now ≡ found.0 = same_Some _ _ (sym (call_there c.args.asking.now.asked.items c.in-Some.at c.index.result.now inside c.index.ensures) ∙ found.1) in
     get_map place_in (calls c.take-prepared.new.self) c.in-Some.at _ (c.take-prepared.ensures.calls.here found.0 found.1) ∙ ap Some (found.2 ∙ sym place)
 
 pub returns-clause-done : goal.returns-clause-done
@@ -50,11 +51,11 @@ returns-clause-done g c = λ at d j p i k call same there waits ruled.
     let found = c.in-Some.ensures in
     let inside : c.in-Some.at < length c.args.asking.now.asked.items = subst (λ (n : ℕ). c.in-Some.at < n) (length-map c.args.asking.now.asked.items call_of) (within (calls c.args.asking.now) c.in-Some.at found.0 found.1) in
     let t = c.take-prepared.ensures.ready in
-    let place : c.take-prepared.result.request.place ≡ c.args.place.now = some_same (sym c.take-prepared.ensures.place ∙ get_map place_in (calls c.args.asking.now) c.in-Some.at found.0 found.1) ∙ found.2 in
-    let own : call_of c.index.result.now ≡ found.0 = some_same (sym (call_there c.args.asking.now.asked.items c.in-Some.at c.index.result.now inside c.index.ensures) ∙ found.1) in
+    let place : c.take-prepared.result.request.place ≡ c.args.place.now = same_Some _ _ (sym c.take-prepared.ensures.place ∙ get_map place_in (calls c.args.asking.now) c.in-Some.at found.0 found.1) ∙ found.2 in
+    let own : call_of c.index.result.now ≡ found.0 = same_Some _ _ (sym (call_there c.args.asking.now.asked.items c.in-Some.at c.index.result.now inside c.index.ensures) ∙ found.1) in
     let one : c.take-prepared.result ≡ p = one_ready c.args.asking.now.ready.items c.args.asking.now.owners.items c.args.asking.now.asked.items c.args.asking.now.marks c.requires.asking t.at j c.take-prepared.result p t.there there (place ∙ sym waits) in
     let here : c.in-Some.at ≡ at = one_at c.args.asking.now.ready.items c.args.asking.now.owners.items c.args.asking.now.asked.items c.args.asking.now.marks c.requires.asking c.in-Some.at at found.0 d found.1 call (found.2 ∙ sym same) in
-    let step : d.step ≡ c.index.result.now.step = ap (λ (x : Call). x.step) (some_same (sym call ∙ ap (slice_get (calls c.args.asking.now)) (sym here) ∙ found.1) ∙ sym own) in
+    let step : d.step ≡ c.index.result.now.step = ap (λ (x : Call). x.step) (same_Some _ _ (sym call ∙ ap (slice_get (calls c.args.asking.now)) (sym here) ∙ found.1) ∙ sym own) in
     let taken : IsTaken c.in-Some.at c.take-prepared.result (asks c.args.asking.now) (asks c.take-prepared.new.self) = record { ready = t; calls = c.take-prepared.ensures.calls; jobs = c.take-prepared.ensures.jobs } in
     passes_as _ _ _ _ c.answer_taken.result
     (λ h. (
@@ -70,11 +71,11 @@ returns-clause-steps g c = λ at d j p i k call same there waits ruled h.
     let found = c.in-Some.ensures in
     let inside : c.in-Some.at < length c.args.asking.now.asked.items = subst (λ (n : ℕ). c.in-Some.at < n) (length-map c.args.asking.now.asked.items call_of) (within (calls c.args.asking.now) c.in-Some.at found.0 found.1) in
     let t = c.take-prepared.ensures.ready in
-    let place : c.take-prepared.result.request.place ≡ c.args.place.now = some_same (sym c.take-prepared.ensures.place ∙ get_map place_in (calls c.args.asking.now) c.in-Some.at found.0 found.1) ∙ found.2 in
-    let own : call_of c.index.result.now ≡ found.0 = some_same (sym (call_there c.args.asking.now.asked.items c.in-Some.at c.index.result.now inside c.index.ensures) ∙ found.1) in
+    let place : c.take-prepared.result.request.place ≡ c.args.place.now = same_Some _ _ (sym c.take-prepared.ensures.place ∙ get_map place_in (calls c.args.asking.now) c.in-Some.at found.0 found.1) ∙ found.2 in
+    let own : call_of c.index.result.now ≡ found.0 = same_Some _ _ (sym (call_there c.args.asking.now.asked.items c.in-Some.at c.index.result.now inside c.index.ensures) ∙ found.1) in
     let one : c.take-prepared.result ≡ p = one_ready c.args.asking.now.ready.items c.args.asking.now.owners.items c.args.asking.now.asked.items c.args.asking.now.marks c.requires.asking t.at j c.take-prepared.result p t.there there (place ∙ sym waits) in
     let here : c.in-Some.at ≡ at = one_at c.args.asking.now.ready.items c.args.asking.now.owners.items c.args.asking.now.asked.items c.args.asking.now.marks c.requires.asking c.in-Some.at at found.0 d found.1 call (found.2 ∙ sym same) in
-    let step : d.step ≡ c.index.result.now.step = ap (λ (x : Call). x.step) (some_same (sym call ∙ ap (slice_get (calls c.args.asking.now)) (sym here) ∙ found.1) ∙ sym own) in
+    let step : d.step ≡ c.index.result.now.step = ap (λ (x : Call). x.step) (same_Some _ _ (sym call ∙ ap (slice_get (calls c.args.asking.now)) (sym here) ∙ found.1) ∙ sym own) in
     subst (λ (x : Prepared). (y : CanConclude c.args.ground.now.checked.now c.args.ground.now.layout.now (field c.args.growth.now) i k x) → c.answer_taken.new.steps ≤ c.args.steps.now + length y.task.outputs) one
     (c.answer_taken.ensures.steps i k (ap (slice_get (view c.args.growth.now.entered.net).rules) (sym step) ∙ ruled)) h
 
@@ -82,6 +83,6 @@ pub returns-clause-same : goal.returns-clause-same
 returns-clause-same g c = λ j p there waits not.
     let found = c.in-Some.ensures in
     let t = c.take-prepared.ensures.ready in
-    let place : c.take-prepared.result.request.place ≡ c.args.place.now = some_same (sym c.take-prepared.ensures.place ∙ get_map place_in (calls c.args.asking.now) c.in-Some.at found.0 found.1) ∙ found.2 in
+    let place : c.take-prepared.result.request.place ≡ c.args.place.now = same_Some _ _ (sym c.take-prepared.ensures.place ∙ get_map place_in (calls c.args.asking.now) c.in-Some.at found.0 found.1) ∙ found.2 in
     let one : c.take-prepared.result ≡ p = one_ready c.args.asking.now.ready.items c.args.asking.now.owners.items c.args.asking.now.asked.items c.args.asking.now.marks c.requires.asking t.at j c.take-prepared.result p t.there there (place ∙ sym waits) in
     c.answer_taken.ensures.same (subst (λ (x : Prepared). is_success (successes_of x.codes) c.args.answer.now.status ≡ false) (sym one) not)

@@ -1,8 +1,8 @@
 use Rattle.std.proofs.Common.{◌≡◌, refl, subst, sym, ◌∙◌}
+use Rattle.std.proofs.lemmas.Option.{same_Some}
 use Rattle.plan_growth.specs.declared.rule.Rule.{Rule}
 use Rattle.plan_steps.specs.Doing.{state}
 use Rattle.plan_growth.specs.declared.rule.Rule.TheVariants as rule
-use Rattle.step_net.proofs.Gets.{some_same}
 use Rattle.plan_steps.specs.Passes.{Passes}
 use Rattle.plan_steps.specs.Stepping.{CanTake, Did, IsPastStep}
 use Rattle.plan_steps.proofs.Standing.{passes_as}
@@ -37,7 +37,7 @@ copy-requires-clause-set g c = let h = subst (λ (r : Rule). CanTake c.args.grou
 
 pub returns-in-Input-clause-done : goal.returns-in-Input-clause-done
 returns-in-Input-clause-done g c = λ r there.
-    let same : rule.Input c.in-Input.instance c.in-Input.input ≡ r = sym c.in-Input.is ∙ some_same (sym c.rule.ensures ∙ there) in
+    let same : rule.Input c.in-Input.instance c.in-Input.input ≡ r = sym c.in-Input.is ∙ same_Some _ _ (sym c.rule.ensures ∙ there) in
     let ground = c.args.ground.now in
     let old = state c.args.growth.now c.args.asking.now in
     let new = state c.take_input.new.growth c.args.asking.now in

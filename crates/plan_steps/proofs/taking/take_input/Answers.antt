@@ -1,10 +1,10 @@
 use Rattle.std.proofs.Common.{◌≡◌, slice_get, ap, refl, sym, ◌∙◌}
+use Rattle.std.proofs.lemmas.Option.{same_Some}
 use Rattle.wdl_typed.specs.declared.flow.FlowDef.{FlowDef}
 use Rattle.wdl_typed.specs.declared.task.TInput.{TInput}
 use Rattle.value_net.specs.Nets.{view}
 use Rattle.plan_layout.specs.declared.layout.BodyLayout.{BodyLayout}
 use Rattle.plan_layout.specs.declared.layout.FlowLayout.{FlowLayout}
-use Rattle.step_net.proofs.Gets.{some_same}
 use Rattle.plan_steps.specs.Doing.{field}
 use Rattle.plan_steps.proofs.Standing.{declared_as, found_same, ready_as, same_bases, same_place_in}
 use Rattle.plan_steps.proofs.taking.take_input.Goals as goal
@@ -33,7 +33,7 @@ declare-requires-clause-ready g c =
     c.as_slice-needs.ensures ∙ found_same l.inputs c.as_slice-2.result.now c.args.input needs c.index-as_slice-input.result (c.as_slice-2.ensures ∙ ap (λ (z : FlowLayout). z.inputs) (sym c.index-as_slice-flow.is ∙ line)) at.needs_there c.index-as_slice-input.is in
     let decl : c.index-as_slice-input-2.result ≡ x =
     found_same f.inputs c.as_slice-4.result.now c.args.input x c.index-as_slice-input-2.result (c.as_slice-4.ensures ∙ ap (λ (z : FlowDef). z.inputs) (sym c.index-as_slice-flow-2.is ∙ flow)) at.input c.index-as_slice-input-2.is in
-    let value : c.in-Some.value ≡ e = some_same (sym c.in-Some.is ∙ ap (λ (z : TInput). z.value) decl ∙ at.default_is) in
+    let value : c.in-Some.value ≡ e = same_Some _ _ (sym c.in-Some.is ∙ ap (λ (z : TInput). z.value) decl ∙ at.default_is) in
     ready_as (view c.args.growth.now.entered.net) c.as_slice-bases.result.now q.bases c.as_slice-needs.result.now needs c.in-Some.value e bases own value h.can.ready
 
 pub returns-clause-done : goal.returns-clause-done
@@ -51,6 +51,6 @@ returns-clause-done g c = λ q b f l x e needs at.
     c.as_slice-needs.ensures ∙ found_same l.inputs c.as_slice-2.result.now c.args.input needs c.index-as_slice-input.result (c.as_slice-2.ensures ∙ ap (λ (z : FlowLayout). z.inputs) (sym c.index-as_slice-flow.is ∙ line)) at.needs_there c.index-as_slice-input.is in
     let decl : c.index-as_slice-input-2.result ≡ x =
     found_same f.inputs c.as_slice-4.result.now c.args.input x c.index-as_slice-input-2.result (c.as_slice-4.ensures ∙ ap (λ (z : FlowDef). z.inputs) (sym c.index-as_slice-flow-2.is ∙ flow)) at.input c.index-as_slice-input-2.is in
-    let value : c.in-Some.value ≡ e = some_same (sym c.in-Some.is ∙ ap (λ (z : TInput). z.value) decl ∙ at.default_is) in
+    let value : c.in-Some.value ≡ e = same_Some _ _ (sym c.in-Some.is ∙ ap (λ (z : TInput). z.value) decl ∙ at.default_is) in
     declared_as (field c.args.growth.now) (field c.declare.new.growth) c.as_slice-bases.result.now q.bases c.args.input c.args.input c.in_ok-spot.spot.place q.place c.index-as_slice-input-2.result.name x.name c.as_slice-needs.result.now needs c.in-Some.value e
     bases refl place (ap (λ (z : TInput). z.name) decl) own value c.in_ok-declare.ensures.done

@@ -1,7 +1,7 @@
 use Rattle.std.proofs.Common.{map, subst, rules}
 use Rattle.wdl_value.specs.Fits.{Structs}
 use Rattle.wdl_bundle.specs.Called.{all_offers}
-use Rattle.wdl_bundle.specs.Documents.{known_of}
+use Rattle.struct_names.specs.Known.{known_of}
 use Rattle.wdl_bundle.proofs.Whole.{Right, moved}
 use Rattle.wdl_bundle.proofs.bundling.bundle.Goals as goal
 

@@ -1,6 +1,6 @@
 use Rattle.std.proofs.Common.{◌≡◌, ◌++◌, drop, map}
 use Rattle.wdl_bundle.specs.StructSections.{all_declared, declared_of}
-use Rattle.wdl_bundle.specs.Documents.{known_of}
+use Rattle.struct_names.specs.Known.{known_of}
 use Rattle.wdl_bundle.proofs.structs.all_declared.Given as goal
 
 abbrev pub invariant-loop-known : goal.invariant-loop-known

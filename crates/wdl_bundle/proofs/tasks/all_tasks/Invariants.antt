@@ -1,6 +1,6 @@
 use Rattle.std.proofs.Common.{◌≡◌, ◌++◌, drop, map}
 use Rattle.wdl_bundle.specs.Called.{all_tasks, task_of}
-use Rattle.wdl_bundle.specs.Documents.{known_of}
+use Rattle.struct_names.specs.Known.{known_of}
 use Rattle.wdl_bundle.proofs.tasks.all_tasks.Given as goal
 
 abbrev pub invariant-loop-doc : goal.invariant-loop-doc

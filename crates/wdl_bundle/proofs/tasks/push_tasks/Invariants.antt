@@ -1,7 +1,7 @@
 use Rattle.std.proofs.Common.{◌≡◌, ◌≤◌, ◌++◌, drop, map}
 use Rattle.wdl_check_rules.specs.Locals.{stands_for}
 use Rattle.wdl_bundle.specs.Called.{task_of, tasks_from, tasks_in, tasks_of}
-use Rattle.wdl_bundle.specs.Documents.{known_of}
+use Rattle.struct_names.specs.Known.{known_of}
 use Rattle.wdl_bundle.proofs.tasks.push_tasks.Given as goal
 
 abbrev pub invariant-loop-section : goal.invariant-loop-section

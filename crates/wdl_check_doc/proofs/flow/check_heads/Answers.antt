@@ -1,7 +1,8 @@
 use Rattle.std.proofs.Common.{◌+◌, ◌∙◌, ap, drop, map, rules}
 use Rattle.wdl_check_doc.specs.Runnables.{flow_of, headed_of}
-use Rattle.wdl_check_doc.proofs.Lists.{each_end, each_err, each_on_to, drop_at, drop_end, mapped_more}
+use Rattle.wdl_check_doc.proofs.Lists.{each_end, each_err, each_on_to, drop_end, mapped_more}
 use Rattle.wdl_check_doc.proofs.flow.check_heads.Goals as goal
+use Rattle.wdl_check_rules.proofs.MemberLaws.{at_front as drop_at}
 
 pub returns-in_err-check_head_in : goal.returns-in_err-check_head_in
 returns-in_err-check_head_in c =

@@ -1,5 +1,5 @@
 use Rattle.std.proofs.Common.{map, rules}
-use Rattle.wdl_check_doc.specs.Known.{known_of}
+use Rattle.struct_names.specs.Known.{known_of}
 use Rattle.wdl_check_doc.specs.Parts.{part_of}
 use Rattle.wdl_check_doc.proofs.Documents.{answers_typed}
 use Rattle.wdl_check_doc.proofs.library.check_library.Goals as goal

@@ -1,6 +1,7 @@
 use Rattle.std.proofs.Common.{◌+◌, drop, rules}
-use Rattle.wdl_check_doc.proofs.Lists.{all_end, all_err, all_on, drop_at, drop_end}
+use Rattle.wdl_check_doc.proofs.Lists.{all_end, all_err, all_on, drop_end}
 use Rattle.wdl_check_doc.proofs.nesting.check_each.Goals as goal
+use Rattle.wdl_check_rules.proofs.MemberLaws.{at_front as drop_at}
 
 pub returns-in_err-check_flow : goal.returns-in_err-check_flow
 returns-in_err-check_flow c =

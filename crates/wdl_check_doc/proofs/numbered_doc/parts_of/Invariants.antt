@@ -1,5 +1,6 @@
 use Rattle.std.proofs.Common.{◌≡◌, ◌++◌, drop, map}
-use Rattle.wdl_check_doc.specs.Known.{known_of, parts_from}
+use Rattle.struct_names.specs.Known.{known_of}
+use Rattle.wdl_check_doc.specs.Known.{parts_from}
 use Rattle.wdl_check_doc.specs.Parts.{part_of}
 use Rattle.wdl_check_doc.proofs.numbered_doc.parts_of.Given as goal
 

@@ -1,7 +1,8 @@
 use Rattle.std.proofs.Common.{◌+◌, ap, drop, map, rules}
 use Rattle.wdl_check_doc.specs.Parts.{part_of}
-use Rattle.wdl_check_doc.proofs.Lists.{all_end, all_err, all_on, drop_at, drop_end}
+use Rattle.wdl_check_doc.proofs.Lists.{all_end, all_err, all_on, drop_end}
 use Rattle.wdl_check_doc.proofs.shallow.check_parts.Goals as goal
+use Rattle.wdl_check_rules.proofs.MemberLaws.{at_front as drop_at}
 
 pub returns-in_err-check_part : goal.returns-in_err-check_part
 returns-in_err-check_part c =

@@ -1,7 +1,8 @@
 use Rattle.std.proofs.Common.{◌+◌, ap, drop, map, rules}
 use Rattle.wdl_check_doc.specs.Runnables.{task_of}
-use Rattle.wdl_check_doc.proofs.Lists.{each_end, each_err, each_on_to, drop_at, drop_end}
+use Rattle.wdl_check_doc.proofs.Lists.{each_end, each_err, each_on_to, drop_end}
 use Rattle.wdl_check_doc.proofs.task.check_tasks.Goals as goal
+use Rattle.wdl_check_rules.proofs.MemberLaws.{at_front as drop_at}
 
 pub returns-in_err-check_task_in : goal.returns-in_err-check_task_in
 returns-in_err-check_task_in c =

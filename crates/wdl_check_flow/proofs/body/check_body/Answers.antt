@@ -6,8 +6,9 @@ use Rattle.wdl_check_flow.specs.Numbers.{numbers_of}
 use Rattle.wdl_check_flow.specs.Stating.{StatesBody}
 use Rattle.wdl_check_flow.specs.Targets.{place_of}
 use Rattle.wdl_check_flow.proofs.BodyLaws.{body_out, body_stated, body_unordered, in_order, order_is, runs_end, runs_on, runs_out, runs_past_number, runs_past_statement, runs_start}
-use Rattle.wdl_check_flow.proofs.ListLaws.{mapped_none, mapped_some, not_there, position_read, there}
+use Rattle.wdl_check_flow.proofs.ListLaws.{mapped_none, not_there, position_read, there}
 use Rattle.wdl_check_flow.proofs.body.check_body.Goals as goal
+use Rattle.wdl_base.proofs.Options.{map_there}
 
 pub loop-position-init : goal.loop-position-init
 loop-position-init c =
@@ -31,7 +32,7 @@ loop-position-preserved-in_default-get c =
 pub loop-position-preserved : goal.loop-position-preserved
 loop-position-preserved c =
     runs_on (place_of c.args.context.now) (map (λ s. s.now) c.args.body.now) c.in_ok-numbers.numbers c.as_slice-position-items.result.now (seen_of c.args.visible.now) (in_order (place_of c.args.context.now) (map (λ s. s.now) c.args.body.now) c.in_ok-numbers.numbers (seen_of c.args.visible.now) c.as_slice-position-items.result.now) c.loop-position.position-index (get_or c.as_slice-position-items.result.now c.loop-position.position-index 0) c.in-Some-get.number.now c.in-Some.statement.now.now (seen_of c.loop-position.visible) c.loop-position.done c.loop-position-test.true (position_read c.as_slice-position-items.result.now c.loop-position.position-index c.loop-position-test.true)
-    (mapped_some (λ s. s.now) c.args.body.now (get_or c.as_slice-position-items.result.now c.loop-position.position-index 0) c.in-Some.statement.now (there c.args.body.now (get_or c.as_slice-position-items.result.now c.loop-position.position-index 0) c.in-Some.statement c.in-Some.ensures.lookup)) (sym c.in-Some-get.ensures.value) c.loop-position.invariant
+    (map_there (λ s. s.now) c.args.body.now (get_or c.as_slice-position-items.result.now c.loop-position.position-index 0) c.in-Some.statement.now (there c.args.body.now (get_or c.as_slice-position-items.result.now c.loop-position.position-index 0) c.in-Some.statement c.in-Some.ensures.lookup)) (sym c.in-Some-get.ensures.value) c.loop-position.invariant
     (seen_of c.check_statement.new.visible) c.push.new.self c.in_ok-check_statement.field-0 c.in_ok-check_statement.ensures c.in_ok-push.ensures.ok
 
 pub returns-in_err-check_statement : goal.returns-in_err-check_statement
@@ -42,7 +43,7 @@ returns-in_err-check_statement c =
     subst (λ r. StatesBody (statements_typed (place_of c.args.context.now) (map (λ s. s.now) c.args.body.now) (seen_of c.args.visible.now)) (seen_of c.args.visible.now) (seen_of c.check_statement.new.visible) r) (sym gone)
     (body_out (place_of c.args.context.now) (map (λ s. s.now) c.args.body.now) c.in_ok-numbers.numbers c.as_slice-position-items.result.now (seen_of c.args.visible.now) (seen_of c.check_statement.new.visible) c.in_err-check_statement.field-0.0 numbers (ap (λ (o : Outcome (List ℕ)). o.typed) (sym same) ∙ c.in_ok-positions.ensures ∙ ap Some (sym c.as_slice-position-items.ensures))
     (runs_out (place_of c.args.context.now) (map (λ s. s.now) c.args.body.now) c.in_ok-numbers.numbers c.as_slice-position-items.result.now (seen_of c.args.visible.now) (in_order (place_of c.args.context.now) (map (λ s. s.now) c.args.body.now) c.in_ok-numbers.numbers (seen_of c.args.visible.now) c.as_slice-position-items.result.now) c.loop-position.position-index (get_or c.as_slice-position-items.result.now c.loop-position.position-index 0) c.in-Some-get.number.now c.in-Some.statement.now.now (seen_of c.loop-position.visible) c.loop-position.done c.loop-position-test.true (position_read c.as_slice-position-items.result.now c.loop-position.position-index c.loop-position-test.true)
-    (mapped_some (λ s. s.now) c.args.body.now (get_or c.as_slice-position-items.result.now c.loop-position.position-index 0) c.in-Some.statement.now (there c.args.body.now (get_or c.as_slice-position-items.result.now c.loop-position.position-index 0) c.in-Some.statement c.in-Some.ensures.lookup)) (sym c.in-Some-get.ensures.value) c.loop-position.invariant c.in_err-check_statement.field-0.0 c.in_err-check_statement.ensures))
+    (map_there (λ s. s.now) c.args.body.now (get_or c.as_slice-position-items.result.now c.loop-position.position-index 0) c.in-Some.statement.now (there c.args.body.now (get_or c.as_slice-position-items.result.now c.loop-position.position-index 0) c.in-Some.statement c.in-Some.ensures.lookup)) (sym c.in-Some-get.ensures.value) c.loop-position.invariant c.in_err-check_statement.field-0.0 c.in_err-check_statement.ensures))
 
 pub returns : goal.returns
 returns c =

@@ -11,8 +11,9 @@ use Rattle.wdl_check_order.specs.Ordered.{ordered}
 use Rattle.wdl_check_decls.specs.Expressions.{world}
 use Rattle.wdl_check_decls.proofs.ListLaws.{Leads, ends, fails, goes_on, passes}
 use Rattle.wdl_check_flow.specs.Flows.{result_typed, results_behind, results_typed}
-use Rattle.wdl_check_flow.proofs.ListLaws.{map-map, mapped_none, mapped_some, not_there, there}
+use Rattle.wdl_check_flow.proofs.ListLaws.{map-map, mapped_none, not_there, there}
 use Rattle.wdl_check_flow.proofs.flow.check_results.Goals as goal
+use Rattle.wdl_base.proofs.Options.{map_there}
 
 pub returns-in_err-positions : goal.returns-in_err-positions
 returns-in_err-positions c =
@@ -53,7 +54,7 @@ returns-in_err-check_result c =
     (subst (λ (o : Outcome (List ℕ)). o.typed ≡ Some ps) order (c.in_ok-positions.ensures ∙ ap Some (sym c.as_slice-position-items.ensures)))
     (fails (λ before d. result_typed w d) (results_behind w) (λ b d r. refl) (λ b. refl)
     ds ps i c.loop-position.done (results_behind w [] (picked ds ps)) c.loop-position.invariant c.in-Some.output.now.now e c.loop-position-test.true
-    (mapped_some (λ d. d.now) c.args.list.now (get_or ps i 0) c.in-Some.output.now (there c.args.list.now (get_or ps i 0) c.in-Some.output c.in-Some.ensures.lookup)) c.in_err-check_result.ensures))
+    (map_there (λ d. d.now) c.args.list.now (get_or ps i 0) c.in-Some.output.now (there c.args.list.now (get_or ps i 0) c.in-Some.output c.in-Some.ensures.lookup)) c.in_err-check_result.ensures))
 
 pub loop-position-preserved : goal.loop-position-preserved
 loop-position-preserved c =
@@ -65,7 +66,7 @@ loop-position-preserved c =
     subst (λ (ms : List Member). Leads (results_behind w ms (picked ds (drop (i + 1) ps))) whole) (sym c.in_ok-push.ensures.ok)
     (goes_on (λ before d. result_typed w d) (results_behind w) (λ b d r. refl) (λ b. refl)
     ds ps i c.loop-position.done whole c.loop-position.invariant c.in-Some.output.now.now c.in_ok-check_result.field-0 c.loop-position-test.true
-    (mapped_some (λ d. d.now) c.args.list.now (get_or ps i 0) c.in-Some.output.now (there c.args.list.now (get_or ps i 0) c.in-Some.output c.in-Some.ensures.lookup)) c.in_ok-check_result.ensures)
+    (map_there (λ d. d.now) c.args.list.now (get_or ps i 0) c.in-Some.output.now (there c.args.list.now (get_or ps i 0) c.in-Some.output c.in-Some.ensures.lookup)) c.in_ok-check_result.ensures)
 
 pub returns : goal.returns
 returns c =

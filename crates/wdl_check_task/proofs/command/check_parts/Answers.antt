@@ -8,8 +8,8 @@ use Rattle.wdl_check_types.specs.Outcome.{Answers}
 use Rattle.wdl_check_decls.specs.Expressions.{world}
 use Rattle.wdl_check_decls.proofs.ListLaws.{Leads, leads_done, leads_err, leads_on}
 use Rattle.wdl_check_task.specs.Command.{part_typed, parts_behind}
-use Rattle.wdl_check_task.proofs.Loops.{left}
 use Rattle.wdl_check_task.proofs.command.check_parts.Goals as goal
+use Rattle.wdl_check_rules.proofs.MemberLaws.{at_front as left}
 
 pub returns-in_err-check_part : goal.returns-in_err-check_part
 returns-in_err-check_part c =

@@ -55,7 +55,7 @@ digits_some z digits text r len b d n t fits h =
     let same : digits_len r.0 digits ≡ digits_len (base_of z).0 (drop (base_of z).1 z) = ap (digits_len r.0) d ∙ ap (λ (x : ℕ × ℕ). digits_len x.0 (drop x.1 z)) b in
     omega (arith, some, same, n, ap length t, length-take-le len digits fits)
 
-fails : (r : Result Found Flaw) (end : ℕ) (s : Rattle.wdl_lex.specs.declared.fault.Stop.Stop) → r ≡ Err (flaw 106 0 end) → s ≡ Rattle.wdl_lex.specs.Reading.Code.flawed 106 end → Rattle.wdl_lex.specs.Reading.Code.Fails r s
+fails : (r : Result Found Flaw) (end : ℕ) (s : Rattle.wdl_lex.specs.declared.fault.NoToken.NoToken) → r ≡ Err (flaw 106 0 end) → s ≡ Rattle.wdl_lex.specs.Reading.Code.flawed 106 end → Rattle.wdl_lex.specs.Reading.Code.Fails r s
 fails r end s e q = subst (Rattle.wdl_lex.specs.Reading.Code.Fails r) (sym q) e
 
 pub returns-in-Err : goal.returns-in-Err

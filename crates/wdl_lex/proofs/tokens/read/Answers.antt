@@ -4,8 +4,8 @@ use Rattle.std.specs.Str.{IsUtf8}
 use Rattle.wdl_ast.specs.declared.token.Token.{Token}
 use Rattle.wdl_ast.specs.Spelled.{Open, inside, after, is_command, span_at}
 use Rattle.wdl_ast.specs.Spelled.Classes.{Bytes}
-use Rattle.wdl_lex.specs.declared.fault.Stop.{Stop}
-use Rattle.wdl_lex.specs.declared.fault.Stop.TheVariants as stop
+use Rattle.wdl_lex.specs.declared.fault.NoToken.{NoToken}
+use Rattle.wdl_lex.specs.declared.fault.NoToken.TheVariants as stop
 use Rattle.wdl_lex.specs.declared.fault.LexFault.{LexFault}
 use Rattle.wdl_lex.specs.declared.fault.LexFault.TheVariants as lex_fault
 use Rattle.wdl_lex.specs.declared.fault.Flaw.{Flaw}
@@ -52,7 +52,7 @@ token-requires c =
     let gap_is : c.gap.result ≡ gap c.loop-turn.opened (drop c.loop-turn.at c.args.z.now) = c.gap.ensures.value ∙ ap (gap c.loop-turn.opened) c.behind.ensures in
     subst IsUtf8 (sym c.behind-in-loop-turn.ensures) (start_utf8 c.args.z.now c.loop-turn.opened c.loop-turn.at c.gap.result gap_is c.loop-turn.invariant.utf8)
 
-near : (awaits : Bool) (opened : Open) (y : Bytes) (n : ℕ) (s : Stop) → 0 < length y → length y ≤ n → code.Fails (token true awaits opened y) s → IsNear n s
+near : (awaits : Bool) (opened : Open) (y : Bytes) (n : ℕ) (s : NoToken) → 0 < length y → length y ≤ n → code.Fails (token true awaits opened y) s → IsNear n s
 near awaits opened y n stop.NoMemory some fits h = tt
 near awaits opened y n (stop.Flaw f) some fits h = let t = token_flaw true awaits opened y some f h in (omega (arith, t.0), omega (arith, t.1))
 
@@ -62,7 +62,7 @@ stopped-requires-clause-near c =
     (omega (arith, ap length c.behind-in-loop-turn.ensures, length-drop (c.loop-turn.at + c.gap.result) c.args.z.now, c.gap.ensures.within, ap length c.behind.ensures, length-drop c.loop-turn.at c.args.z.now))
     (omega (arith, ap length c.behind-in-loop-turn.ensures, length-drop (c.loop-turn.at + c.gap.result) c.args.z.now)) c.in-Err.ensures
 
-fails : (doc at : ℕ) (r : Texts) (t : Result Found Flaw) (s : Stop) (e : LexFault) → ((f : Flaw) → t ≡ Err f → r ≡ Err (fault_at doc at f)) → code.Fails t s → e ≡ stopped doc at s → Fails r e
+fails : (doc at : ℕ) (r : Texts) (t : Result Found Flaw) (s : NoToken) (e : LexFault) → ((f : Flaw) → t ≡ Err f → r ≡ Err (fault_at doc at f)) → code.Fails t s → e ≡ stopped doc at s → Fails r e
 fails doc at r t stop.NoMemory e g h q = subst (Fails r) (sym q) tt
 fails doc at r t (stop.Flaw f) e g h q = subst (Fails r) (sym q) (g f h)
 

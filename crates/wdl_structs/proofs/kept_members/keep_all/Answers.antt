@@ -10,10 +10,11 @@ use Rattle.wdl_structs.specs.Tables.{names_of}
 use Rattle.wdl_structs.specs.Nodes.{start, total, all_among}
 use Rattle.wdl_structs.specs.Kept.{KeepsFrom, DiffersFrom}
 use Rattle.wdl_structs.proofs.KeptLaws.{keeping_none, keeping_done}
-use Rattle.wdl_structs.proofs.KeepSteps.{docs_more, docs_fault, keeps_doc, start_next, start_none, all_done, all_fault, names_doc, names_length}
+use Rattle.wdl_structs.proofs.KeepSteps.{docs_more, docs_fault, keeps_doc, start_next, all_done, all_fault, names_doc, names_length}
 use Rattle.wdl_structs.proofs.NodeLaws.{room_at}
 use Rattle.wdl_structs.proofs.TableLaws.{named_length}
 use Rattle.wdl_structs.proofs.kept_members.keep_all.Goals as goal
+use Rattle.wdl_structs.proofs.IdentityLaws.{start_zero as start_none}
 
 pub loop-number-init : goal.loop-number-init
 loop-number-init c =

@@ -5,7 +5,7 @@ use Rattle.wdl_typed.specs.Bodies.{Giving, Seen, body_gives, gives, joined, stat
 use Rattle.wdl_well_typed.specs.Blocks.{if_gives}
 use Rattle.wdl_well_typed.specs.Calls.{library_of}
 use Rattle.wdl_well_typed.specs.Given.{given, seen}
-use Rattle.wdl_well_typed.specs.declared.given.Given.{Given}
+use Rattle.wdl_well_typed.specs.declared.given.YieldedTypes.{YieldedTypes}
 use Rattle.wdl_well_typed.proofs.GivenLemmas.{body_goes}
 use Rattle.wdl_well_typed.proofs.ListLemmas.{drop_item}
 use Rattle.wdl_well_typed.proofs.bodies.+gives.Goals as goal
@@ -18,12 +18,12 @@ body_gives-loop-statement-preserved t c =
     (drop_item c.args.body.now c.loop-statement.statement-index c.statement-item.result c.loop-statement-test.true c.statement-item.is)
     (sym c.in_ok-more.ensures.gives ∙ ap (option_map given) c.in-Some.is)
     (c.in_ok-enter.ensures
-    ∙ ap (λ z. joined z (given c.in-Some.more)) (c.in_ok-more.ensures.kept (subst (λ (o : Option Given). IsSome o) (sym c.in-Some.is) refl)))
+    ∙ ap (λ z. joined z (given c.in-Some.more)) (c.in_ok-more.ensures.kept (subst (λ (o : Option YieldedTypes). IsSome o) (sym c.in-Some.is) refl)))
     c.in_ok-append.ensures c.loop-statement.invariant.0 c.loop-statement.invariant.1
 
 pub statement_gives-returns-in-If-clause-gives : goal.statement_gives-returns-in-If-clause-gives
 statement_gives-returns-in-If-clause-gives t c =
-    subst (λ (z : Option Seen). IfOk c.if_gives.result (λ (g : Option Given). option_map given g ≡ z))
+    subst (λ (z : Option Seen). IfOk c.if_gives.result (λ (g : Option YieldedTypes). option_map given g ≡ z))
     (ap (λ ss. if_gives (library_of c.args.library.now) ss c.in-If.i.cond (seen c.args.scope.now)) c.as_slice-in-If.ensures
     ∙ sym (ap (λ (s : Statement). gives (library_of c.args.library.now) s (seen c.args.scope.now)) c.in-If.is
     ∙ ap (λ (f : Giving). f (seen c.args.scope.now)) (fold_out-Statement Giving (statement_step (library_of c.args.library.now)) (stmt.If c.in-If.i))

@@ -1,7 +1,8 @@
 use Rattle.std.proofs.Common.{◌∙◌}
 use Rattle.wdl_port.specs.Causes.{Rose}
-use Rattle.workflow_stages.proofs.Started.{checked_in, is_numbered, given_before, main_prepare, rose_later, stops_before}
+use Rattle.workflow_stages.proofs.Started.{checked_in, is_numbered, given_before, main_prepare, stops_before}
 use Rattle.workflow_stages.proofs.prepare.start_of.Goals as goal
+use Rattle.wdl_sources.proofs.TakeLemmas.{rose_later}
 
 pub returns-in-Err-clause-outcome : goal.returns-in-Err-clause-outcome
 returns-in-Err-clause-outcome g c = main_prepare _ _ _ _ c.args.inputs.now c.in-Err.stop.status c.in-Err.stop.paths c.in-Err.ensures.outcome

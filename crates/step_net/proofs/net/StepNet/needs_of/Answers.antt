@@ -1,11 +1,12 @@
 use Rattle.std.proofs.Common.{◌≡◌, ◌<◌, ◌≤◌, ℕ, List, Some, length, get_or, slice_get, arith, ap, subst, sym, ◌∙◌}
 use Rattle.std.specs.List.{slice_range}
 use Rattle.std.proofs.lemmas.List.{length-map}
+use Rattle.std.proofs.lemmas.Option.{same_Some}
 use Rattle.step_net.specs.declared.net.Step.{Step}
 use Rattle.step_net.specs.declared.net.StepNet.{StepNet}
 use Rattle.step_net.specs.Nets.{Spans}
 use Rattle.step_net.specs.Views.{IsSoundNet, Wants, view, wants}
-use Rattle.step_net.proofs.Gets.{get_map, some_same}
+use Rattle.step_net.proofs.Gets.{get_map}
 use Rattle.step_net.proofs.Looks.{read}
 use Rattle.step_net.proofs.net.StepNet.needs_of.Goals as goal
 
@@ -30,7 +31,7 @@ needed : (n : StepNet) (s : ℕ) (x : Step) (ns : List ℕ) → s < length (view
 unfolding view
 needed n s x ns h e same w found =
     ap (λ (xs : List ℕ). slice_range xs x.start x.end) same
-    ∙ ap (λ (v : Wants). v.needs) (some_same (sym (get_map (wants n.needs.items) n.steps.items s x (there n s x h e)) ∙ found))
+    ∙ ap (λ (v : Wants). v.needs) (same_Some _ _ (sym (get_map (wants n.needs.items) n.steps.items s x (there n s x h e)) ∙ found))
 
 pub index-step-requires : goal.index-step-requires
 index-step-requires c = let n = c.args.self.now in subst (λ (m : ℕ). c.args.step < m) (sym n.steps.ok.0) (within n c.args.step c.requires.there)

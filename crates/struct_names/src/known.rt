@@ -1,7 +1,7 @@
 //! The names under which documents know structs.
 
 ghost use Rattle.std.specs.Prelude.{◌≡◌, map, IfOk};
-ghost use Rattle.wdl_bundle.specs.Documents as spec;
+ghost use Rattle.struct_names.specs.Known as spec;
 
 use std::alloc::Global;
 use wdl_check_rules::Local;
@@ -11,14 +11,14 @@ use wdl_value::NoMemory;
 
 /// A document with the names under which it knows structs.
 #[derive(Drop)]
-pub struct Listed<'d> {
+pub struct DocNameList<'d> {
     pub doc: &'d Doc,
     pub locals: Vec<Local<'d>>,
 }
 
 /// The same, with these names by an index.
 #[derive(Drop)]
-pub struct Indices<'d, 'n> {
+pub struct DocNames<'d, 'n> {
     pub doc: &'d Doc,
     pub locals: Indexed<'n, Local<'d>>,
 }
@@ -36,44 +36,47 @@ fn locals_of<'a>(alloc: Global, names: &'a [StructName]) -> Result<Vec<Local<'a>
     Ok(locals)
 }
 
-fn one_listed<'a>(alloc: Global, doc: &'a Doc) -> Result<Listed<'a>, NoMemory>
-    ensures { IfOk result (λ n. spec.listed_of n ≡ spec.known doc.now) }
+fn naming_of<'a>(alloc: Global, doc: &'a Doc) -> Result<DocNameList<'a>, NoMemory>
+    ensures { IfOk result (λ n. spec.naming_of n ≡ spec.known doc.now) }
 {
     let locals = locals_of(alloc, doc.structs.as_slice())?;
-    Ok(Listed { doc, locals })
+    Ok(DocNameList { doc, locals })
 }
 
-fn one_indexed<'d, 'n>(alloc: Global, listed: &'n Listed<'d>) -> Result<Indices<'d, 'n>, NoMemory>
-    ensures { IfOk result (λ k. spec.known_of k ≡ spec.listed_of listed.now) }
+fn known_of<'d, 'n>(
+    alloc: Global,
+    naming: &'n DocNameList<'d>,
+) -> Result<DocNames<'d, 'n>, NoMemory>
+    ensures { IfOk result (λ k. spec.known_of k ≡ spec.naming_of naming.now) }
 {
-    let locals = Indexed::new(alloc, listed.locals.as_slice())?;
-    Ok(Indices {
-        doc: listed.doc,
+    let locals = Indexed::new(alloc, naming.locals.as_slice())?;
+    Ok(DocNames {
+        doc: naming.doc,
         locals,
     })
 }
 
 /// For each document the names under which it knows structs.
-pub fn all_listed<'a>(alloc: Global, docs: &'a [Doc]) -> Result<Vec<Listed<'a>>, NoMemory>
-    ensures { IfOk result (λ ns. map spec.listed_of ns.items ≡ map spec.known docs.now) }
+pub fn namings_of<'a>(alloc: Global, docs: &'a [Doc]) -> Result<Vec<DocNameList<'a>>, NoMemory>
+    ensures { IfOk result (λ ns. map spec.naming_of ns.items ≡ map spec.known docs.now) }
 {
     let mut all = Vec::new(alloc);
     for doc in docs {
-        all.push(one_listed(alloc, doc)?)?;
+        all.push(naming_of(alloc, doc)?)?;
     }
     Ok(all)
 }
 
 /// The same, by indices.
-pub fn all_indexed<'d, 'n>(
+pub fn knowns_of<'d, 'n>(
     alloc: Global,
-    all: &'n [Listed<'d>],
-) -> Result<Vec<Indices<'d, 'n>>, NoMemory>
-    ensures { IfOk result (λ ks. map spec.known_of ks.items ≡ map spec.listed_of all.now) }
+    namings: &'n [DocNameList<'d>],
+) -> Result<Vec<DocNames<'d, 'n>>, NoMemory>
+    ensures { IfOk result (λ ks. map spec.known_of ks.items ≡ map spec.naming_of namings.now) }
 {
-    let mut indices = Vec::new(alloc);
-    for listed in all {
-        indices.push(one_indexed(alloc, listed)?)?;
+    let mut all = Vec::new(alloc);
+    for naming in namings {
+        all.push(known_of(alloc, naming)?)?;
     }
-    Ok(indices)
+    Ok(all)
 }

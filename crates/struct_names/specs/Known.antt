@@ -1,4 +1,4 @@
--- The documents of a library with the names under which they know structs.
+-- Documents with the names under which they know structs.
 use Rattle.std.specs.Prelude.{List, option_map}
 use Rattle.std.specs.List.{find}
 use Rattle.std.specs.Str.{bytes_eq}
@@ -6,8 +6,8 @@ use Rattle.wdl_library.specs.declared.doc.Doc.{Doc}
 use Rattle.wdl_library.specs.declared.doc.StructName.{StructName}
 use Rattle.wdl_check_rules.specs.declared.local.Local.{Local}
 use Rattle.wdl_check_rules.specs.Locals.{Naming, stands_for}
-use Rattle.wdl_bundle.specs.declared.known.Indices.{Indices}
-use Rattle.wdl_bundle.specs.declared.known.Listed.{Listed}
+use Rattle.struct_names.specs.declared.known.DocNames.{DocNames as Indexed}
+use Rattle.struct_names.specs.declared.known.DocNameList.{DocNameList as Listed}
 
 pub record Known : Type 0 where
   pub doc : Doc
@@ -25,8 +25,8 @@ known d = record { doc = d; locals = naming d.structs }
 abbrev pub name_of : Local → StructName
 name_of l = record { name = l.name.now; stands_for = l.stands_for.now }
 
-abbrev pub listed_of : Listed → Known
-listed_of n = record { doc = n.doc.now; locals = stands_for n.locals.items }
+abbrev pub naming_of : Listed → Known
+naming_of n = record { doc = n.doc.now; locals = stands_for n.locals.items }
 
-abbrev pub known_of : Indices → Known
+abbrev pub known_of : Indexed → Known
 known_of k = record { doc = k.doc.now; locals = stands_for k.locals }

@@ -7,7 +7,7 @@ use Rattle.wdl_library.specs.declared.doc.Doc.{Doc}
 use Rattle.wdl_library.specs.declared.doc.StructName.{StructName}
 use Rattle.wdl_check_rules.specs.declared.local.Local.{Local}
 use Rattle.wdl_check_rules.specs.Locals.{stands_for}
-use Rattle.wdl_bundle.specs.Documents.{known, name_of, naming}
+use Rattle.struct_names.specs.Known.{known, name_of, naming}
 
 found : (name : List ℕ) (ls : List Local) → stands_for ls name ≡ naming (map name_of ls) name
 found name [] = refl

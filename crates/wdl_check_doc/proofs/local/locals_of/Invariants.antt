@@ -1,6 +1,0 @@
-use Rattle.std.proofs.Common.{◌≡◌, ◌++◌, drop, map}
-use Rattle.wdl_check_doc.specs.Known.{name_of}
-use Rattle.wdl_check_doc.proofs.local.locals_of.Given as goal
-
-abbrev pub invariant-loop-known : goal.invariant-loop-known
-invariant-loop-known l = map name_of l.locals.items ++ drop l.known-index l.names ≡ l.names
