@@ -12,7 +12,7 @@ use crate::hops::hops_fit;
 use cwl_rules::is_file_type;
 use cwl_subset::{Context, call_given};
 use std::alloc::Global;
-use wdl_names::{Names, Words};
+use wdl_names::{NameStack, TypedNames};
 use wdl_swaps::{
     Chain, Swap, boxed_expr, chain_of, kept_call, kept_decl, plain_key, swapped_fields,
 };
@@ -24,7 +24,7 @@ use wdl_value::{Items, Key, Name, NoMemory, Ty};
 #[derive(Drop)]
 pub struct Stage<'a> {
     pub context: &'a Context<'a>,
-    pub strays: &'a Words,
+    pub strays: &'a NameStack,
 }
 
 /// The names that statements give out, with their types, and what stands in the places of the
@@ -58,7 +58,7 @@ impl Walked {
 }
 
 /// The type of an input or an item, or of an output of a call that is seen as a File.
-fn root_type<'a>(key: &Key, declared: &Words, names: &'a Names) -> Option<&'a Ty>
+fn root_type<'a>(key: &Key, declared: &NameStack, names: &'a TypedNames) -> Option<&'a Ty>
     ensures { option_copied result ≡ spec.root_type declared.now names.now key.now }
 {
     match &key.second {
@@ -76,7 +76,7 @@ fn root_type<'a>(key: &Key, declared: &Words, names: &'a Names) -> Option<&'a Ty
     }
 }
 
-fn is_source(chain: &Chain, context: &Context, names: &Names) -> bool
+fn is_source(chain: &Chain, context: &Context, names: &TypedNames) -> bool
     ensures { result ≡ spec.is_source context.now.structs.now context.now.declared.now names.now chain.now }
 {
     match root_type(&chain.key, context.declared, names) {
@@ -85,7 +85,7 @@ fn is_source(chain: &Chain, context: &Context, names: &Names) -> bool
     }
 }
 
-fn source_of(chain: Option<Chain>, context: &Context, names: &Names) -> Option<Chain>
+fn source_of(chain: Option<Chain>, context: &Context, names: &TypedNames) -> Option<Chain>
     ensures { result ≡ spec.source_of context.now.structs.now context.now.declared.now names.now chain }
 {
     match chain {
@@ -106,7 +106,7 @@ fn alias_of(
     name: &Name,
     value: &TExpr,
     stage: &Stage,
-    names: &Names,
+    names: &TypedNames,
 ) -> Result<Option<Chain>, NoMemory>
     ensures { IfOk result (λ c. c ≡ spec.alias_of (scene.scene_of stage.now) names.now name.now value.now) }
 {
@@ -148,7 +148,7 @@ pub fn decl_walk(
     alloc: Global,
     d: &TDecl,
     stage: &Stage,
-    names: &Names,
+    names: &TypedNames,
     swaps: &mut Items<Swap>,
 ) -> Result<Walked, NoMemory>
     ensures walked { IfOk result (λ w. w ≡ scene.walked (spec.decl_walk (scene.scene_of stage.now) d.now names.now swaps.old)) }

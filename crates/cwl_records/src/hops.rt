@@ -4,25 +4,13 @@ ghost use Rattle.std.specs.Prelude.{◌≡◌, [], ◌∷◌};
 ghost use Rattle.std.specs.Option.{option_copied};
 ghost use Rattle.wdl_value.specs.declared.ty.Ty.{out-Ty};
 ghost use Rattle.wdl_typed.specs.KnownTypes.{is_some};
-ghost use Rattle.wdl_typed.specs.Typing as typing;
 ghost use Rattle.cwl_records.specs.Types as spec;
 
 use cwl_rules::widens;
-use struct_leaves::members_of;
+use struct_members::{members_of, type_among};
 use wdl_names::Indexed;
 use wdl_swaps::Hop;
-use wdl_value::{Member, Name, StructDef, Ty};
-
-fn type_among<'a>(members: &'a [Member], name: &Name) -> Option<&'a Ty>
-    ensures { option_copied result ≡ typing.type_among members.now name.now }
-{
-    for member in members {
-        if member.name.same(name) {
-            return Some(&member.ty);
-        }
-    }
-    None
-}
+use wdl_value::{Name, StructDef, Ty};
 
 fn member_type<'a>(structs: &Indexed<'a, StructDef>, name: &Name, ty: &Ty) -> Option<&'a Ty>
     ensures { option_copied result ≡ spec.member_at structs.now name.now (out-Ty ty.now) }

@@ -5,9 +5,10 @@ ghost use Rattle.cwl_records.specs.Aliases as spec;
 ghost use Rattle.cwl_records.specs.Scenes as scene;
 
 use crate::aliases::{Stage, Walked, call_walk, decl_walk};
-use cwl_subset::{arrays, enter_names, items_of, optionals};
+use cwl_subset::items_of;
+use given_types::{arrays, enter_names, optionals};
 use std::alloc::Global;
-use wdl_names::Names;
+use wdl_names::TypedNames;
 use wdl_swaps::{Swap, boxed_expr, kept_if, kept_scatter};
 use wdl_typed::{Statement, TExpr, TIf, TScatter};
 use wdl_typing::enter;
@@ -88,7 +89,7 @@ fn statement_walk<'a>(
     alloc: Global,
     statement: &Statement,
     stage: &Stage<'a>,
-    names: &mut Names,
+    names: &mut TypedNames,
     swaps: &mut Items<Swap>,
 ) -> Result<Walked, NoMemory>
     ensures walked { IfOk result (λ w. w ≡ scene.walked (spec.walk (scene.scene_of stage.now) statement.now names.old swaps.old)) }
@@ -120,7 +121,7 @@ fn scatter_inside<'a>(
     item: &Name,
     over: &TExpr,
     stage: &Stage<'a>,
-    names: &mut Names,
+    names: &mut TypedNames,
     swaps: &mut Items<Swap>,
 ) -> Result<Option<(Walked, bool)>, NoMemory>
     ensures inside { IfOk result (λ o. o ≡ scene.scatter_inside (scene.scene_of stage.now) body.now item.now over.now names.old swaps.old) }
@@ -146,7 +147,7 @@ fn if_inside<'a>(
     alloc: Global,
     body: &[Statement],
     stage: &Stage<'a>,
-    names: &mut Names,
+    names: &mut TypedNames,
     swaps: &mut Items<Swap>,
 ) -> Result<Walked, NoMemory>
     ensures inside { IfOk result (λ w. w ≡ scene.walked (spec.walk_body (scene.scene_of stage.now) body.now names.old swaps.old)) }
@@ -167,7 +168,7 @@ pub fn body_walk<'a>(
     alloc: Global,
     body: &[Statement],
     stage: &Stage<'a>,
-    names: &mut Names,
+    names: &mut TypedNames,
     swaps: &mut Items<Swap>,
 ) -> Result<Walked, NoMemory>
     ensures walked { IfOk result (λ w. w ≡ scene.walked (spec.walk_body (scene.scene_of stage.now) body.now names.old swaps.old)) }

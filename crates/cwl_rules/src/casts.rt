@@ -10,7 +10,7 @@ use crate::file::is_file_literal;
 use crate::referring::{is_call_output, is_source};
 use crate::types::some_widens;
 use std::alloc::Global;
-use wdl_names::{Indexed, Names, Words};
+use wdl_names::{Indexed, NameStack, TypedNames};
 use wdl_typed::{TExpr, TField, TPair, TPart};
 use wdl_typing::{Context, type_in_place};
 use wdl_value::{NoMemory, StructDef, Ty};
@@ -150,7 +150,7 @@ pub fn are_allowed(
     alloc: Global,
     e: &TExpr,
     structs: &Indexed<StructDef>,
-    names: &Names,
+    names: &TypedNames,
     placeholder: bool,
 ) -> Result<bool, NoMemory>
     ensures { IfOk result (λ b. b ≡ spec.are_allowed structs.now names.now e.now placeholder) }
@@ -168,7 +168,7 @@ pub fn default_allowed(
     alloc: Global,
     e: &Option<TExpr>,
     structs: &Indexed<StructDef>,
-    names: &Names,
+    names: &TypedNames,
 ) -> Result<bool, NoMemory>
     ensures { IfOk result (λ b. b ≡ spec.default_allowed structs.now names.now e.now) }
 {
@@ -182,9 +182,9 @@ pub fn default_allowed(
 pub fn refers(
     alloc: Global,
     e: &TExpr,
-    declared: &Words,
+    declared: &NameStack,
     structs: &Indexed<StructDef>,
-    names: &Names,
+    names: &TypedNames,
 ) -> Result<bool, NoMemory>
     ensures { IfOk result (λ b. b ≡ spec.refers structs.now declared.now names.now e.now) }
 {
@@ -196,7 +196,7 @@ pub fn refers_to_output(
     alloc: Global,
     e: &TExpr,
     structs: &Indexed<StructDef>,
-    names: &Names,
+    names: &TypedNames,
 ) -> Result<bool, NoMemory>
     ensures { IfOk result (λ b. b ≡ spec.refers_to_output structs.now names.now e.now) }
 {
@@ -208,7 +208,7 @@ pub fn output_allowed(
     alloc: Global,
     e: &TExpr,
     structs: &Indexed<StructDef>,
-    names: &Names,
+    names: &TypedNames,
 ) -> Result<bool, NoMemory>
     ensures { IfOk result (λ b. b ≡ spec.output_allowed structs.now names.now e.now) }
 {

@@ -13,7 +13,7 @@ use crate::lowest::{lower, unless};
 use crate::types::{is_file_type, is_simple, takes_default};
 use cwl_image::Broken;
 use std::alloc::Global;
-use wdl_names::{Indexed, Names};
+use wdl_names::{Indexed, TypedNames};
 use wdl_typed::{TDecl, TExpr, TInput};
 use wdl_value::{NoMemory, StructDef, Ty};
 
@@ -43,7 +43,7 @@ fn input_broken(
     alloc: Global,
     input: &TInput,
     structs: &Indexed<StructDef>,
-    names: &Names,
+    names: &TypedNames,
 ) -> Result<Option<Broken>, NoMemory>
     ensures { IfOk result (λ b. b ≡ lowest (subset.input_broken structs.now names.now input.now)) }
 {
@@ -62,7 +62,7 @@ pub fn inputs_broken(
     alloc: Global,
     inputs: &[TInput],
     structs: &Indexed<StructDef>,
-    names: &Names,
+    names: &TypedNames,
 ) -> Result<Option<Broken>, NoMemory>
     ensures { IfOk result (λ b. b ≡ lowest (subset.each_broken (subset.input_broken structs.now names.now) inputs.now)) }
 {
@@ -80,7 +80,7 @@ fn value_allowed(
     role: Role,
     e: &TExpr,
     structs: &Indexed<StructDef>,
-    names: &Names,
+    names: &TypedNames,
 ) -> Result<bool, NoMemory>
     ensures { IfOk result (λ b. b ≡ spec.value_allowed role structs.now names.now e.now) }
 {
@@ -96,7 +96,7 @@ fn place_broken(
     role: Role,
     d: &TDecl,
     structs: &Indexed<StructDef>,
-    names: &Names,
+    names: &TypedNames,
 ) -> Result<Option<Broken>, NoMemory>
     ensures { IfOk result (λ b. b ≡ lowest (spec.place_broken role structs.now names.now d.now)) }
 {
@@ -121,7 +121,7 @@ pub fn decl_broken(
     role: Role,
     d: &TDecl,
     structs: &Indexed<StructDef>,
-    names: &Names,
+    names: &TypedNames,
 ) -> Result<Option<Broken>, NoMemory>
     ensures { IfOk result (λ b. b ≡ lowest (spec.decl_broken role structs.now names.now d.now)) }
 {
@@ -141,7 +141,7 @@ pub fn decls_broken(
     role: Role,
     decls: &[TDecl],
     structs: &Indexed<StructDef>,
-    names: &Names,
+    names: &TypedNames,
 ) -> Result<Option<Broken>, NoMemory>
     ensures { IfOk result (λ b. b ≡ lowest (subset.each_broken (spec.decl_broken role structs.now names.now) decls.now)) }
 {

@@ -5,7 +5,7 @@ ghost use Rattle.std.specs.Option.{option_copied};
 ghost use Rattle.cwl_image.specs.Expressions as spec;
 ghost use Rattle.cwl_image.specs.Image as image;
 
-use wdl_names::Words;
+use wdl_names::NameStack;
 use wdl_typed::TExpr;
 use wdl_value::Key;
 
@@ -32,7 +32,7 @@ pub fn is_call_output(e: &TExpr) -> bool
 
 /// Whether the expression is an input, a scatter item or `call.output`, casts aside: no name that
 /// the body declares.
-pub fn is_source(e: &TExpr, declared: &Words) -> bool
+pub fn is_source(e: &TExpr, declared: &NameStack) -> bool
     ensures { result ≡ spec.is_source declared.now (image.reference e.now) }
 {
     match reference(e) {

@@ -7,47 +7,51 @@ ghost use Rattle.cwl_rules.specs.Lowest.{lowest};
 ghost use Rattle.cwl_subset.specs.Tables.{own_table};
 ghost use Rattle.cwl_subset.specs.Walks.{declared_in, flow_outputs_broken};
 
-use crate::given::enter_names;
 use crate::scope::{enter_decls, input_scope};
 use crate::walk::{Context, body_walk};
 use cwl_image::Broken;
 use cwl_rules::{Role, decls_broken, inputs_broken, lower};
+use given_types::enter_names;
 use sqlite_items::Items;
 use std::alloc::Global;
-use wdl_names::{Indexed, Names, Words};
+use wdl_names::{Indexed, NameStack, TypedNames};
 use wdl_typed::{Bound, FlowDef, Statement, TDecl, TaskDef};
 use wdl_value::{NoMemory, StructDef};
 
 /// Adds the names that a statement and the bodies in it declare.
 #[cycle(declared)]
-fn enter_statement(alloc: Global, statement: &Statement, words: &mut Words) -> Result<(), NoMemory>
-    ensures { OnOk result (words.new ≡ words.old ++ declared_in statement.now) }
+fn enter_statement(
+    alloc: Global,
+    statement: &Statement,
+    names: &mut NameStack,
+) -> Result<(), NoMemory>
+    ensures { OnOk result (names.new ≡ names.old ++ declared_in statement.now) }
 {
     match statement {
-        Statement::Decl(d) => words.enter(d.name.copy(alloc)?),
+        Statement::Decl(d) => names.enter(d.name.copy(alloc)?),
         Statement::Call(_) => Ok(()),
-        Statement::Scatter(s) => enter_declared(alloc, s.body.as_slice(), words),
-        Statement::If(i) => enter_declared(alloc, i.body.as_slice(), words),
+        Statement::Scatter(s) => enter_declared(alloc, s.body.as_slice(), names),
+        Statement::If(i) => enter_declared(alloc, i.body.as_slice(), names),
     }
 }
 
 #[cycle(declared)]
-fn enter_declared(alloc: Global, body: &[Statement], words: &mut Words) -> Result<(), NoMemory>
-    ensures { OnOk result (words.new ≡ words.old ++ subset.declared_by body.now) }
+fn enter_declared(alloc: Global, body: &[Statement], names: &mut NameStack) -> Result<(), NoMemory>
+    ensures { OnOk result (names.new ≡ names.old ++ subset.declared_by body.now) }
 {
     for statement in body {
-        enter_statement(alloc, statement, words)?;
+        enter_statement(alloc, statement, names)?;
     }
     Ok(())
 }
 
 /// The names that a body declares.
-pub fn declared_by(alloc: Global, body: &[Statement]) -> Result<Words, NoMemory>
+pub fn declared_by(alloc: Global, body: &[Statement]) -> Result<NameStack, NoMemory>
     ensures { IfOk result (λ w. w ≡ subset.declared_by body.now) }
 {
-    let mut words = Words::empty(alloc);
-    enter_declared(alloc, body, &mut words)?;
-    Ok(words)
+    let mut names = NameStack::empty(alloc);
+    enter_declared(alloc, body, &mut names)?;
+    Ok(names)
 }
 
 /// The lowest rule that the outputs of a workflow break, which see these names, what the body gives
@@ -57,7 +61,7 @@ fn outputs_broken(
     outputs: &[TDecl],
     given: &[Bound],
     structs: &Indexed<StructDef>,
-    names: &mut Names,
+    names: &mut TypedNames,
 ) -> Result<Option<Broken>, NoMemory>
     ensures { IfOk result (λ b. b ≡ lowest (flow_outputs_broken structs.now (names.old ++ given.now) outputs.now)) }
 {

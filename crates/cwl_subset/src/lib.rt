@@ -3,7 +3,6 @@
 #![tactic(auto)]
 
 mod flow;
-mod given;
 mod scope;
 mod subset;
 mod tables;
@@ -11,7 +10,6 @@ mod task;
 mod walk;
 
 pub use flow::declared_by;
-pub use given::{arrays, enter_names, optionals};
 pub use scope::input_scope;
 pub use subset::{Subset, SubsetFault, in_subset};
 pub use walk::{Context, call_given, items_of};

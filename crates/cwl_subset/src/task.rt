@@ -15,7 +15,7 @@ use cwl_rules::{
 };
 use sqlite_items::Items;
 use std::alloc::Global;
-use wdl_names::{Indexed, Names};
+use wdl_names::{Indexed, TypedNames};
 use wdl_typed::{Choice, TCodes, TExpr, THole, TPart, TaskDef};
 use wdl_value::{NoMemory, StructDef, Ty};
 
@@ -30,7 +30,7 @@ fn some_scalar(t: Option<&Ty>) -> bool
 }
 
 /// Whether the expression is one of the names, of type Int, String, Boolean or File, casts aside.
-fn is_scalar_name(e: &TExpr, names: &Names) -> bool
+fn is_scalar_name(e: &TExpr, names: &TypedNames) -> bool
     ensures { result ≡ subset.is_scalar_name names.now (image.reference e.now) }
 {
     match reference(e) {
@@ -50,8 +50,8 @@ fn is_input_hole(
     alloc: Global,
     hole: &THole<TExpr>,
     structs: &Indexed<StructDef>,
-    names: &Names,
-    inputs: &Names,
+    names: &TypedNames,
+    inputs: &TypedNames,
 ) -> Result<bool, NoMemory>
     ensures { IfOk result (λ b. b ≡ subset.is_input_hole structs.now names.now inputs.now hole.now) }
 {
@@ -66,8 +66,8 @@ fn are_input_holes(
     alloc: Global,
     parts: &[TPart<TExpr>],
     structs: &Indexed<StructDef>,
-    names: &Names,
-    inputs: &Names,
+    names: &TypedNames,
+    inputs: &TypedNames,
 ) -> Result<bool, NoMemory>
     ensures { IfOk result (λ b. b ≡ subset.are_input_holes structs.now names.now inputs.now parts.now) }
 {
@@ -86,7 +86,7 @@ fn command_allowed(
     alloc: Global,
     parts: &[TPart<TExpr>],
     structs: &Indexed<StructDef>,
-    names: &Names,
+    names: &TypedNames,
 ) -> Result<bool, NoMemory>
     ensures { IfOk result (λ b. b ≡ subset.command_allowed structs.now names.now parts.now) }
 {
@@ -104,7 +104,7 @@ fn codes_allowed(
     alloc: Global,
     codes: &TCodes,
     structs: &Indexed<StructDef>,
-    names: &Names,
+    names: &TypedNames,
 ) -> Result<bool, NoMemory>
     ensures { IfOk result (λ b. b ≡ subset.codes_allowed structs.now names.now codes.now) }
 {
@@ -120,7 +120,7 @@ fn run_allowed(
     alloc: Global,
     task: &TaskDef,
     structs: &Indexed<StructDef>,
-    names: &Names,
+    names: &TypedNames,
 ) -> Result<bool, NoMemory>
     ensures { IfOk result (λ b. b ≡ subset.run_allowed structs.now names.now task.now) }
 {
@@ -149,7 +149,7 @@ fn run_broken(
     alloc: Global,
     task: &TaskDef,
     structs: &Indexed<StructDef>,
-    names: &Names,
+    names: &TypedNames,
 ) -> Result<Option<Broken>, NoMemory>
     ensures { IfOk result (λ b. b ≡ lowest (subset.run_broken structs.now names.now task.now)) }
 {

@@ -8,12 +8,12 @@ ghost use Rattle.cwl_image.specs.Subset as subset;
 ghost use Rattle.cwl_rules.specs.Lowest.{lowest};
 ghost use Rattle.cwl_subset.specs.Walks as spec;
 
-use crate::given::{arrays, enter_names, optionals, outputs_of};
 use cwl_image::Broken;
 use cwl_rules::{Role, are_allowed, decl_broken, lower, refers, unless};
+use given_types::{arrays, enter_names, optionals, outputs_of};
 use sqlite_items::{Items, at};
 use std::alloc::Global;
-use wdl_names::{Indexed, Names, Words};
+use wdl_names::{Indexed, NameStack, TypedNames};
 use wdl_typed::{Bound, FlowDef, Statement, TCall, TDecl, TExpr, TField, Target, TaskDef};
 use wdl_typing::{body_type, enter};
 use wdl_value::{Key, Name, NoMemory, Span, StructDef, Ty};
@@ -24,7 +24,7 @@ pub struct Context<'a> {
     pub structs: &'a Indexed<'a, StructDef>,
     pub tasks: &'a [TaskDef],
     pub flows: &'a [FlowDef],
-    pub declared: &'a Words,
+    pub declared: &'a NameStack,
 }
 
 /// The names that statements give out, with their types, and the lowest rule that they break.
@@ -61,7 +61,7 @@ fn args_refer(
     alloc: Global,
     args: &[TField<TExpr>],
     context: &Context,
-    names: &Names,
+    names: &TypedNames,
 ) -> Result<bool, NoMemory>
     ensures { IfOk result (λ b. b ≡ subset.args_refer context.now.structs.now context.now.declared.now names.now args.now) }
 {
@@ -78,7 +78,7 @@ fn args_allowed(
     alloc: Global,
     args: &[TField<TExpr>],
     context: &Context,
-    names: &Names,
+    names: &TypedNames,
 ) -> Result<bool, NoMemory>
     ensures { IfOk result (λ b. b ≡ subset.args_allowed context.now.structs.now names.now args.now) }
 {
@@ -96,7 +96,7 @@ fn call_broken(
     alloc: Global,
     call: &TCall,
     context: &Context,
-    names: &Names,
+    names: &TypedNames,
 ) -> Result<Option<Broken>, NoMemory>
     ensures { IfOk result (λ b. b ≡ lowest (subset.call_broken context.now.structs.now context.now.declared.now names.now call.now)) }
 {
@@ -145,7 +145,7 @@ fn call_walk(
     alloc: Global,
     call: &TCall,
     context: &Context,
-    names: &Names,
+    names: &TypedNames,
 ) -> Result<Walked, NoMemory>
     ensures { IfOk result (λ w. w ≡ spec.call_walk (spec.library_of context.now) context.now.declared.now call.now names.now) }
 {
@@ -171,7 +171,12 @@ fn declared(alloc: Global, d: &TDecl) -> Result<Items<Bound>, NoMemory>
     Ok(names)
 }
 
-fn decl_walk(alloc: Global, d: &TDecl, context: &Context, names: &Names) -> Result<Walked, NoMemory>
+fn decl_walk(
+    alloc: Global,
+    d: &TDecl,
+    context: &Context,
+    names: &TypedNames,
+) -> Result<Walked, NoMemory>
     ensures { IfOk result (λ w. w ≡ spec.decl_walk context.now.structs.now d.now names.now) }
 {
     let broken = decl_broken(alloc, Role::Body, d, context.structs, names)?;
@@ -186,7 +191,7 @@ fn block_broken(
     e: &TExpr,
     span: Span,
     context: &Context,
-    names: &Names,
+    names: &TypedNames,
 ) -> Result<Option<Broken>, NoMemory>
     ensures { IfOk result (λ b. b ≡ lowest (subset.block_broken context.now.structs.now context.now.declared.now names.now e.now span)) }
 {
@@ -208,7 +213,7 @@ pub fn items_of(
     alloc: Global,
     over: &TExpr,
     context: &Context,
-    names: &Names,
+    names: &TypedNames,
 ) -> Result<Option<(Ty, bool)>, NoMemory>
     ensures { IfOk result (λ t. t ≡ spec.items_of context.now.structs.now names.now over.now) }
 {
@@ -249,7 +254,7 @@ fn statement_walk(
     alloc: Global,
     statement: &Statement,
     context: &Context,
-    names: &mut Names,
+    names: &mut TypedNames,
 ) -> Result<Walked, NoMemory>
     ensures walked { IfOk result (λ w. w ≡ spec.summed (subset.walk (spec.library_of context.now) context.now.declared.now statement.now names.old)) }
     ensures kept { OnOk result (names.new ≡ names.old) }
@@ -276,7 +281,7 @@ fn scatter_walk(
     over: &TExpr,
     span: Span,
     context: &Context,
-    names: &mut Names,
+    names: &mut TypedNames,
 ) -> Result<Walked, NoMemory>
     ensures walked { IfOk result (λ w. w ≡ spec.summed (spec.scatter_walk (spec.library_of context.now) context.now.declared.now body.now item.now over.now span names.old)) }
     ensures kept { OnOk result (names.new ≡ names.old) }
@@ -304,7 +309,7 @@ fn if_walk(
     cond: &TExpr,
     span: Span,
     context: &Context,
-    names: &mut Names,
+    names: &mut TypedNames,
 ) -> Result<Walked, NoMemory>
     ensures walked { IfOk result (λ w. w ≡ spec.summed (spec.if_walk (spec.library_of context.now) context.now.declared.now body.now cond.now span names.old)) }
     ensures kept { OnOk result (names.new ≡ names.old) }
@@ -321,7 +326,7 @@ pub fn body_walk(
     alloc: Global,
     body: &[Statement],
     context: &Context,
-    names: &mut Names,
+    names: &mut TypedNames,
 ) -> Result<Walked, NoMemory>
     ensures walked { IfOk result (λ w. w ≡ spec.summed (subset.walk_body (spec.library_of context.now) context.now.declared.now body.now names.old)) }
     ensures kept { OnOk result (names.new ≡ names.old) }

@@ -3,7 +3,6 @@ use Rattle.std.proofs.Common.{◌≡◌, ◌≤◌, ◌==◌, ℕ, suc, Bool, tr
 use Rattle.std.proofs.lemmas.Bool.{eq-eqb, eqb-true}
 use Rattle.std.proofs.lemmas.Map.Text.{is_eq-slice_cmp}
 use Rattle.std.specs.Cmp.Lexicographic.{slice_cmp}
-use Rattle.std.specs.List.{find}
 use Rattle.std.specs.Map.{lookup}
 use Rattle.std.specs.BTreeMap.{is_at}
 use Rattle.std.specs.Str.{bytes_eq}
@@ -14,19 +13,8 @@ use Rattle.wdl_value.specs.declared.value.MapRow.{MapRow}
 use Rattle.wdl_value.specs.declared.value.Value.{Value}
 use Rattle.wdl_value.specs.declared.value.Value.TheVariants as v
 use Rattle.wdl_value.specs.declared.ty.Ty.{Ty}
-use Rattle.wdl_value.specs.declared.ty.StructDef.{StructDef}
-use Rattle.wdl_value.specs.Fits.{Structs, members_of}
+use Rattle.wdl_value.specs.Fits.{Structs}
 use Rattle.json_values.specs.Reading.{Reader, Named, reads, reader_of, item_readers, member_readers, names_of, key_read, all_read, list_read, rows_read, part_read, pair_read}
-
--- the members of the first struct of that name
-pub members_of_found : (ds : List StructDef) (name : List ℕ) → option_map (λ (d : StructDef). d.members) (find (λ d. bytes_eq d.name name) ds) ≡ members_of ds name
-members_of_found [] name = refl
-members_of_found (d ∷ ds) name = by_test (bytes_eq d.name name) (members_of_found ds name)
-  where
-    by_test : (b : Bool) → option_map (λ (e : StructDef). e.members) (find (λ e. bytes_eq e.name name) ds) ≡ members_of ds name
-        → option_map (λ (e : StructDef). e.members) (cond b (Some d) (find (λ e. bytes_eq e.name name) ds)) ≡ cond b (Some d.members) (members_of ds name)
-    by_test true e = refl
-    by_test false e = e
 
 abbrev at_name : List ℕ → String Global → Bool
 at_name name = is_at (λ k. slice_cmp nat_cmp name (string_bytes k))

@@ -1,29 +1,16 @@
 //! The members that a struct declares.
 
 ghost use Rattle.std.specs.Prelude.{◌≡◌, ℕ, List, IfOk, map, string_bytes};
-ghost use Rattle.std.specs.Option.{option_copied};
 ghost use Rattle.std.specs.BTreeSet.{contains_by};
 ghost use Rattle.std.specs.Cmp.Lexicographic.{slice_cmp};
 ghost use Rattle.std.specs.Ordering.{nat_cmp};
-ghost use Rattle.wdl_value.specs.Fits.{members_of as members_of_name};
 ghost use Rattle.json_values.specs.Reading as spec;
 
 use serde_json::{Map, Value as Json};
 use std::alloc::Global;
 use std::collections::BTreeSet;
-use wdl_base::{Name, NoMemory};
-use wdl_names::Indexed;
-use wdl_value::{Member, StructDef};
-
-/// The members of the first struct of that name.
-pub fn members_of<'a>(structs: &Indexed<'a, StructDef>, name: &Name) -> Option<&'a [Member]>
-    ensures { option_copied result ≡ members_of_name structs.now name.now }
-{
-    match structs.find(name) {
-        Some(def) => Some(def.members.as_slice()),
-        None => None,
-    }
-}
+use wdl_base::NoMemory;
+use wdl_value::Member;
 
 /// The names of the members.
 fn names_of<'a>(alloc: Global, declared: &'a [Member]) -> Result<BTreeSet<&'a str>, NoMemory>

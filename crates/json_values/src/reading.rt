@@ -5,12 +5,13 @@ ghost use Rattle.serde_json.specs.View.{view, items_view, members_view};
 ghost use Rattle.wdl_value.specs.declared.ty.Ty.{out-Ty};
 ghost use Rattle.json_values.specs.Reading as spec;
 
-use crate::declared::{are_declared, members_of};
+use crate::declared::are_declared;
 use crate::key::key_value;
 use crate::scalar::{bool_value, empty_list, left_out, null_value, number_value, text_value};
 use serde_json::{Map, Value as Json};
 use sqlite_items::{Boxed, Items};
 use std::alloc::Global;
+use struct_members::members_of;
 use wdl_base::{Name, NoMemory};
 use wdl_names::Indexed;
 use wdl_value::{Field, MapRow, Member, StructDef, Ty, Value, bare_type};

@@ -21,7 +21,7 @@ use Rattle.wdl_typed.specs.declared.expr.TPart.TheVariants as part
 use Rattle.wdl_typed.specs.KnownTypes.{is_some}
 use Rattle.wdl_typed.specs.Scope.{all_names, field_names, names_of, names_step, part_names, row_names, type_in}
 use Rattle.wdl_typed.specs.Typing.{Context, Typing, all_types, apply_type, at_type, binary_type, both, fields_have, fields_in, is_type, items_in, keys_in, list_type, map_type, member_type, parts_typed, takes_some, type_of, type_step, values_in, when}
-use Rattle.plan_layout.specs.Referring.{layer_parts}
+use Rattle.references.specs.Names.{layer_parts}
 use Rattle.wdl_base.proofs.Options.{then_parts}
 
 -- ---- what comes of an option

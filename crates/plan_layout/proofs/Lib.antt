@@ -1,5 +1,4 @@
 pub mod Around
-mod Behind
 mod Blocks
 mod Called
 mod Finding

@@ -2,7 +2,6 @@ pub mod Cells
 pub mod Laid
 pub mod Laws
 pub mod Paths
-pub mod Referring
 pub mod Sees
 pub mod Spots
 pub mod Steps

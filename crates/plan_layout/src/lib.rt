@@ -7,7 +7,6 @@ mod flows;
 mod laws;
 mod layout;
 mod needs;
-mod referring;
 mod scope;
 mod spots;
 mod walk;

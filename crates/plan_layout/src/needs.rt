@@ -1,14 +1,13 @@
 //! What expressions need: their names, each once, where their cells stand.
 
-ghost use Rattle.std.specs.Prelude.{◌≡◌, ◌++◌, [], IfOk, OnOk};
+ghost use Rattle.std.specs.Prelude.{◌≡◌, ◌++◌, [], map, IfOk, OnOk};
 ghost use Rattle.wdl_typed.specs.Scope.{names_of};
 ghost use Rattle.net_laws.specs.Rules.{arg_keys};
-ghost use Rattle.plan_layout.specs.Referring.{behind};
 ghost use Rattle.plan_layout.specs.Spots as spec;
 
 use crate::layout::Need;
-use crate::referring::push_names;
 use crate::spots::Spots;
+use references::{argument_names, expression_names};
 use std::alloc::Global;
 use wdl_typed::{TExpr, TField};
 use wdl_value::{Items, Key, Name, NoMemory};
@@ -38,8 +37,8 @@ fn pick(alloc: Global, key: &Key, seen: &Spots, needs: &mut Spots) -> Result<(),
 }
 
 /// These names, each once, as they are seen.
-fn picked(alloc: Global, keys: &[Key], seen: &Spots) -> Result<Items<Need>, NoMemory>
-    ensures { IfOk result (λ needs. needs ≡ spec.needs_of seen.now keys.now) }
+fn picked(alloc: Global, keys: &[&Key], seen: &Spots) -> Result<Items<Need>, NoMemory>
+    ensures { IfOk result (λ needs. needs ≡ spec.needs_of seen.now (map (λ k. k.now) keys.now)) }
 {
     let mut needs = Spots::empty(alloc);
     for key in keys {
@@ -52,12 +51,12 @@ fn picked(alloc: Global, keys: &[Key], seen: &Spots) -> Result<Items<Need>, NoMe
 pub fn expr_needs(alloc: Global, e: &TExpr, seen: &Spots) -> Result<Items<Need>, NoMemory>
     ensures { IfOk result (λ needs. needs ≡ spec.needs_of seen.now (names_of e.now)) }
 {
-    let mut names = Items::new(alloc);
-    push_names(alloc, e, &mut names)?;
+    let names = expression_names(alloc, e)?;
     picked(alloc, names.as_slice(), seen)
 }
 
 /// What the arguments of a call need.
+#[tactic(auto, using(crate::proofs::Names::keys_are))]
 pub fn arg_needs(
     alloc: Global,
     args: &[TField<TExpr>],
@@ -65,10 +64,7 @@ pub fn arg_needs(
 ) -> Result<Items<Need>, NoMemory>
     ensures { IfOk result (λ needs. needs ≡ spec.needs_of seen.now (arg_keys args.now)) }
 {
-    let mut names = Items::new(alloc);
-    for arg in args {
-        push_names(alloc, &arg.value, &mut names)?;
-    }
+    let names = argument_names(alloc, args)?;
     picked(alloc, names.as_slice(), seen)
 }
 
@@ -87,9 +83,10 @@ pub fn plain_key(alloc: Global, name: &Name) -> Result<Key, NoMemory>
 pub fn call_needs(alloc: Global, calls: &[Name], seen: &Spots) -> Result<Items<Need>, NoMemory>
     ensures { IfOk result (λ needs. needs ≡ spec.needs_of seen.now (spec.plain_keys calls.now)) }
 {
-    let mut keys = Items::new(alloc);
+    let mut needs = Spots::empty(alloc);
     for call in calls {
-        keys.push(plain_key(alloc, call)?)?;
+        let key = plain_key(alloc, call)?;
+        pick(alloc, &key, seen, &mut needs)?;
     }
-    picked(alloc, keys.as_slice(), seen)
+    Ok(needs.into_items())
 }

@@ -12,7 +12,7 @@ use crate::layout::Need;
 use crate::needs::plain_key;
 use crate::spots::Spots;
 use std::alloc::Global;
-use wdl_flow::Given;
+use wdl_flow::Yielded;
 use wdl_typed::{Checked, Statement};
 use wdl_value::{Items, Key, Name, NoMemory};
 
@@ -38,10 +38,10 @@ pub fn given_in<'a>(
     alloc: Global,
     body: &[Statement],
     origin: &Origin<'a>,
-) -> Result<Given, NoMemory>
+) -> Result<Yielded, NoMemory>
     ensures { IfOk result (λ g. given_of g ≡ body_given (lib_of origin.now) body.now) }
 {
-    let mut given = Given::empty(alloc);
+    let mut given = Yielded::empty(alloc);
     given.add_body(alloc, body, origin.checked)?;
     Ok(given)
 }
@@ -101,7 +101,7 @@ impl Runs {
 
 impl Next {
     /// Passes the slots of a statement.
-    pub fn pass(&mut self, given: &Given, blocks: usize) -> Result<(), NoMemory>
+    pub fn pass(&mut self, given: &Yielded, blocks: usize) -> Result<(), NoMemory>
         ensures { OnOk result (self.new ≡ record { name = self.old.name + length given.now.keys; call = self.old.call + length given.now.calls; done = self.old.done + blocks }) }
     {
         self.name = sum(self.name, given.keys.len())?;
@@ -180,7 +180,7 @@ impl CellScope {
     }
 
     /// Adds what a statement gives out.
-    pub fn give(&mut self, alloc: Global, given: &Given, next: Next) -> Result<(), NoMemory>
+    pub fn give(&mut self, alloc: Global, given: &Yielded, next: Next) -> Result<(), NoMemory>
         ensures { OnOk result (self.new ≡ record { names = self.old.names ++ spec.spots_from (length self.old.path) next.name given.now.keys; calls = self.old.calls ++ spec.spots_from (length self.old.path) next.call (spec.plain_keys given.now.calls); path = self.old.path }) }
     {
         let level = self.path.len();

@@ -14,7 +14,7 @@ use crate::layout::{BodyLayout, Need, StatementLayout};
 use crate::needs::{arg_needs, call_needs, expr_needs, plain_key};
 use crate::scope::{CellScope, Next, Origin, Runs, given_in};
 use std::alloc::Global;
-use wdl_flow::Given;
+use wdl_flow::Yielded;
 use wdl_typed::{Statement, TCall, TDecl, TExpr};
 use wdl_value::{Items, Name, NoMemory};
 
@@ -31,7 +31,7 @@ struct Wanted {
 fn settle(
     alloc: Global,
     wanted: Wanted,
-    given: &Given,
+    given: &Yielded,
     blocks: usize,
     next: &mut Next,
     scope: &mut CellScope,
@@ -60,19 +60,19 @@ fn settle(
 }
 
 /// The name that a declaration gives out.
-fn declared(alloc: Global, name: &Name) -> Result<Given, NoMemory>
+fn declared(alloc: Global, name: &Name) -> Result<Yielded, NoMemory>
     ensures { IfOk result (λ g. given_of g ≡ one_name name.now) }
 {
-    let mut given = Given::empty(alloc);
+    let mut given = Yielded::empty(alloc);
     given.keys.push(plain_key(alloc, name)?)?;
     Ok(given)
 }
 
 /// The names and the call that a call gives out.
-fn called<'a>(alloc: Global, call: &TCall, origin: &Origin<'a>) -> Result<Given, NoMemory>
+fn called<'a>(alloc: Global, call: &TCall, origin: &Origin<'a>) -> Result<Yielded, NoMemory>
     ensures { IfOk result (λ g. given_of g ≡ call_names (lib_of origin.now) call.now) }
 {
-    let mut given = Given::empty(alloc);
+    let mut given = Yielded::empty(alloc);
     given.add_call(alloc, call, origin.checked)?;
     Ok(given)
 }

@@ -1,5 +1,4 @@
 pub mod CountLaws
-pub mod Found
 pub mod InputLaws
 pub mod Marks
 pub mod NamingLaws

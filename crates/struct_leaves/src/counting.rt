@@ -4,8 +4,8 @@ ghost use Rattle.std.specs.Prelude.{◌≡◌, ◌+◌, ◌<◌, MatchOption};
 ghost use Rattle.std.specs.List.{list_all};
 ghost use Rattle.leaf_image.specs.Leaves as spec;
 
-use crate::members::members_of;
 use crate::places::{LEVELS, is_record};
+use struct_members::members_of;
 use wdl_names::Indexed;
 use wdl_typed::TInput;
 use wdl_value::{Member, StructDef, Ty};

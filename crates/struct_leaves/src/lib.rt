@@ -6,7 +6,6 @@ mod arguments;
 mod counting;
 mod expanding;
 mod inputs;
-mod members;
 mod naming;
 mod places;
 mod reaching;
@@ -14,7 +13,6 @@ mod taken;
 
 pub use expanding::{inputs_at, leaves_at, push_expanded, swapped_outputs};
 pub use inputs::copy_inputs;
-pub use members::members_of;
 pub use naming::leaves_of;
 pub use places::{copy_names, is_record};
 pub use reaching::reached;

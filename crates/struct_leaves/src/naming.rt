@@ -9,7 +9,7 @@ use crate::taken::taken_by;
 use leaf_image::{Leaf, Place};
 use std::alloc::Global;
 use wdl_base::{NameFault, Text};
-use wdl_names::{Indexed, Words};
+use wdl_names::{Indexed, NameStack};
 use wdl_typed::FlowDef;
 use wdl_value::{Items, Name, NoMemory, StructDef};
 
@@ -42,7 +42,7 @@ fn joined(text: Text, path: &[Name]) -> Result<Text, NoMemory>
 }
 
 /// The text as a name, if it is one that is not taken.
-fn untaken(alloc: Global, text: &Text, taken: &Words) -> Result<Option<Name>, NoMemory>
+fn untaken(alloc: Global, text: &Text, taken: &NameStack) -> Result<Option<Name>, NoMemory>
     ensures { IfOk result (λ n. n ≡ spec.untaken taken.now text.now) }
 {
     match Name::new(alloc, text.as_str()) {
@@ -61,7 +61,7 @@ fn untaken(alloc: Global, text: &Text, taken: &Words) -> Result<Option<Name>, No
 /// The text with as many `_` behind it as make it a name that is not taken, with fewer than so
 /// many.
 #[tactic(auto, using(crate::proofs::NamingLaws::free_none, crate::proofs::NamingLaws::free_some))]
-fn free(alloc: Global, tries: u32, text: Text, taken: &Words) -> Result<Option<Name>, NoMemory>
+fn free(alloc: Global, tries: u32, text: Text, taken: &NameStack) -> Result<Option<Name>, NoMemory>
     ensures { IfOk result (λ n. n ≡ spec.free tries taken.now text) }
 {
     if tries == 0 {
@@ -74,7 +74,7 @@ fn free(alloc: Global, tries: u32, text: Text, taken: &Words) -> Result<Option<N
 }
 
 /// The name of a leaf: that of the input and the members, joined by `_`.
-fn leaf_name(alloc: Global, place: &Place, taken: &Words) -> Result<Option<Name>, NoMemory>
+fn leaf_name(alloc: Global, place: &Place, taken: &NameStack) -> Result<Option<Name>, NoMemory>
     ensures { IfOk result (λ n. n ≡ spec.leaf_name taken.now place.now) }
 {
     let text = joined(place.input.to_text(alloc)?, place.path.as_slice())?;
@@ -101,7 +101,11 @@ fn push_leaf(
     Ok(())
 }
 
-fn named(alloc: Global, places: &[Place], mut taken: Words) -> Result<Option<Items<Leaf>>, NoMemory>
+fn named(
+    alloc: Global,
+    places: &[Place],
+    mut taken: NameStack,
+) -> Result<Option<Items<Leaf>>, NoMemory>
     ensures { IfOk result (λ ls. ls ≡ spec.named taken places.now) }
 {
     let mut leaves = Items::new(alloc);

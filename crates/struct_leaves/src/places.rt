@@ -4,9 +4,9 @@ ghost use Rattle.std.specs.Prelude.{◌≡◌, ◌++◌, ◌∷◌, [], IfOk, On
 ghost use Rattle.wdl_value.specs.declared.ty.Ty.{out-Ty};
 ghost use Rattle.leaf_image.specs.Leaves as spec;
 
-use crate::members::members_of;
 use leaf_image::Place;
 use std::alloc::Global;
+use struct_members::members_of;
 use wdl_names::Indexed;
 use wdl_typed::TInput;
 use wdl_value::{Items, Member, Name, NoMemory, StructDef, Ty};

@@ -6,84 +6,88 @@ ghost use Rattle.wdl_typed.specs.Declarations as declarations;
 ghost use Rattle.leaf_image.specs.Leaves as spec;
 
 use std::alloc::Global;
-use wdl_names::Words;
+use wdl_names::NameStack;
 use wdl_typed::{FlowDef, Statement, TDecl, TInput};
 use wdl_value::{Name, NoMemory};
 
-fn enter_inputs(alloc: Global, inputs: &[TInput], words: &mut Words) -> Result<(), NoMemory>
-    ensures { OnOk result (words.new ≡ words.old ++ declarations.input_names inputs.now) }
+fn enter_inputs(alloc: Global, inputs: &[TInput], names: &mut NameStack) -> Result<(), NoMemory>
+    ensures { OnOk result (names.new ≡ names.old ++ declarations.input_names inputs.now) }
 {
     for input in inputs {
-        words.enter(input.name.copy(alloc)?)?;
+        names.enter(input.name.copy(alloc)?)?;
     }
     Ok(())
 }
 
-fn enter_decls(alloc: Global, decls: &[TDecl], words: &mut Words) -> Result<(), NoMemory>
-    ensures { OnOk result (words.new ≡ words.old ++ declarations.decl_names decls.now) }
+fn enter_decls(alloc: Global, decls: &[TDecl], names: &mut NameStack) -> Result<(), NoMemory>
+    ensures { OnOk result (names.new ≡ names.old ++ declarations.decl_names decls.now) }
 {
     for d in decls {
-        words.enter(d.name.copy(alloc)?)?;
+        names.enter(d.name.copy(alloc)?)?;
     }
     Ok(())
 }
 
 #[cycle(declared)]
-fn enter_statement(alloc: Global, statement: &Statement, words: &mut Words) -> Result<(), NoMemory>
-    ensures { OnOk result (words.new ≡ words.old ++ bodies.declared statement.now) }
+fn enter_statement(
+    alloc: Global,
+    statement: &Statement,
+    names: &mut NameStack,
+) -> Result<(), NoMemory>
+    ensures { OnOk result (names.new ≡ names.old ++ bodies.declared statement.now) }
 {
     match statement {
-        Statement::Decl(d) => words.enter(d.name.copy(alloc)?),
-        Statement::Call(c) => words.enter(c.name.copy(alloc)?),
-        Statement::Scatter(s) => enter_body(alloc, s.body.as_slice(), words),
-        Statement::If(i) => enter_body(alloc, i.body.as_slice(), words),
+        Statement::Decl(d) => names.enter(d.name.copy(alloc)?),
+        Statement::Call(c) => names.enter(c.name.copy(alloc)?),
+        Statement::Scatter(s) => enter_body(alloc, s.body.as_slice(), names),
+        Statement::If(i) => enter_body(alloc, i.body.as_slice(), names),
     }
 }
 
 /// Adds the declarations and calls of statements and of the bodies in them.
 #[cycle(declared)]
-fn enter_body(alloc: Global, body: &[Statement], words: &mut Words) -> Result<(), NoMemory>
-    ensures { OnOk result (words.new ≡ words.old ++ bodies.all_declared body.now) }
+fn enter_body(alloc: Global, body: &[Statement], names: &mut NameStack) -> Result<(), NoMemory>
+    ensures { OnOk result (names.new ≡ names.old ++ bodies.all_declared body.now) }
 {
     for statement in body {
-        enter_statement(alloc, statement, words)?;
+        enter_statement(alloc, statement, names)?;
     }
     Ok(())
 }
 
 #[cycle(items)]
-fn enter_item(alloc: Global, statement: &Statement, words: &mut Words) -> Result<(), NoMemory>
-    ensures { OnOk result (words.new ≡ words.old ++ spec.items_in statement.now) }
+fn enter_item(alloc: Global, statement: &Statement, names: &mut NameStack) -> Result<(), NoMemory>
+    ensures { OnOk result (names.new ≡ names.old ++ spec.items_in statement.now) }
 {
     match statement {
         Statement::Decl(_) | Statement::Call(_) => Ok(()),
         Statement::Scatter(s) => {
-            words.enter(s.item.copy(alloc)?)?;
-            enter_items(alloc, s.body.as_slice(), words)
+            names.enter(s.item.copy(alloc)?)?;
+            enter_items(alloc, s.body.as_slice(), names)
         }
-        Statement::If(i) => enter_items(alloc, i.body.as_slice(), words),
+        Statement::If(i) => enter_items(alloc, i.body.as_slice(), names),
     }
 }
 
 /// Adds the items of the scatters in statements.
 #[cycle(items)]
-fn enter_items(alloc: Global, body: &[Statement], words: &mut Words) -> Result<(), NoMemory>
-    ensures { OnOk result (words.new ≡ words.old ++ spec.items_of body.now) }
+fn enter_items(alloc: Global, body: &[Statement], names: &mut NameStack) -> Result<(), NoMemory>
+    ensures { OnOk result (names.new ≡ names.old ++ spec.items_of body.now) }
 {
     for statement in body {
-        enter_item(alloc, statement, words)?;
+        enter_item(alloc, statement, names)?;
     }
     Ok(())
 }
 
 /// The names of a workflow.
-pub fn taken_by(alloc: Global, flow: &FlowDef) -> Result<Words, NoMemory>
+pub fn taken_by(alloc: Global, flow: &FlowDef) -> Result<NameStack, NoMemory>
     ensures { IfOk result (λ w. w ≡ spec.taken_by flow.now) }
 {
-    let mut words = Words::empty(alloc);
-    enter_inputs(alloc, flow.inputs.as_slice(), &mut words)?;
-    enter_body(alloc, flow.body.as_slice(), &mut words)?;
-    enter_decls(alloc, flow.outputs.as_slice(), &mut words)?;
-    enter_items(alloc, flow.body.as_slice(), &mut words)?;
-    Ok(words)
+    let mut names = NameStack::empty(alloc);
+    enter_inputs(alloc, flow.inputs.as_slice(), &mut names)?;
+    enter_body(alloc, flow.body.as_slice(), &mut names)?;
+    enter_decls(alloc, flow.outputs.as_slice(), &mut names)?;
+    enter_items(alloc, flow.body.as_slice(), &mut names)?;
+    Ok(names)
 }

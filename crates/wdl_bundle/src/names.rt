@@ -13,11 +13,11 @@ use crate::reach::{Callee, Offer, Reach};
 use crate::tasks::Task;
 use std::alloc::Global;
 use wdl_ast::CallTarget;
-use wdl_names::Words;
+use wdl_names::NameStack;
 use wdl_value::{Name, NoMemory};
 
 /// A task of document 0 keeps its name.
-fn new_name(alloc: Global, taken: &Words, task: &Task) -> Result<Name, NoMemory>
+fn new_name(alloc: Global, taken: &NameStack, task: &Task) -> Result<Name, NoMemory>
     ensures { IfOk result (λ n. n ≡ spec.new_name taken.now (called.task_of task.now)) }
 {
     if task.doc == 0 {
@@ -29,7 +29,7 @@ fn new_name(alloc: Global, taken: &Words, task: &Task) -> Result<Name, NoMemory>
 /// The name of a task, where it is called; it is taken then.
 fn given(
     alloc: Global,
-    taken: &mut Words,
+    taken: &mut NameStack,
     task: &Task,
     is_called: bool,
 ) -> Result<Option<Name>, NoMemory>
@@ -49,7 +49,7 @@ fn names_from(
     alloc: Global,
     tasks: &[Task],
     marks: &[bool],
-    taken: &mut Words,
+    taken: &mut NameStack,
 ) -> Result<Vec<Option<Name>>, NoMemory>
     ensures { IfOk result (λ ns. ns.items ≡ spec.names_from (called.is_set marks.now) taken.old 0 (map called.task_of tasks.now)) }
 {
@@ -62,10 +62,10 @@ fn names_from(
 }
 
 /// The names that a document gives.
-fn own_names(alloc: Global, offers: &[Offer]) -> Result<Words, NoMemory>
+fn own_names(alloc: Global, offers: &[Offer]) -> Result<NameStack, NoMemory>
     ensures { IfOk result (λ ws. ws ≡ spec.own_names (map called.offer_of offers.now)) }
 {
-    let mut words = Words::empty(alloc);
+    let mut words = NameStack::empty(alloc);
     for offer in offers {
         words.enter(offer.name.copy(alloc)?)?;
     }

@@ -6,7 +6,7 @@ ghost use Rattle.wdl_base.specs.Names.{is_name};
 ghost use Rattle.wdl_bundle.specs.TaskNames as spec;
 
 use std::alloc::Global;
-use wdl_names::Words;
+use wdl_names::NameStack;
 use wdl_value::{Name, NameFault, NoMemory};
 
 fn name_of(alloc: Global, text: &str) -> Result<Name, NoMemory>
@@ -39,7 +39,7 @@ fn numbered(alloc: Global, doc: usize, number: usize, n: usize) -> Result<Name, 
 }
 
 /// `task_D_K_n` with the least n that makes it free, where `task_D_K` is taken.
-fn first_free(alloc: Global, taken: &Words, doc: usize, number: usize) -> Result<Name, NoMemory>
+fn first_free(alloc: Global, taken: &NameStack, doc: usize, number: usize) -> Result<Name, NoMemory>
     requires { has_name (spec.task_name doc number) taken.now ≡ true }
     ensures name { IfOk result (λ m. m ≡ spec.free_from (length taken.now) taken.now doc number 0) }
     ensures free { IfOk result (λ m. has_name m taken.now ≡ false) }
@@ -54,7 +54,12 @@ fn first_free(alloc: Global, taken: &Words, doc: usize, number: usize) -> Result
 }
 
 /// `task_D_K`, or `task_D_K_n` with the least n from 0 that is free.
-pub fn free_name(alloc: Global, taken: &Words, doc: usize, number: usize) -> Result<Name, NoMemory>
+pub fn free_name(
+    alloc: Global,
+    taken: &NameStack,
+    doc: usize,
+    number: usize,
+) -> Result<Name, NoMemory>
     ensures name { IfOk result (λ m. m ≡ spec.free_name taken.now doc number) }
     ensures free { IfOk result (λ m. has_name m taken.now ≡ false) }
 {

@@ -16,14 +16,14 @@ use wdl_ast::{Declaration, Expr};
 use wdl_check_order::order_of;
 use wdl_check_rules::{CheckFault, coerced, let_go, span_of};
 use wdl_check_types::{declaration_span, written_type};
-use wdl_names::Names;
+use wdl_names::TypedNames;
 use wdl_typed::{Bound, TDecl, TExpr};
 use wdl_value::{Items, Key, Name, NoMemory, Ty};
 
 fn check_private(
     alloc: Global,
     seeing: &Seeing,
-    names: &Names,
+    names: &TypedNames,
     e: &Expr,
     t: &Ty,
 ) -> Result<TExpr, CheckFault>
@@ -43,7 +43,7 @@ fn check_value(
     alloc: Global,
     standing: Standing,
     seeing: &Seeing,
-    names: &Names,
+    names: &TypedNames,
     e: &Expr,
     t: &Ty,
 ) -> Result<TExpr, CheckFault>
@@ -61,7 +61,7 @@ fn declared(
     alloc: Global,
     standing: Standing,
     seeing: &Seeing,
-    names: &Names,
+    names: &TypedNames,
     declaration: &Declaration,
     ty: Ty,
 ) -> Result<TDecl, CheckFault>
@@ -83,7 +83,7 @@ pub fn check_declaration(
     alloc: Global,
     standing: Standing,
     seeing: &Seeing,
-    names: &Names,
+    names: &TypedNames,
     declaration: &Declaration,
 ) -> Result<TDecl, CheckFault>
     ensures { outcome.Answers (spec.decl_typed standing (seen.world seeing.now) names.now declaration.now) result }
@@ -93,7 +93,7 @@ pub fn check_declaration(
 }
 
 /// Adds a name with its type behind the others.
-pub fn enter(alloc: Global, names: &mut Names, name: &Name, t: &Ty) -> Result<(), NoMemory>
+pub fn enter(alloc: Global, names: &mut TypedNames, name: &Name, t: &Ty) -> Result<(), NoMemory>
     ensures { OnOk result (names.new ≡ names.old ++ bound name.now t.now ∷ []) }
 {
     let ty = t.copy(alloc)?;
@@ -112,7 +112,7 @@ fn declare(
     alloc: Global,
     standing: Standing,
     seeing: &Seeing,
-    names: &mut Names,
+    names: &mut TypedNames,
     declaration: &Declaration,
 ) -> Result<TDecl, CheckFault>
     ensures value { outcome.Answers (spec.decl_typed standing (seen.world seeing.now) names.old declaration.now) result }
@@ -135,7 +135,7 @@ pub fn check_declarations(
     alloc: Global,
     standing: Standing,
     seeing: &Seeing,
-    names: &mut Names,
+    names: &mut TypedNames,
     list: &[&Declaration],
 ) -> Result<Items<TDecl>, CheckFault>
     ensures value { outcome.Answers (spec.decls_typed standing (seen.world seeing.now) names.old (map (λ d. d.now) list.now)) result }

@@ -8,7 +8,7 @@ use std::alloc::Global;
 use wdl_ast::Expr;
 use wdl_check_expr::{check_as, check_expr};
 use wdl_check_rules::{CheckFault, Scope, Typed};
-use wdl_names::Names;
+use wdl_names::TypedNames;
 use wdl_typed::TExpr;
 use wdl_value::Ty;
 
@@ -17,7 +17,7 @@ use wdl_value::Ty;
 pub fn check_in(
     alloc: Global,
     seeing: &Seeing,
-    names: &Names,
+    names: &TypedNames,
     outputs: bool,
     placeholder: bool,
     e: &Expr,
@@ -39,7 +39,7 @@ pub fn check_in(
 pub fn check_as_in(
     alloc: Global,
     seeing: &Seeing,
-    names: &Names,
+    names: &TypedNames,
     outputs: bool,
     e: &Expr,
     t: &Ty,

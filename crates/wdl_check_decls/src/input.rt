@@ -15,14 +15,14 @@ use wdl_ast::{Assigned, InputDeclaration};
 use wdl_check_order::order_of;
 use wdl_check_rules::{CheckFault, let_go};
 use wdl_check_types::{input_span, written_type};
-use wdl_names::Names;
+use wdl_names::TypedNames;
 use wdl_typed::{TExpr, TInput};
 use wdl_value::{Items, NoMemory, Ty};
 
 fn check_preset(
     alloc: Global,
     seeing: &Seeing,
-    names: &Names,
+    names: &TypedNames,
     preset: &Option<Assigned>,
     t: &Ty,
 ) -> Result<Option<TExpr>, CheckFault>
@@ -41,7 +41,7 @@ fn check_preset(
 fn with_default(
     alloc: Global,
     seeing: &Seeing,
-    names: &Names,
+    names: &TypedNames,
     input: &InputDeclaration,
     ty: Ty,
 ) -> Result<TInput, CheckFault>
@@ -60,7 +60,7 @@ fn with_default(
 fn check_input(
     alloc: Global,
     seeing: &Seeing,
-    names: &Names,
+    names: &TypedNames,
     input: &InputDeclaration,
 ) -> Result<TInput, CheckFault>
     ensures { outcome.Answers (spec.input_typed (seen.world seeing.now) names.now input.now) result }
@@ -73,7 +73,7 @@ fn check_input(
 fn declare(
     alloc: Global,
     seeing: &Seeing,
-    names: &mut Names,
+    names: &mut TypedNames,
     input: &InputDeclaration,
 ) -> Result<TInput, CheckFault>
     ensures value { outcome.Answers (spec.input_typed (seen.world seeing.now) names.old input.now) result }
@@ -95,7 +95,7 @@ fn declare(
 pub fn check_inputs(
     alloc: Global,
     seeing: &Seeing,
-    names: &mut Names,
+    names: &mut TypedNames,
     list: &[&InputDeclaration],
 ) -> Result<Items<TInput>, CheckFault>
     requires { names.old ≡ [] }

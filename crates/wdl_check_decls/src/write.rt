@@ -12,7 +12,7 @@ use std::alloc::Global;
 use wdl_ast::{Expr, Ident, ListItem};
 use wdl_check_rules::{CheckFault, Parts, Typed, apply_at};
 use wdl_check_types::from_to;
-use wdl_names::Names;
+use wdl_names::TypedNames;
 use wdl_value::{Func, Span};
 
 /// A call of a function that writes a file.
@@ -67,7 +67,7 @@ fn apply_to(alloc: Global, func: Func, argument: Typed, span: Span) -> Result<Ty
 fn check_write(
     alloc: Global,
     seeing: &Seeing,
-    names: &Names,
+    names: &TypedNames,
     placeholder: bool,
     call: &WriteCall,
 ) -> Result<Typed, CheckFault>
@@ -88,7 +88,7 @@ fn check_write(
 pub fn check_in_place(
     alloc: Global,
     seeing: &Seeing,
-    names: &Names,
+    names: &TypedNames,
     placeholder: bool,
     e: &Expr,
 ) -> Result<Typed, CheckFault>

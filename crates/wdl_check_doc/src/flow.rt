@@ -11,7 +11,7 @@ use std::alloc::Global;
 use wdl_check_decls::Seeing;
 use wdl_check_flow::{FlowHead, check_head};
 use wdl_check_rules::CheckFault;
-use wdl_names::{Indexed, Words};
+use wdl_names::{Indexed, NameStack};
 use wdl_value::StructDef;
 
 fn check_head_of(
@@ -21,7 +21,7 @@ fn check_head_of(
 ) -> Result<FlowHead, CheckFault>
     ensures { Answers (spec.head_of structs.now (spec.flow_of flow.now)) result }
 {
-    let calls = Words::empty(alloc);
+    let calls = NameStack::empty(alloc);
     let seeing = Seeing {
         structs,
         locals: flow.part.locals,

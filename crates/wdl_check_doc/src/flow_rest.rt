@@ -23,7 +23,7 @@ use wdl_check_decls::Seeing;
 use wdl_check_flow::{Callable, Context, FlowRest, Namespace, Targets, check_rest};
 use wdl_check_rules::CheckFault;
 use wdl_library::Link;
-use wdl_names::{Indexed, Words};
+use wdl_names::{Indexed, NameStack};
 use wdl_typed::TaskDef;
 use wdl_value::{NoMemory, StructDef};
 
@@ -87,7 +87,7 @@ fn check_rest_with(
 {
     let own = Indexed::new(alloc, own)?;
     let namespaces = Indexed::new(alloc, spaces)?;
-    let calls = Words::empty(alloc);
+    let calls = NameStack::empty(alloc);
     let context = Context {
         seeing: Seeing {
             structs,

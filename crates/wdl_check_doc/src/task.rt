@@ -11,7 +11,7 @@ use std::alloc::Global;
 use wdl_check_decls::Seeing;
 use wdl_check_rules::CheckFault;
 use wdl_check_task::check_task;
-use wdl_names::{Indexed, Words};
+use wdl_names::{Indexed, NameStack};
 use wdl_typed::TaskDef;
 use wdl_value::{Items, StructDef};
 
@@ -22,7 +22,7 @@ fn check_task_in(
 ) -> Result<TaskDef, CheckFault>
     ensures { Answers (spec.task_in structs.now (spec.task_of task.now)) result }
 {
-    let calls = Words::empty(alloc);
+    let calls = NameStack::empty(alloc);
     let seeing = Seeing {
         structs,
         locals: task.part.locals,

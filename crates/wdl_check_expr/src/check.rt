@@ -14,10 +14,10 @@ use wdl_ast::{
     BinaryOperator, Expr, Ident, ListItem, MapEntry, MemberEntry, PlaceholderOptions, StringPart,
 };
 use wdl_check_rules::{
-    CheckFault, Given, Parts, Scope, Typed, apply_at, binary_at, callee, check_name, choose_at,
-    condition_at, first_stray, given_value, hole_at, int_literal, is_call_alone, item_at, list_at,
-    literal, map_at, member_at, name_of, output_named, pair, plain_text, span_of, string_literal,
-    string_of_parts, struct_literal, struct_named, unary_at,
+    CheckFault, MemberValue, Parts, Scope, Typed, apply_at, binary_at, callee, check_name,
+    choose_at, condition_at, first_stray, given_value, hole_at, int_literal, is_call_alone,
+    item_at, list_at, literal, map_at, member_at, name_of, output_named, pair, plain_text, span_of,
+    string_literal, string_of_parts, struct_literal, struct_named, unary_at,
 };
 use wdl_typed::{TExpr, TPair, TPart};
 use wdl_value::{Span, Ty, Value};
@@ -365,7 +365,7 @@ fn check_members(
     entries: &[ListItem<MemberEntry<Expr>>],
     scope: &Scope,
     placeholder: bool,
-) -> Result<Parts<Given>, CheckFault>
+) -> Result<Parts<MemberValue>, CheckFault>
     ensures { spec.Gives (spec.members_checked place.span_of (spec.checked (scope_of scope.now)) entries.now placeholder) result }
 {
     let mut done = Parts::new(alloc);

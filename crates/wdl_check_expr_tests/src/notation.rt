@@ -6,7 +6,7 @@ use std::test::Fail;
 use wdl_ast::{BaseType, Expr, TypeTree};
 use wdl_check_rules::Local;
 use wdl_lex::lex;
-use wdl_names::{Names, Words};
+use wdl_names::{NameStack, TypedNames};
 use wdl_parse_expr::{parse_expr, parse_type};
 use wdl_typed::Bound;
 use wdl_value::{Key, Member, Name, NoMemory, StructDef, Ty};
@@ -103,8 +103,8 @@ fn bound(alloc: Global, name: &str, ty: &str) -> Result<Bound, Fail> {
 }
 
 /// Names with their types: `x Int;c.out File`.
-pub fn names(alloc: Global, rows: &str) -> Result<Names, Fail> {
-    let mut names = Names::empty(alloc);
+pub fn names(alloc: Global, rows: &str) -> Result<TypedNames, Fail> {
+    let mut names = TypedNames::empty(alloc);
     for row in rows.split(';') {
         let (name, ty) = row.split_once(' ').unwrap_or((row, ""));
         names.enter(bound(alloc, name, ty)?)?;
@@ -169,8 +169,8 @@ pub fn locals<'a>(alloc: Global, words: &'a [Name]) -> Result<Items<Local<'a>>, 
 }
 
 /// The calls that the expressions see.
-pub fn calls(alloc: Global) -> Result<Words, Fail> {
-    let mut calls = Words::empty(alloc);
+pub fn calls(alloc: Global) -> Result<NameStack, Fail> {
+    let mut calls = NameStack::empty(alloc);
     calls.enter(Name::new(alloc, "c")?)?;
     calls.enter(Name::new(alloc, "d")?)?;
     Ok(calls)

@@ -20,7 +20,7 @@ use wdl_check_decls::check_as_in;
 use wdl_check_order::call_arguments;
 use wdl_check_rules::{CheckFault, let_go};
 use wdl_check_types::{call_ident, call_span, from_to};
-use wdl_names::Words;
+use wdl_names::NameStack;
 use wdl_typed::{Statement, TCall, TExpr, TField, TInput};
 use wdl_value::{Items, Name, NoMemory, Span, Ty, is_optional};
 
@@ -99,7 +99,7 @@ fn next_argument(
     visible: &Visible,
     callable: &Callable,
     argument: &Argument,
-    given: &mut Words,
+    given: &mut NameStack,
 ) -> Result<TField<TExpr>, CheckFault>
     ensures value { outcome.Answers (spec.next_argument (place_of context.now) (seen_of visible.now) (offer_of callable.now) given.old argument.now) result }
     ensures given { IfOk result (λ f. given.new ≡ given.old ++ f.name ∷ []) }
@@ -122,7 +122,7 @@ fn check_arguments(
     visible: &Visible,
     callable: &Callable,
     arguments: &[ListItem<Argument>],
-    given: &mut Words,
+    given: &mut NameStack,
 ) -> Result<Items<TField<TExpr>>, CheckFault>
     requires { given.old ≡ [] }
     ensures value { outcome.Answers (spec.arguments_behind (place_of context.now) (seen_of visible.now) (offer_of callable.now) [] arguments.now) result }
@@ -143,7 +143,7 @@ fn is_required(input: &TInput) -> bool
     input.value.is_none() && !is_optional(&input.ty)
 }
 
-fn are_given(inputs: &[TInput], given: &Words) -> bool
+fn are_given(inputs: &[TInput], given: &NameStack) -> bool
     ensures { result ≡ bodies.all_given inputs.now given.now }
 {
     for input in inputs {
@@ -154,7 +154,7 @@ fn are_given(inputs: &[TInput], given: &Words) -> bool
     true
 }
 
-fn check_required(span: Span, callable: &Callable, given: &Words) -> Result<(), CheckFault>
+fn check_required(span: Span, callable: &Callable, given: &NameStack) -> Result<(), CheckFault>
     ensures { outcome.Answers (spec.required_given span (offer_of callable.now) given.now) result }
 {
     if are_given(callable.inputs.as_slice(), given) {
@@ -164,7 +164,7 @@ fn check_required(span: Span, callable: &Callable, given: &Words) -> Result<(), 
 }
 
 /// Where the first name behind `after` stands that is no call that is seen.
-fn first_unseen(calls: &Words, after: &[After]) -> Option<Span>
+fn first_unseen(calls: &NameStack, after: &[After]) -> Option<Span>
     ensures { result ≡ spec.first_unseen calls.now after.now }
 {
     for word in after {
@@ -223,7 +223,7 @@ fn check_call_of(
 ) -> Result<TCall, CheckFault>
     ensures { outcome.Answers (spec.call_to (place_of context.now) (seen_of visible.now) (offer_of callable.now) call.now) result }
 {
-    let mut given = Words::empty(alloc);
+    let mut given = NameStack::empty(alloc);
     let arguments = call_arguments(call);
     let args = check_arguments(alloc, context, visible, callable, arguments, &mut given)?;
     check_required(call_span(call), callable, &given)?;

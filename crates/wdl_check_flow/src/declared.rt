@@ -8,7 +8,7 @@ use std::alloc::Global;
 use wdl_ast::{Ident, Statement};
 use wdl_check_decls::first_repeated;
 use wdl_check_types::call_ident;
-use wdl_names::Words;
+use wdl_names::NameStack;
 use wdl_value::{NoMemory, Span};
 
 /// Puts the names of the declarations and calls of a statement, and of the bodies in it, behind the
@@ -58,7 +58,7 @@ fn idents_of<'a>(alloc: Global, sections: &Sections<'a>) -> Result<Vec<&'a Ident
 fn taken_item(
     alloc: Global,
     statement: &Statement,
-    words: &mut Words,
+    words: &mut NameStack,
 ) -> Result<Option<Span>, NoMemory>
     ensures taken { IfOk result (λ s. s ≡ spec.taken statement.now words.old) }
     ensures words { IfOk result (λ s. s ≡ None → words.new ≡ words.old) }
@@ -76,7 +76,7 @@ fn taken_in(
     alloc: Global,
     item: &Ident,
     body: &[Statement],
-    words: &mut Words,
+    words: &mut NameStack,
 ) -> Result<Option<Span>, NoMemory>
     ensures taken { IfOk result (λ s. s ≡ spec.taken_in item.now (map spec.taken body.now) words.old) }
     ensures words { IfOk result (λ s. s ≡ None → words.new ≡ words.old) }
@@ -95,7 +95,7 @@ fn taken_in(
 fn first_taken(
     alloc: Global,
     body: &[Statement],
-    words: &mut Words,
+    words: &mut NameStack,
 ) -> Result<Option<Span>, NoMemory>
     ensures taken { IfOk result (λ s. s ≡ spec.first_taken (map spec.taken body.now) words.old) }
     ensures words { IfOk result (λ s. s ≡ None → words.new ≡ words.old) }
@@ -116,7 +116,7 @@ fn taken_among(
 ) -> Result<Option<Span>, NoMemory>
     ensures { IfOk result (λ s. s ≡ spec.first_taken (map spec.taken (map (λ s. s.now) statements.now)) (spec.words_of (map (λ n. n.now) idents.now))) }
 {
-    let mut words = Words::empty(alloc);
+    let mut words = NameStack::empty(alloc);
     for ident in idents {
         words.enter(ident.name.copy(alloc)?)?;
     }

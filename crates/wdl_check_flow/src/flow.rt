@@ -20,7 +20,7 @@ use wdl_check_decls::{Seeing, Standing, check_declarations, check_inputs};
 use wdl_check_order::order_of;
 use wdl_check_rules::CheckFault;
 use wdl_check_types::written_type;
-use wdl_names::{Names, Words};
+use wdl_names::{NameStack, TypedNames};
 use wdl_typed::{Statement, TDecl, TInput};
 use wdl_value::{Items, Member, NoMemory};
 
@@ -87,7 +87,7 @@ fn check_head_inputs(
 ) -> Result<Items<TInput>, CheckFault>
     ensures { outcome.Answers (inputs_typed (seen.world seeing.now) (map (λ i. i.now) list.now)) result }
 {
-    let mut names = Names::empty(alloc);
+    let mut names = TypedNames::empty(alloc);
     check_inputs(alloc, seeing, &mut names, list)
 }
 
@@ -113,8 +113,8 @@ fn inputs_seen(alloc: Global, inputs: &[TInput]) -> Result<Visible, NoMemory>
     ensures { IfOk result (λ v. seen_of v ≡ spec.inputs_seen inputs.now) }
 {
     let mut visible = Visible {
-        names: Names::empty(alloc),
-        calls: Words::empty(alloc),
+        names: TypedNames::empty(alloc),
+        calls: NameStack::empty(alloc),
     };
     for input in inputs {
         visible.enter(alloc, &input.name, &input.ty)?;

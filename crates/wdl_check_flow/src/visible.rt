@@ -7,15 +7,15 @@ ghost use Rattle.wdl_check_flow.specs.Given as spec;
 
 use sqlite_items::{Boxed, Items};
 use std::alloc::Global;
-use wdl_names::{Names, Words};
+use wdl_names::{NameStack, TypedNames};
 use wdl_typed::{Bound, TDecl};
 use wdl_value::{Key, Member, Name, NoMemory, Ty, is_optional};
 
 /// The names that statements see with their types, and the calls that `after` may name.
 #[derive(Drop)]
 pub struct Visible {
-    pub names: Names,
-    pub calls: Words,
+    pub names: TypedNames,
+    pub calls: NameStack,
 }
 
 /// What a block makes of the types of the names that its body gives out.

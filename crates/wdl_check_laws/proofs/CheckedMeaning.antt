@@ -16,7 +16,7 @@ use Rattle.wdl_typed.specs.declared.expr.TExpr.{TExpr}
 use Rattle.wdl_typed.specs.declared.expr.TPair.{TPair}
 use Rattle.wdl_typed.specs.declared.expr.TPart.{TPart}
 use Rattle.wdl_typed.specs.declared.expr.TPart.TheVariants as tp
-use Rattle.wdl_check_rules.specs.declared.literal_members.Given.{Given}
+use Rattle.wdl_check_rules.specs.declared.literal_members.MemberValue.{MemberValue}
 use Rattle.wdl_check_rules.specs.Scopes.{Scope}
 use Rattle.wdl_check_rules.specs.declared.typed.Typed.{Typed}
 use Rattle.wdl_check_rules.specs.Checked.{Checked, Checking, checked, checked_step, then_, or_bad, items_checked, entries_checked, members_checked, parts_checked, list_checked, rows_checked, map_checked, string_checked, struct_checked, call_checked}
@@ -154,7 +154,7 @@ module _ (s : Scope) where
 
   members_same : (is : Members Known) (p : Bool) → members_typed typing_place typing (members (Part Typing) with_typing is) p ≡ members_typed condition_place typing_of (members (Part Conditioning) with_conditions is) p
   members_same [] p = refl
-  members_same (i ∷ is) p = ap (λ (z : Option (List Given)). both (λ x gs. Some (given i.item.name.name (span_of i.item.value.0) x ∷ gs)) (typed_at s i.item.value.0 p) z) (members_same is p)
+  members_same (i ∷ is) p = ap (λ (z : Option (List MemberValue)). both (λ x gs. Some (given i.item.name.name (span_of i.item.value.0) x ∷ gs)) (typed_at s i.item.value.0 p) z) (members_same is p)
 
   names_same : (A B : Type 0) (f : Expr → A) (g : Expr → B) (is : Members Known) → idents (members A f is) ≡ idents (members B g is)
   names_same A B f g [] = refl
@@ -244,7 +244,7 @@ module _ (s : Scope) where
       (names_same (Part Typing) (Part Checking) with_typing with_outcome ms)
       (subst (λ (z : List Ident). Agrees (struct_checked n.span def (idents (members (Part Typing) with_typing ms)) (members_checked outcome_place outcome (members (Part Checking) with_outcome ms) p)) (struct_typed def (idents (members (Part Typing) with_typing ms)) (members_typed typing_place typing (members (Part Typing) with_typing ms) p)) (members_conditions conditioned (members (Part Conditioning) with_conditions ms) p ++ struct_conditions n.span def z (members_typed condition_place typing_of (members (Part Conditioning) with_conditions ms) p)))
       (names_same (Part Typing) (Part Conditioning) with_typing with_conditions ms)
-      (subst (λ (z : Option (List Given)). Agrees (struct_checked n.span def (idents (members (Part Typing) with_typing ms)) (members_checked outcome_place outcome (members (Part Checking) with_outcome ms) p)) (struct_typed def (idents (members (Part Typing) with_typing ms)) (members_typed typing_place typing (members (Part Typing) with_typing ms) p)) (members_conditions conditioned (members (Part Conditioning) with_conditions ms) p ++ struct_conditions n.span def (idents (members (Part Typing) with_typing ms)) z))
+      (subst (λ (z : Option (List MemberValue)). Agrees (struct_checked n.span def (idents (members (Part Typing) with_typing ms)) (members_checked outcome_place outcome (members (Part Checking) with_outcome ms) p)) (struct_typed def (idents (members (Part Typing) with_typing ms)) (members_typed typing_place typing (members (Part Typing) with_typing ms) p)) (members_conditions conditioned (members (Part Conditioning) with_conditions ms) p ++ struct_conditions n.span def (idents (members (Part Typing) with_typing ms)) z))
       (members_same ms p)
       (struct_agrees n.span def (idents (members (Part Typing) with_typing ms)) (members_checked outcome_place outcome (members (Part Checking) with_outcome ms) p) (members_typed typing_place typing (members (Part Typing) with_typing ms) p) (members_conditions conditioned (members (Part Conditioning) with_conditions ms) p) (members_agree ms p))))
 

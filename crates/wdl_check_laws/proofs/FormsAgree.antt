@@ -18,7 +18,7 @@ use Rattle.wdl_typed.specs.declared.scope.Bound.{Bound}
 use Rattle.wdl_typed.specs.Scope.{type_in}
 use Rattle.wdl_typed.specs.Lists.{has_name}
 use Rattle.wdl_check_rules.specs.declared.fault.CheckFault.TheVariants.{Bad}
-use Rattle.wdl_check_rules.specs.declared.literal_members.Given.{Given}
+use Rattle.wdl_check_rules.specs.declared.literal_members.MemberValue.{MemberValue}
 use Rattle.wdl_check_rules.specs.Scopes.{Scope}
 use Rattle.wdl_check_rules.specs.declared.typed.Typed.{Typed}
 use Rattle.wdl_check_rules.specs.Checked.{Checked, then_, or_bad, bad, name_checked, condition_checked, if_checked, base_checked, member_checked, callee_checked, call_checked, rows_checked, first_stray, no_stray, value_checked, fields_checked, struct_with_checked, struct_checked}
@@ -104,7 +104,7 @@ strays ms before (n ∷ ns) = by_first (is_stray ms before n.name) (strays ms (b
     by_first true h = (refl, inl refl)
     by_first false h = h
 
-value_agrees : (span : Span) (t : Ty) (g : Option Given) → Agrees (value_checked span t g) (member_value t g) (member_conditions span t g)
+value_agrees : (span : Span) (t : Ty) (g : Option MemberValue) → Agrees (value_checked span t g) (member_value t g) (member_conditions span t g)
 value_agrees span t None = or_bad_agrees 310 span (left_out t)
 value_agrees span t (Some g) = or_bad_agrees 303 g.place (coerced g.value t)
 
@@ -117,17 +117,17 @@ fields_agree span (m ∷ ms) gs =
     (value_agrees span m.ty (gs m.name))
     (λ e is. map_agrees (fields_checked span ms rest) (fields_of ms rest) (fields_conditions span ms rest) (λ (fs : List (TField TExpr)). field m.name e ∷ fs) (fields_agree span ms rest))
 
-pub struct_agrees : (span : Span) (def : Option StructDef) (names : List Ident) (x : Checked (List Given)) (gs : Option (List Given)) (fs : Conditions) → Agrees x gs fs → Agrees (struct_checked span def names x) (struct_typed def names gs) (fs ++ struct_conditions span def names gs)
+pub struct_agrees : (span : Span) (def : Option StructDef) (names : List Ident) (x : Checked (List MemberValue)) (gs : Option (List MemberValue)) (fs : Conditions) → Agrees x gs fs → Agrees (struct_checked span def names x) (struct_typed def names gs) (fs ++ struct_conditions span def names gs)
 struct_agrees span None names x gs fs e = (refl, among_right (Bad 329 span) fs (at 329 span) (inl refl))
 struct_agrees span (Some d) names x gs fs e = by_strays (first_stray d.members [] names) (has_stray d.members [] names) (stray_conditions d.members [] names) (strays d.members [] names)
   where
-    by_outcome : (x : Checked (List Given)) (gs : Option (List Given)) (hs : Conditions) → Agrees x gs fs → Agrees (then_ x (struct_with_checked span d)) (option_map (struct_with d.name) (option_and_then (λ gs. fields_of d.members (given_of gs)) gs)) (fs ++ (hs ++ given_that gs (λ gs. fields_conditions span d.members (given_of gs))))
+    by_outcome : (x : Checked (List MemberValue)) (gs : Option (List MemberValue)) (hs : Conditions) → Agrees x gs fs → Agrees (then_ x (struct_with_checked span d)) (option_map (struct_with d.name) (option_and_then (λ gs. fields_of d.members (given_of gs)) gs)) (fs ++ (hs ++ given_that gs (λ gs. fields_conditions span d.members (given_of gs))))
     by_outcome (Ok a) gs hs e =
-        subst (λ (z : Option (List Given)). Agrees (struct_with_checked span d a) (option_map (struct_with d.name) (option_and_then (λ gs. fields_of d.members (given_of gs)) z)) (fs ++ (hs ++ given_that z (λ gs. fields_conditions span d.members (given_of gs))))) (sym e)
+        subst (λ (z : Option (List MemberValue)). Agrees (struct_with_checked span d a) (option_map (struct_with d.name) (option_and_then (λ gs. fields_of d.members (given_of gs)) z)) (fs ++ (hs ++ given_that z (λ gs. fields_conditions span d.members (given_of gs))))) (sym e)
         (more_right (struct_with_checked span d a) (option_map (struct_with d.name) (fields_of d.members (given_of a))) fs (hs ++ fields_conditions span d.members (given_of a))
         (more_right (struct_with_checked span d a) (option_map (struct_with d.name) (fields_of d.members (given_of a))) hs (fields_conditions span d.members (given_of a))
         (map_agrees (fields_checked span d.members (given_of a)) (fields_of d.members (given_of a)) (fields_conditions span d.members (given_of a)) (struct_with d.name) (fields_agree span d.members (given_of a)))))
-    by_outcome (Err f) gs hs e = (ap (λ (z : Option (List Given)). option_map (struct_with d.name) (option_and_then (λ gs. fields_of d.members (given_of gs)) z)) e.0, among_left f fs _ e.1)
+    by_outcome (Err f) gs hs e = (ap (λ (z : Option (List MemberValue)). option_map (struct_with d.name) (option_and_then (λ gs. fields_of d.members (given_of gs)) z)) e.0, among_left f fs _ e.1)
 
     by_strays : (a : Option Span) (b : Bool) (hs : Conditions) → Strays a b hs → Agrees (no_stray a (then_ x (struct_with_checked span d))) (if b then None else option_map (struct_with d.name) (option_and_then (λ gs. fields_of d.members (given_of gs)) gs)) (fs ++ (hs ++ given_that gs (λ gs. fields_conditions span d.members (given_of gs))))
     by_strays (Some a) b hs h =

@@ -37,7 +37,7 @@ use Rattle.wdl_typed.specs.Scope.{type_in}
 use Rattle.wdl_typed.specs.Typing as table
 use Rattle.wdl_typed.specs.Typing.{Context, Typing, type_step, type_of, when, literal_type, literal_at, all_types, all_same, are_same, at_of, at_type, binary_type, list_type, map_type, is_type, fields_have, struct_type, exact_args, apply_type, hole_takes, takes_some, keys_in, values_in, fields_in, items_in, member_type}
 use Rattle.wdl_check_rules.specs.Scopes.{Scope}
-use Rattle.wdl_check_rules.specs.declared.literal_members.Given.{Given}
+use Rattle.wdl_check_rules.specs.declared.literal_members.MemberValue.{MemberValue}
 use Rattle.wdl_check_rules.specs.declared.typed.Typed.{Typed}
 use Rattle.wdl_check_rules.specs.Functions.{reads_early}
 use Rattle.wdl_check_laws.specs.Laws.{context}
@@ -359,17 +359,17 @@ module _ (s : Scope) (p : Bool) where
   -- ---- struct literals
 
   abbrev GivenFine : GivenAt → Type 0
-  GivenFine gs = (q : List ℕ) (g : Given) → gs q ≡ Some g → Has g.value
+  GivenFine gs = (q : List ℕ) (g : MemberValue) → gs q ≡ Some g → Has g.value
 
-  abbrev pub HasGiven : Given → Type 0
+  abbrev pub HasGiven : MemberValue → Type 0
   HasGiven g = Has g.value
 
-  given_fine : (gs : List Given) → Each HasGiven gs → GivenFine (given_of gs)
+  given_fine : (gs : List MemberValue) → Each HasGiven gs → GivenFine (given_of gs)
   given_fine [] h q g e = cc
   given_fine (f ∷ gs) h q g e = by_head (bytes_eq f.name q) e (given_fine gs h.1 q g)
     where
       by_head : (b : Bool) → (if b then Some f else given_of gs q) ≡ Some g → (given_of gs q ≡ Some g → Has g.value) → Has g.value
-      by_head true e k = subst (λ (i : Given). Has i.value) (same_Some f g e) h.0
+      by_head true e k = subst (λ (i : MemberValue). Has i.value) (same_Some f g e) h.0
       by_head false e k = k e
 
   without_fine : (gs : GivenAt) (name : List ℕ) → GivenFine gs → GivenFine (without gs name)
@@ -379,7 +379,7 @@ module _ (s : Scope) (p : Bool) where
       by_test true e = cc
       by_test false e = h q g e
 
-  value_has : (t : Ty) (o : Option Given) (e : TExpr) → ((g : Given) → o ≡ Some g → Has g.value) → member_value t o ≡ Some e → type_of (context s) e p ≡ Some t
+  value_has : (t : Ty) (o : Option MemberValue) (e : TExpr) → ((g : MemberValue) → o ≡ Some g → Has g.value) → member_value t o ≡ Some e → type_of (context s) e p ≡ Some t
   value_has t (Some g) e h is = coerced_has g.value t e (h g refl) is
   value_has t None e h is = by_test (is_optional (out-Ty t)) refl is
     where
@@ -413,12 +413,12 @@ module _ (s : Scope) (p : Bool) where
       of_layer (te.StructOf name fs) (layer.StructOf name fs) (te.rolls-StructOf name fs)
       ∙ ap (option_and_then (λ ms. when (fields_have (field_types name fs) ms) (ty.Struct name))) is ∙ same_when (fields_have (field_types name fs) ms) (ty.Struct name) h
 
-  pub struct_fine : (def : Option StructDef) (names : List Ident) (o : Option (List Given)) → ((d : StructDef) → def ≡ Some d → members_of s.structs d.name ≡ Some d.members)
-      → ((gs : List Given) → o ≡ Some gs → Each HasGiven gs) → Fine (struct_typed def names o)
+  pub struct_fine : (def : Option StructDef) (names : List Ident) (o : Option (List MemberValue)) → ((d : StructDef) → def ≡ Some d → members_of s.structs d.name ≡ Some d.members)
+      → ((gs : List MemberValue) → o ≡ Some gs → Each HasGiven gs) → Fine (struct_typed def names o)
   struct_fine None names o is h x e = cc
   struct_fine (Some d) names o is h x e = by_stray (has_stray d.members [] names) e
     where
-      by_given : (q : Option (List Given)) → o ≡ q → option_map (struct_with d.name) (option_and_then (λ gs. fields_of d.members (given_of gs)) q) ≡ Some x → Has x
+      by_given : (q : Option (List MemberValue)) → o ≡ q → option_map (struct_with d.name) (option_and_then (λ gs. fields_of d.members (given_of gs)) q) ≡ Some x → Has x
       by_given None j e = cc
       by_given (Some gs) j e =
           let r = map_parts (struct_with d.name) (fields_of d.members (given_of gs)) x e in

@@ -19,7 +19,7 @@ use Rattle.wdl_typed.specs.declared.expr.TPart.{TPart}
 use Rattle.wdl_typed.specs.declared.expr.TPart.TheVariants as tp
 use Rattle.wdl_typed.specs.Typing.{type_of}
 use Rattle.wdl_check_rules.specs.Scopes.{Scope}
-use Rattle.wdl_check_rules.specs.declared.literal_members.Given.{Given}
+use Rattle.wdl_check_rules.specs.declared.literal_members.MemberValue.{MemberValue}
 use Rattle.wdl_check_rules.specs.declared.typed.Typed.{Typed}
 use Rattle.wdl_check_rules.specs.Functions.{func_of}
 use Rattle.wdl_check_rules.specs.Locals.{struct_named}
@@ -84,11 +84,11 @@ module _ (s : Scope) where
   abbrev members : List (ListItem (MemberEntry Known)) → List (ListItem (MemberEntry (Part Typing)))
   members is = (former-Expr-Struct-2).map Expr (Part Typing) with_typing ((former-Expr-Struct-2).map Known Expr bare is)
 
-  members_fine : (is : List (ListItem (MemberEntry Known))) (p : Bool) (gs : List Given) → members_typed place typing (members is) p ≡ Some gs → Each (HasGiven s p) gs
-  members_fine [] p gs h = subst (λ (z : List Given). Each (HasGiven s p) z) (same_Some [] gs h) tt
+  members_fine : (is : List (ListItem (MemberEntry Known))) (p : Bool) (gs : List MemberValue) → members_typed place typing (members is) p ≡ Some gs → Each (HasGiven s p) gs
+  members_fine [] p gs h = subst (λ (z : List MemberValue). Each (HasGiven s p) z) (same_Some [] gs h) tt
   members_fine (i ∷ is) p gs h =
-      let q = both_some (λ (x : Typed) (gs : List Given). given i.item.name.name (span_of i.item.value.0) x ∷ gs) (typed_at s i.item.value.0 p) (members_typed place typing (members is) p) gs h in
-      subst (λ (z : List Given). Each (HasGiven s p) z) q.4 (i.item.value.1 p q.0 q.2, members_fine is p q.1 q.3)
+      let q = both_some (λ (x : Typed) (gs : List MemberValue). given i.item.name.name (span_of i.item.value.0) x ∷ gs) (typed_at s i.item.value.0 p) (members_typed place typing (members is) p) gs h in
+      subst (λ (z : List MemberValue). Each (HasGiven s p) z) q.4 (i.item.value.1 p q.0 q.2, members_fine is p q.1 q.3)
 
   abbrev string : StringTree Known → StringTree (Part Typing)
   string t = (former-Expr-Str-0).map Expr (Part Typing) with_typing ((former-Expr-Str-0).map Known Expr bare t)

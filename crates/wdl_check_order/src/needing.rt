@@ -13,7 +13,7 @@ use wdl_ast::{
     After, Argument, Assigned, Call, Declaration, Expr, InputDeclaration, ListItem, Statement,
 };
 use wdl_check_types::call_ident;
-use wdl_names::Words;
+use wdl_names::NameStack;
 use wdl_order::Uses;
 use wdl_value::{Items, Name, NoMemory};
 
@@ -101,7 +101,7 @@ fn call_uses(alloc: Global, call: &Call) -> Result<Uses, NoMemory>
     Ok(Uses { gives, refers })
 }
 
-fn enter_all(alloc: Global, words: &mut Words, names: &[Name]) -> Result<(), NoMemory>
+fn enter_all(alloc: Global, words: &mut NameStack, names: &[Name]) -> Result<(), NoMemory>
     ensures { OnOk result (words.new ≡ words.old ++ names.now) }
 {
     for name in names {
@@ -114,7 +114,7 @@ fn enter_all(alloc: Global, words: &mut Words, names: &[Name]) -> Result<(), NoM
 fn outer_names(
     alloc: Global,
     e: &Expr,
-    inside: &Words,
+    inside: &NameStack,
     body: &[Name],
 ) -> Result<Items<Name>, NoMemory>
     ensures { IfOk result (λ ns. ns ≡ names.names_of e.now ++ without inside.now body.now) }
@@ -133,7 +133,7 @@ fn scatter_uses(alloc: Global, body: Uses, item: &Name, over: &Expr) -> Result<U
     ensures { IfOk result (λ u. as_needing u ≡ record { gives = body.gives; refers = names.names_of over.now ++ without (item.now ∷ body.gives) body.refers }) }
 {
     let Uses { gives, refers } = body;
-    let mut inside = Words::empty(alloc);
+    let mut inside = NameStack::empty(alloc);
     inside.enter(item.copy(alloc)?)?;
     enter_all(alloc, &mut inside, gives.as_slice())?;
     let refers = outer_names(alloc, over, &inside, refers.as_slice())?;
@@ -144,7 +144,7 @@ fn conditional_uses(alloc: Global, body: Uses, condition: &Expr) -> Result<Uses,
     ensures { IfOk result (λ u. as_needing u ≡ record { gives = body.gives; refers = names.names_of condition.now ++ without body.gives body.refers }) }
 {
     let Uses { gives, refers } = body;
-    let mut inside = Words::empty(alloc);
+    let mut inside = NameStack::empty(alloc);
     enter_all(alloc, &mut inside, gives.as_slice())?;
     let refers = outer_names(alloc, condition, &inside, refers.as_slice())?;
     Ok(Uses { gives, refers })

@@ -13,7 +13,7 @@ use Rattle.wdl_check_rules.specs.Typed.{idents}
 use Rattle.std.specs.Str.{bytes_eq}
 use Rattle.wdl_value.specs.declared.ty.Member.{Member}
 use Rattle.wdl_ast.specs.declared.leaf.Ident.{Ident}
-use Rattle.wdl_check_rules.specs.declared.literal_members.Given.{Given}
+use Rattle.wdl_check_rules.specs.declared.literal_members.MemberValue.{MemberValue}
 use Rattle.wdl_check_rules.specs.Members.{is_member, is_listed, is_stray, GivenAt, given_of, without, field}
 use Rattle.wdl_check_rules.specs.Rules.{or_else}
 
@@ -51,7 +51,7 @@ left_or_stray true true = refl
 left_or_stray true false = refl
 left_or_stray false l = refl
 
-given_more : (gs : List Given) (g : Given) (q : List ℕ) → given_of (gs ++ g ∷ []) q ≡ or_else (given_of gs q) (if bytes_eq g.name q then Some g else None)
+given_more : (gs : List MemberValue) (g : MemberValue) (q : List ℕ) → given_of (gs ++ g ∷ []) q ≡ or_else (given_of gs q) (if bytes_eq g.name q then Some g else None)
 given_more [] g q = refl
 given_more (f ∷ gs) g q = by_head (bytes_eq f.name q) (given_more gs g q)
   where
@@ -60,10 +60,10 @@ given_more (f ∷ gs) g q = by_head (bytes_eq f.name q) (given_more gs g q)
     by_head false h = h
 
 -- the last one goes into a map over those behind it
-pub last_given : (gs : List Given) (g : Given) (q : List ℕ) (later : Option Given) → or_else (given_of gs q) (cond (bytes_eq g.name q) (Some g) later) ≡ or_else (given_of (gs ++ g ∷ []) q) later
+pub last_given : (gs : List MemberValue) (g : MemberValue) (q : List ℕ) (later : Option MemberValue) → or_else (given_of gs q) (cond (bytes_eq g.name q) (Some g) later) ≡ or_else (given_of (gs ++ g ∷ []) q) later
 last_given gs g q later = by_parts (given_of gs q) (bytes_eq g.name q) (given_more gs g q)
   where
-    by_parts : (o : Option Given) (b : Bool) → given_of (gs ++ g ∷ []) q ≡ or_else o (if b then Some g else None) → or_else o (cond b (Some g) later) ≡ or_else (given_of (gs ++ g ∷ []) q) later
+    by_parts : (o : Option MemberValue) (b : Bool) → given_of (gs ++ g ∷ []) q ≡ or_else o (if b then Some g else None) → or_else o (cond b (Some g) later) ≡ or_else (given_of (gs ++ g ∷ []) q) later
     by_parts (Some f) b h = cc
     by_parts None true h = cc
     by_parts None false h = cc

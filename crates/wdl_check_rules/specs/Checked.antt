@@ -28,7 +28,7 @@ use Rattle.wdl_typed.specs.declared.expr.TPart.TheVariants as tp
 use Rattle.wdl_typed.specs.declared.scope.Bound.{Bound}
 use Rattle.wdl_check_rules.specs.declared.fault.CheckFault.{CheckFault}
 use Rattle.wdl_check_rules.specs.declared.fault.CheckFault.TheVariants.{Bad, NoMemory}
-use Rattle.wdl_check_rules.specs.declared.literal_members.Given.{Given}
+use Rattle.wdl_check_rules.specs.declared.literal_members.MemberValue.{MemberValue}
 use Rattle.wdl_check_rules.specs.Scopes.{Scope}
 use Rattle.wdl_check_rules.specs.declared.typed.Typed.{Typed}
 use Rattle.wdl_check_rules.specs.Conditions.{name_code, is_call_alone}
@@ -75,7 +75,7 @@ entries_checked f [] p = Ok []
 entries_checked f (i ∷ is) p =
     then_ (f i.item.key p) (λ x. then_ (f i.item.value p) (λ y. then_ (entries_checked f is p) (λ rows. Ok (row x y ∷ rows))))
 
-abbrev pub members_checked : {E : Type 0} → (E → Span) → (E → Checking) → List (ListItem (MemberEntry E)) → Bool → Checked (List Given)
+abbrev pub members_checked : {E : Type 0} → (E → Span) → (E → Checking) → List (ListItem (MemberEntry E)) → Bool → Checked (List MemberValue)
 members_checked place f [] p = Ok []
 members_checked place f (i ∷ is) p =
     then_ (f i.item.value p) (λ x. then_ (members_checked place f is p) (λ gs. Ok (given i.item.name.name (place i.item.value) x ∷ gs)))
@@ -148,7 +148,7 @@ abbrev pub no_stray : Option Span → Checked Typed → Checked Typed
 no_stray (Some span) x = bad 310 span
 no_stray None x = x
 
-abbrev pub value_checked : Span → Ty → Option Given → Checked TExpr
+abbrev pub value_checked : Span → Ty → Option MemberValue → Checked TExpr
 value_checked span t None = or_bad 310 span (left_out t)
 value_checked span t (Some g) = or_bad 303 g.place (coerced g.value t)
 
@@ -157,10 +157,10 @@ fields_checked span [] gs = Ok []
 fields_checked span (m ∷ ms) gs =
     then_ (value_checked span m.ty (gs m.name)) (λ e. then_ (fields_checked span ms (without gs m.name)) (λ fs. Ok (field m.name e ∷ fs)))
 
-abbrev pub struct_with_checked : Span → StructDef → List Given → Checked Typed
+abbrev pub struct_with_checked : Span → StructDef → List MemberValue → Checked Typed
 struct_with_checked span d gs = then_ (fields_checked span d.members (given_of gs)) (λ fs. Ok (struct_with d.name fs))
 
-abbrev pub struct_checked : Span → Option StructDef → List Ident → Checked (List Given) → Checked Typed
+abbrev pub struct_checked : Span → Option StructDef → List Ident → Checked (List MemberValue) → Checked Typed
 struct_checked span None names gs = bad 329 span
 struct_checked span (Some d) names gs =
     no_stray (first_stray d.members [] names) (then_ gs (struct_with_checked span d))

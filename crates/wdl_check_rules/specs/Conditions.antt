@@ -21,7 +21,7 @@ use Rattle.wdl_typed.specs.Lists.{has_name}
 use Rattle.wdl_typed.specs.Scope.{type_in}
 use Rattle.wdl_check_rules.specs.declared.fault.CheckFault.{CheckFault}
 use Rattle.wdl_check_rules.specs.declared.fault.CheckFault.TheVariants.{Bad, NoMemory}
-use Rattle.wdl_check_rules.specs.declared.literal_members.Given.{Given}
+use Rattle.wdl_check_rules.specs.declared.literal_members.MemberValue.{MemberValue}
 use Rattle.wdl_check_rules.specs.Scopes.{Scope}
 use Rattle.wdl_check_rules.specs.declared.typed.Typed.{Typed}
 use Rattle.wdl_check_rules.specs.Functions.{func_of, reads_early}
@@ -97,7 +97,7 @@ stray_conditions ms before [] = []
 stray_conditions ms before (n ∷ ns) = where_ (is_stray ms before n.name) (at 310 n.span) ++ stray_conditions ms (before ++ n ∷ []) ns
 
 -- 303: a member's value of another type; 310: a member that is not given and not optional
-abbrev pub member_conditions : Span → Ty → Option Given → Conditions
+abbrev pub member_conditions : Span → Ty → Option MemberValue → Conditions
 member_conditions span t None = unless (left_out t) (at 310 span)
 member_conditions span t (Some g) = unless (coerced g.value t) (at 303 g.place)
 
@@ -119,7 +119,7 @@ argument_conditions None xs span = []
 argument_conditions (Some f) xs span = given_that xs (λ xs. unless (apply_of f xs) (at 305 span))
 
 -- 329: no struct of that name
-abbrev pub struct_conditions : Span → Option StructDef → List Ident → Option (List Given) → Conditions
+abbrev pub struct_conditions : Span → Option StructDef → List Ident → Option (List MemberValue) → Conditions
 struct_conditions span None names gs = at 329 span
 struct_conditions span (Some d) names gs =
     stray_conditions d.members [] names ++ given_that gs (λ gs. fields_conditions span d.members (given_of gs))

@@ -10,7 +10,7 @@ use Rattle.wdl_ast.specs.declared.leaf.Ident.{Ident}
 use Rattle.wdl_typed.specs.declared.expr.TExpr.{TExpr}
 use Rattle.wdl_typed.specs.declared.expr.TExpr.TheVariants as te
 use Rattle.wdl_typed.specs.declared.expr.TField.{TField}
-use Rattle.wdl_check_rules.specs.declared.literal_members.Given.{Given}
+use Rattle.wdl_check_rules.specs.declared.literal_members.MemberValue.{MemberValue}
 use Rattle.wdl_check_rules.specs.declared.typed.Typed.{Typed}
 use Rattle.wdl_check_rules.specs.Rules.{typing, literal, cast_to, coerced}
 
@@ -32,9 +32,9 @@ has_stray ms before (n ∷ ns) = is_stray ms before n.name || has_stray ms (befo
 
 -- what is given under each name
 abbrev pub GivenAt : Type 0
-GivenAt = List ℕ → Option Given
+GivenAt = List ℕ → Option MemberValue
 
-abbrev pub given_of : List Given → GivenAt
+abbrev pub given_of : List MemberValue → GivenAt
 given_of [] name = None
 given_of (g ∷ gs) name = if bytes_eq g.name name then Some g else given_of gs name
 
@@ -46,7 +46,7 @@ without gs name q = if bytes_eq name q then None else gs q
 abbrev pub left_out : Ty → Option TExpr
 left_out t = if is_optional (out-Ty t) then Some (cast_to (literal v.Absent ty.Absent) t) else None
 
-abbrev pub member_value : Ty → Option Given → Option TExpr
+abbrev pub member_value : Ty → Option MemberValue → Option TExpr
 member_value t None = left_out t
 member_value t (Some g) = coerced g.value t
 

@@ -20,7 +20,7 @@ use Rattle.wdl_typed.specs.declared.expr.TExpr.{TExpr}
 use Rattle.wdl_typed.specs.declared.expr.TPair.{TPair}
 use Rattle.wdl_typed.specs.declared.expr.TPart.{TPart}
 use Rattle.wdl_typed.specs.declared.expr.TPart.TheVariants as tp
-use Rattle.wdl_check_rules.specs.declared.literal_members.Given.{Given}
+use Rattle.wdl_check_rules.specs.declared.literal_members.MemberValue.{MemberValue}
 use Rattle.wdl_check_rules.specs.Scopes.{Scope}
 use Rattle.wdl_check_rules.specs.declared.typed.Typed.{Typed}
 use Rattle.wdl_check_rules.specs.Functions.{func_of, reads_early}
@@ -58,10 +58,10 @@ entries_typed f [] p = Some []
 entries_typed f (i ∷ is) p =
     both (λ x y. option_map (λ rows. row x y ∷ rows) (entries_typed f is p)) (f i.item.key p) (f i.item.value p)
 
-abbrev pub given : List ℕ → Span → Typed → Given
+abbrev pub given : List ℕ → Span → Typed → MemberValue
 given name place x = record { name = name; place = place; value = x }
 
-abbrev pub members_typed : {E : Type 0} → (E → Span) → (E → Typing) → List (ListItem (MemberEntry E)) → Bool → Option (List Given)
+abbrev pub members_typed : {E : Type 0} → (E → Span) → (E → Typing) → List (ListItem (MemberEntry E)) → Bool → Option (List MemberValue)
 members_typed place f [] p = Some []
 members_typed place f (i ∷ is) p =
     both (λ x gs. Some (given i.item.name.name (place i.item.value) x ∷ gs)) (f i.item.value p) (members_typed place f is p)
@@ -88,7 +88,7 @@ call_typed s None xs = None
 call_typed s (Some f) xs = if may_call s.outputs f then option_and_then (apply_of f) xs else None
 
 -- a literal of a struct has the name of the library
-abbrev pub struct_typed : Option StructDef → List Ident → Option (List Given) → Option Typed
+abbrev pub struct_typed : Option StructDef → List Ident → Option (List MemberValue) → Option Typed
 struct_typed None names gs = None
 struct_typed (Some d) names gs =
     if has_stray d.members [] names then None else option_map (struct_with d.name) (option_and_then (λ gs. fields_of d.members (given_of gs)) gs)

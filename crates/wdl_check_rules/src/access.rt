@@ -1,64 +1,17 @@
 //! Members of pairs and structs, and items of arrays and maps.
 
 ghost use Rattle.std.specs.Prelude.{◌≡◌, IfOk, option_map};
-ghost use Rattle.std.specs.Option.{option_copied};
 ghost use Rattle.wdl_typed.specs.Typing as table;
-ghost use Rattle.wdl_value.specs.Fits as fits;
-ghost use Rattle.wdl_value.specs.Kinds as kind;
 ghost use Rattle.wdl_check_rules.specs.Rules as spec;
 
+use crate::operator::is_int;
 use crate::typed::{Typed, coerced};
 use sqlite_items::{Boxed, Items};
 use std::alloc::Global;
+use struct_members::member_type;
 use wdl_names::Indexed;
 use wdl_typed::TExpr;
-use wdl_value::{Member, Name, NoMemory, StructDef, Ty};
-
-/// The members of the first struct of that name.
-fn members_of<'a>(structs: &Indexed<'a, StructDef>, name: &Name) -> Option<&'a [Member]>
-    ensures { option_copied result ≡ fits.members_of structs.now name.now }
-{
-    match structs.find(name) {
-        Some(def) => Some(def.members.as_slice()),
-        None => None,
-    }
-}
-
-fn is_int(t: &Ty) -> bool
-    ensures { result ≡ kind.is_int t.now }
-{
-    matches!(t, Ty::Int)
-}
-
-fn type_among<'a>(members: &'a [Member], name: &Name) -> Option<&'a Ty>
-    ensures { option_copied result ≡ table.type_among members.now name.now }
-{
-    for member in members {
-        if member.name.same(name) {
-            return Some(&member.ty);
-        }
-    }
-    None
-}
-
-/// The type of a part of a pair, or of a member of a struct.
-fn member_type<'a>(structs: &Indexed<'a, StructDef>, name: &Name, ty: &'a Ty) -> Option<&'a Ty>
-    ensures { option_copied result ≡ table.member_type structs.now name.now ty.now }
-{
-    match ty {
-        Ty::Pair { left, right } => {
-            if name.is("left") {
-                Some(left.get())
-            } else if name.is("right") {
-                Some(right.get())
-            } else {
-                None
-            }
-        }
-        Ty::Struct(owner) => type_among(members_of(structs, owner)?, name),
-        _ => None,
-    }
-}
+use wdl_value::{Name, NoMemory, StructDef, Ty};
 
 /// A copy of the type of a member.
 fn copied_type(

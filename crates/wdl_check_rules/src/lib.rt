@@ -20,7 +20,7 @@ mod typed;
 pub use call::callee;
 pub use collection::{map_at, pair};
 pub use fault::CheckFault;
-pub use literal_members::{Given, first_stray, given_value, struct_literal};
+pub use literal_members::{MemberValue, first_stray, given_value, struct_literal};
 pub use local::{Local, stands_for, struct_named};
 pub use name::{check_name, is_call_alone, output_named};
 pub use parts::Parts;

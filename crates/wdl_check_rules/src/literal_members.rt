@@ -23,7 +23,7 @@ use wdl_value::{Member, Name, NoMemory, Span, StructDef, Ty, Value, is_optional}
 
 /// A member's value of a struct literal, which stands at `place`.
 #[derive(Drop)]
-pub struct Given {
+pub struct MemberValue {
     pub name: Name,
     pub place: Span,
     pub value: Typed,
@@ -34,11 +34,11 @@ pub fn given_value(
     alloc: Global,
     entry: &MemberEntry<Expr>,
     value: Typed,
-) -> Result<Given, NoMemory>
+) -> Result<MemberValue, NoMemory>
     ensures { IfOk result (λ g. g ≡ typing.given entry.now.name.name (place.span_of entry.now.value) value) }
 {
     let name = entry.name.name.copy(alloc)?;
-    Ok(Given {
+    Ok(MemberValue {
         name,
         place: span_of(&entry.value),
         value,
@@ -85,10 +85,14 @@ fn left_out(alloc: Global, t: &Ty) -> Result<Option<TExpr>, NoMemory>
 }
 
 /// Lets what stood under a name go.
-fn discard(_old: Option<Given>) {}
+fn discard(_old: Option<MemberValue>) {}
 
 /// Puts a value under its name, in the place of what stood there.
-fn put(alloc: Global, names: &mut BTreeMap<String, Given>, given: Given) -> Result<(), NoMemory>
+fn put(
+    alloc: Global,
+    names: &mut BTreeMap<String, MemberValue>,
+    given: MemberValue,
+) -> Result<(), NoMemory>
     ensures { OnOk result ((q : List ℕ) → get_by_text names.new q ≡ cond (bytes_eq given.name q) (Some given) (get_by_text names.old q)) }
 {
     let name = String::from_str(alloc, given.name.as_str())?;
@@ -97,7 +101,10 @@ fn put(alloc: Global, names: &mut BTreeMap<String, Given>, given: Given) -> Resu
 }
 
 /// What is given first under each name.
-fn by_name(alloc: Global, given: Parts<Given>) -> Result<BTreeMap<String, Given>, NoMemory>
+fn by_name(
+    alloc: Global,
+    given: Parts<MemberValue>,
+) -> Result<BTreeMap<String, MemberValue>, NoMemory>
     ensures { IfOk result (λ names. (q : List ℕ) → get_by_text names q ≡ spec.given_of given q) }
 {
     let mut rest = given.into_deque();
@@ -114,7 +121,7 @@ fn member_value(
     alloc: Global,
     span: Span,
     t: &Ty,
-    given: Option<Given>,
+    given: Option<MemberValue>,
 ) -> Result<TExpr, CheckFault>
     ensures { checked.Gives (checked.value_checked span t.now given) result }
 {
@@ -123,7 +130,7 @@ fn member_value(
             Some(expr) => Ok(expr),
             None => Err(CheckFault::Bad { code: 310, span }),
         },
-        Some(Given { place, value, .. }) => match coerced(alloc, value, t)? {
+        Some(MemberValue { place, value, .. }) => match coerced(alloc, value, t)? {
             Some(expr) => Ok(expr),
             None => Err(CheckFault::Bad {
                 code: 303,
@@ -138,7 +145,7 @@ fn member_values(
     alloc: Global,
     span: Span,
     members: &[Member],
-    given: Parts<Given>,
+    given: Parts<MemberValue>,
 ) -> Result<Items<TField<TExpr>>, CheckFault>
     ensures { checked.Gives (checked.fields_checked span members.now (spec.given_of given)) result }
 {
@@ -158,7 +165,7 @@ pub fn struct_literal(
     alloc: Global,
     span: Span,
     def: &StructDef,
-    given: Parts<Given>,
+    given: Parts<MemberValue>,
 ) -> Result<Typed, CheckFault>
     ensures { checked.Gives (checked.struct_with_checked span def.now given) result }
 {

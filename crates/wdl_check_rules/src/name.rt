@@ -10,7 +10,7 @@ use crate::fault::CheckFault;
 use crate::typed::Typed;
 use std::alloc::Global;
 use wdl_ast::Ident;
-use wdl_names::{Names, Words};
+use wdl_names::{NameStack, TypedNames};
 use wdl_typed::TExpr;
 use wdl_value::{Key, Name, NoMemory};
 
@@ -30,7 +30,7 @@ fn key_of(alloc: Global, first: &Name, second: Option<&Name>) -> Result<Key, NoM
     }
 }
 
-fn typed_name(alloc: Global, names: &Names, key: Key) -> Result<Option<Typed>, NoMemory>
+fn typed_name(alloc: Global, names: &TypedNames, key: Key) -> Result<Option<Typed>, NoMemory>
     ensures { IfOk result (λ x. x ≡ spec.named names.now key) }
 {
     let ty = match names.type_of(&key) {
@@ -44,7 +44,7 @@ fn typed_name(alloc: Global, names: &Names, key: Key) -> Result<Option<Typed>, N
 }
 
 /// 307 for the name of a call, 301 for any other that stands for no value.
-fn name_code(calls: &Words, name: &Name) -> u16
+fn name_code(calls: &NameStack, name: &Name) -> u16
     ensures { result ≡ condition.name_code calls.now name.now }
 {
     if calls.has(name) { 307 } else { 301 }
@@ -53,8 +53,8 @@ fn name_code(calls: &Words, name: &Name) -> u16
 /// A name as an expression; `calls` are the names of the calls that are seen.
 pub fn check_name(
     alloc: Global,
-    names: &Names,
-    calls: &Words,
+    names: &TypedNames,
+    calls: &NameStack,
     ident: &Ident,
 ) -> Result<Typed, CheckFault>
     ensures { checked.Gives (checked.name_checked names.now calls.now ident.now) result }
@@ -73,7 +73,7 @@ pub fn check_name(
 /// together.
 pub fn output_named(
     alloc: Global,
-    names: &Names,
+    names: &TypedNames,
     base: Option<&Name>,
     member: &Name,
 ) -> Result<Option<Typed>, NoMemory>
@@ -89,8 +89,8 @@ pub fn output_named(
 /// Whether the name is that of a call and of no value.
 pub fn is_call_alone(
     alloc: Global,
-    names: &Names,
-    calls: &Words,
+    names: &TypedNames,
+    calls: &NameStack,
     name: Option<&Name>,
 ) -> Result<bool, NoMemory>
     ensures { IfOk result (λ b. b ≡ condition.is_call_alone names.now calls.now (option_copied name.entry)) }

@@ -22,7 +22,8 @@ fn is_bool(t: &Ty) -> bool
     matches!(t, Ty::Bool)
 }
 
-fn is_int(t: &Ty) -> bool
+/// Whether it is Int.
+pub fn is_int(t: &Ty) -> bool
     ensures { result ≡ kind.is_int t.now }
 {
     matches!(t, Ty::Int)

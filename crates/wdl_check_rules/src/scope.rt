@@ -1,5 +1,5 @@
 use crate::local::Local;
-use wdl_names::{Indexed, Names, Words};
+use wdl_names::{Indexed, NameStack, TypedNames};
 use wdl_value::StructDef;
 
 /// What an expression may refer to: names and structs, and whether functions may see what the
@@ -8,8 +8,8 @@ use wdl_value::StructDef;
 /// the expression stands inside a placeholder, where `+` takes undefined operands.
 #[derive(Drop)]
 pub struct Scope<'s, 'a> {
-    pub names: &'s Names,
-    pub calls: &'s Words,
+    pub names: &'s TypedNames,
+    pub calls: &'s NameStack,
     pub structs: &'s Indexed<'a, StructDef>,
     pub locals: &'s Indexed<'a, Local<'a>>,
     pub outputs: bool,

@@ -10,14 +10,14 @@ use std::alloc::Global;
 use wdl_ast::{Expr, Placeholder, PlaceholderOptions, StringPart};
 use wdl_check_decls::{Seeing, check_in, check_in_place};
 use wdl_check_rules::{CheckFault, Typed, hole_at, span_of};
-use wdl_names::Names;
+use wdl_names::TypedNames;
 use wdl_typed::{TExpr, TPart};
 use wdl_value::{Items, NoMemory, Part, Template, Text};
 
 fn check_value(
     alloc: Global,
     seeing: &Seeing,
-    names: &Names,
+    names: &TypedNames,
     options: &PlaceholderOptions,
     e: &Expr,
 ) -> Result<Typed, CheckFault>
@@ -32,7 +32,7 @@ fn check_value(
 fn check_hole(
     alloc: Global,
     seeing: &Seeing,
-    names: &Names,
+    names: &TypedNames,
     hole: &Placeholder<Expr>,
 ) -> Result<TPart<TExpr>, CheckFault>
     ensures { outcome.Answers (spec.hole_typed (seen.world seeing.now) names.now hole.now) result }
@@ -67,7 +67,7 @@ fn template_of(alloc: Global, parts: &[&StringPart<Expr>]) -> Result<Template, N
 fn check_placeholder(
     alloc: Global,
     seeing: &Seeing,
-    names: &Names,
+    names: &TypedNames,
     part: Option<&&StringPart<Expr>>,
 ) -> Result<TPart<TExpr>, CheckFault>
     ensures { outcome.Answers (spec.placeholder_typed (seen.world seeing.now) names.now (option_map (λ p. p.now.now) part.entry)) result }
@@ -81,7 +81,7 @@ fn check_placeholder(
 fn check_part(
     alloc: Global,
     seeing: &Seeing,
-    names: &Names,
+    names: &TypedNames,
     parts: &[&StringPart<Expr>],
     part: &Part,
 ) -> Result<TPart<TExpr>, CheckFault>
@@ -96,7 +96,7 @@ fn check_part(
 fn check_parts(
     alloc: Global,
     seeing: &Seeing,
-    names: &Names,
+    names: &TypedNames,
     parts: &[&StringPart<Expr>],
     template: &[Part],
 ) -> Result<Items<TPart<TExpr>>, CheckFault>
@@ -115,7 +115,7 @@ fn check_parts(
 pub fn check_command(
     alloc: Global,
     seeing: &Seeing,
-    names: &Names,
+    names: &TypedNames,
     parts: &[&StringPart<Expr>],
 ) -> Result<Items<TPart<TExpr>>, CheckFault>
     ensures { outcome.Answers (spec.command_typed (seen.world seeing.now) names.now (map (λ p. p.now) parts.now)) result }

@@ -12,7 +12,7 @@ use std::alloc::Global;
 use wdl_ast::{Attribute, Expr};
 use wdl_check_decls::{Seeing, check_in};
 use wdl_check_rules::{CheckFault, Typed, coerced, span_of};
-use wdl_names::Names;
+use wdl_names::TypedNames;
 use wdl_typed::{TCodes, TExpr};
 use wdl_types::coerces;
 use wdl_value::{NoMemory, Span, Ty, Value};
@@ -93,7 +93,7 @@ fn first_named<'a>(attributes: &[&'a Attribute<Expr>], name: &str) -> Option<&'a
 fn check_codes(
     alloc: Global,
     seeing: &Seeing,
-    names: &Names,
+    names: &TypedNames,
     attribute: &Attribute<Expr>,
 ) -> Result<TCodes, CheckFault>
     ensures { outcome.Answers (spec.codes_typed (seen.world seeing.now) names.now attribute.now) result }
@@ -105,7 +105,7 @@ fn check_codes(
 fn check_retries(
     alloc: Global,
     seeing: &Seeing,
-    names: &Names,
+    names: &TypedNames,
     attribute: &Attribute<Expr>,
 ) -> Result<TExpr, CheckFault>
     ensures { outcome.Answers (spec.retries_typed (seen.world seeing.now) names.now attribute.now) result }
@@ -117,7 +117,7 @@ fn check_retries(
 fn return_codes(
     alloc: Global,
     seeing: &Seeing,
-    names: &Names,
+    names: &TypedNames,
     attributes: &[&Attribute<Expr>],
 ) -> Result<TCodes, CheckFault>
     ensures { outcome.Answers (spec.some_codes (seen.world seeing.now) names.now (spec.first_named (codes "returnCodes") (map (λ a. a.now) attributes.now))) result }
@@ -131,7 +131,7 @@ fn return_codes(
 fn max_retries(
     alloc: Global,
     seeing: &Seeing,
-    names: &Names,
+    names: &TypedNames,
     attributes: &[&Attribute<Expr>],
 ) -> Result<Option<TExpr>, CheckFault>
     ensures { outcome.Answers (spec.some_retries (seen.world seeing.now) names.now (spec.first_named (codes "maxRetries") (map (λ a. a.now) attributes.now))) result }
@@ -145,7 +145,7 @@ fn max_retries(
 fn check_each(
     alloc: Global,
     seeing: &Seeing,
-    names: &Names,
+    names: &TypedNames,
     attributes: &[&Attribute<Expr>],
 ) -> Result<(), CheckFault>
     ensures { outcome.Answers (spec.each_typed (seen.world seeing.now) names.now (map (λ a. a.now) attributes.now)) result }
@@ -159,7 +159,7 @@ fn check_each(
 fn check_named(
     alloc: Global,
     seeing: &Seeing,
-    names: &Names,
+    names: &TypedNames,
     attributes: &[&Attribute<Expr>],
 ) -> Result<Said, CheckFault>
     ensures { outcome.Answers (spec.named_typed (seen.world seeing.now) names.now (map (λ a. a.now) attributes.now)) result }
@@ -180,7 +180,7 @@ fn check_named(
 pub fn check_runtime(
     alloc: Global,
     seeing: &Seeing,
-    names: &Names,
+    names: &TypedNames,
     attributes: &[&Attribute<Expr>],
 ) -> Result<Said, CheckFault>
     ensures { outcome.Answers (spec.runtime_typed (seen.world seeing.now) names.now (map (λ a. a.now) attributes.now)) result }

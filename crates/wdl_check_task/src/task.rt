@@ -19,7 +19,7 @@ use wdl_ast::TaskSection;
 use wdl_check_decls::{Seeing, Standing, check_declarations, check_inputs, first_repeated};
 use wdl_check_rules::CheckFault;
 use wdl_check_types::from_to;
-use wdl_names::Names;
+use wdl_names::TypedNames;
 use wdl_typed::{TDecl, TExpr, TInput, TPart, TaskDef};
 use wdl_value::{Items, Name, NoMemory, Span};
 
@@ -48,7 +48,7 @@ fn repeated(alloc: Global, section: &TaskSection) -> Result<Option<Span>, NoMemo
 fn task_inputs(
     alloc: Global,
     seeing: &Seeing,
-    names: &mut Names,
+    names: &mut TypedNames,
     section: &TaskSection,
 ) -> Result<Items<TInput>, CheckFault>
     requires { names.old ≡ [] }
@@ -62,7 +62,7 @@ fn task_inputs(
 fn task_privates(
     alloc: Global,
     seeing: &Seeing,
-    names: &mut Names,
+    names: &mut TypedNames,
     section: &TaskSection,
 ) -> Result<Items<TDecl>, CheckFault>
     ensures value { outcome.Answers (declared.decls_typed Standing.Private (seen.world seeing.now) names.old (sections.privates_of section.now.elements)) result }
@@ -75,7 +75,7 @@ fn task_privates(
 fn task_runtime(
     alloc: Global,
     seeing: &Seeing,
-    names: &Names,
+    names: &TypedNames,
     section: &TaskSection,
 ) -> Result<Said, CheckFault>
     ensures { outcome.Answers (runtime.runtime_typed (seen.world seeing.now) names.now (sections.attributes_of section.now.elements)) result }
@@ -87,7 +87,7 @@ fn task_runtime(
 fn task_command(
     alloc: Global,
     seeing: &Seeing,
-    names: &Names,
+    names: &TypedNames,
     section: &TaskSection,
 ) -> Result<Items<TPart<TExpr>>, CheckFault>
     ensures { outcome.Answers (command.command_typed (seen.world seeing.now) names.now (sections.parts_of section.now.elements)) result }
@@ -99,7 +99,7 @@ fn task_command(
 fn task_outputs(
     alloc: Global,
     seeing: &Seeing,
-    names: &mut Names,
+    names: &mut TypedNames,
     section: &TaskSection,
 ) -> Result<Items<TDecl>, CheckFault>
     ensures { outcome.Answers (declared.decls_typed Standing.Output (seen.world seeing.now) names.old (sections.outputs_of section.now.elements)) result }
@@ -111,7 +111,7 @@ fn task_outputs(
 fn check_head(
     alloc: Global,
     seeing: &Seeing,
-    names: &mut Names,
+    names: &mut TypedNames,
     section: &TaskSection,
 ) -> Result<Head, CheckFault>
     requires { names.old ≡ [] }
@@ -131,7 +131,7 @@ fn check_head(
 fn check_work(
     alloc: Global,
     seeing: &Seeing,
-    names: &Names,
+    names: &TypedNames,
     section: &TaskSection,
 ) -> Result<Work, CheckFault>
     ensures { outcome.Answers (spec.work_typed (seen.world seeing.now) names.now section.now) result }
@@ -166,7 +166,7 @@ fn task_of(span: Span, head: Head, work: Work, outputs: Items<TDecl>) -> TaskDef
 fn with_outputs(
     alloc: Global,
     seeing: &Seeing,
-    names: &mut Names,
+    names: &mut TypedNames,
     section: &TaskSection,
     head: Head,
     work: Work,
@@ -187,7 +187,7 @@ fn with_outputs(
 fn after_head(
     alloc: Global,
     seeing: &Seeing,
-    names: &mut Names,
+    names: &mut TypedNames,
     section: &TaskSection,
     head: Head,
 ) -> Result<TaskDef, CheckFault>
@@ -209,7 +209,7 @@ fn check_sections(
 ) -> Result<TaskDef, CheckFault>
     ensures { outcome.Answers (spec.sections_typed (seen.world seeing.now) section.now) result }
 {
-    let mut names = Names::empty(alloc);
+    let mut names = TypedNames::empty(alloc);
     let head = check_head(alloc, seeing, &mut names, section)?;
     after_head(alloc, seeing, &mut names, section, head)
 }

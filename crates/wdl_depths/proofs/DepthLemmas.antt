@@ -8,7 +8,7 @@ use Rattle.std.proofs.lemmas.Slice.Eq.{bytes_eq-Decides}
 use Rattle.wdl_value.specs.declared.ty.StructDef.{StructDef}
 use Rattle.wdl_value.specs.Fits.{Structs, members_of}
 use Rattle.wdl_typed.specs.KnownTypes.{is_shallow, some_structs}
-use Rattle.wdl_depths.proofs.FindLemmas.{members_of-find}
+use Rattle.struct_members.proofs.FindLemmas.{members_of-find}
 
 pub is_shallow-none : (structs : Structs) (name : List ℕ) → is_shallow zero structs name ≡ false
 unfolding is_shallow

@@ -1,3 +1,2 @@
 mod DepthLemmas
-mod FindLemmas
 mod LevelLemmas

@@ -3,11 +3,9 @@
 #![tactic(auto)]
 
 mod limits;
-mod members;
 mod nesting;
 mod shallow;
 
 pub use limits::{MOST_BLOCKS, MOST_STRUCTS};
-pub use members::members_of;
 pub use nesting::{Levels, body_nests, levels_of, nests};
 pub use shallow::{name_is_shallow, shallow_structs};

@@ -7,9 +7,9 @@ ghost use Rattle.wdl_typed.specs.KnownTypes as known;
 ghost use Rattle.wdl_depths.specs.Depths as spec;
 
 use crate::limits::MOST_STRUCTS;
-use crate::members::members_of;
 use sqlite_items::Items;
 use std::alloc::Global;
+use struct_members::members_of;
 use wdl_names::Indexed;
 use wdl_value::{Member, Name, NoMemory, StructDef, Ty};
 

@@ -8,7 +8,7 @@ use Rattle.wdl_typed.specs.Flow as flow
 use Rattle.wdl_typed.specs.Requests.{Successes}
 use Rattle.wdl_typed.specs.Statuses.{successes_of}
 use Rattle.wdl_flow.specs.declared.flowing.Flowing.{Flowing}
-use Rattle.wdl_flow.specs.declared.given.Given.{Given}
+use Rattle.wdl_flow.specs.declared.yielded.Yielded.{Yielded}
 use Rattle.wdl_flow.specs.declared.ground.Ground.{Ground}
 use Rattle.wdl_flow.specs.declared.job.AskedJob.{AskedJob}
 use Rattle.wdl_flow.specs.declared.known.Ended.{Ended}
@@ -67,7 +67,7 @@ run_of g =
       table = table g.answers;
     }
 
-abbrev pub given_of : Given → flow.Names
+abbrev pub given_of : Yielded → flow.Names
 given_of g = record { keys = g.keys; calls = g.calls }
 
 -- the first names, calls and segments of what is seen

@@ -33,22 +33,26 @@ ghost use Rattle.wdl_flow.specs.Views.{
 use crate::calls::Calls;
 use crate::fault::PlainFault;
 use crate::flowing::Flowing;
-use crate::given::{Given, ended_as};
 use crate::known::{Ended, Known};
-use crate::names::Names;
+use crate::known_names::KnownNames;
+use crate::yielded::{Yielded, ended_as};
 use std::alloc::Global;
 use wdl_value::{Items, Key, Name, NoMemory, Value};
 
 /// What the body gives for the items so far.
 #[derive(Drop)]
 pub struct Gathering {
-    pub names: Items<Names>,
+    pub names: Items<KnownNames>,
     pub calls: Items<Calls>,
     pub total: Flowing,
 }
 
 /// The values of a name at all items, or none where it is missing at one.
-fn values_of(alloc: Global, key: &Key, items: &[Names]) -> Result<Option<Items<Value>>, NoMemory>
+fn values_of(
+    alloc: Global,
+    key: &Key,
+    items: &[KnownNames],
+) -> Result<Option<Items<Value>>, NoMemory>
     ensures { IfOk result (λ o. o ≡ spec.values_at items.now key.now) }
 {
     let mut values = Items::new(alloc);
@@ -61,7 +65,7 @@ fn values_of(alloc: Global, key: &Key, items: &[Names]) -> Result<Option<Items<V
     Ok(Some(values))
 }
 
-fn gathered_name(alloc: Global, key: &Key, items: &[Names]) -> Result<Known, NoMemory>
+fn gathered_name(alloc: Global, key: &Key, items: &[KnownNames]) -> Result<Known, NoMemory>
     ensures { IfOk result (λ k. known_of k ≡ spec.gathered_name items.now key.now) }
 {
     let copy = key.copy(alloc)?;
@@ -77,7 +81,11 @@ fn gathered_name(alloc: Global, key: &Key, items: &[Names]) -> Result<Known, NoM
     }
 }
 
-fn gathered_names(alloc: Global, keys: &[Key], items: &[Names]) -> Result<Items<Known>, NoMemory>
+fn gathered_names(
+    alloc: Global,
+    keys: &[Key],
+    items: &[KnownNames],
+) -> Result<Items<Known>, NoMemory>
     ensures { IfOk result (λ ks. knowns_of ks ≡ map (spec.gathered_name items.now) keys.now) }
 {
     let mut names = Items::new(alloc);
@@ -141,7 +149,7 @@ impl Gathering {
             waits,
             count,
         } = item;
-        names.push(Names::of(alloc, item_names)?)?;
+        names.push(KnownNames::of(alloc, item_names)?)?;
         calls.push(Calls::of(alloc, item_calls)?)?;
         let total = total.and(Flowing {
             names: Items::new(alloc),
@@ -160,7 +168,7 @@ impl Gathering {
 
     /// What the scatter gives out: a name is the list of its values, or missing if it is missing at
     /// one item.
-    pub fn gathered(self, alloc: Global, given: &Given) -> Result<Flowing, NoMemory>
+    pub fn gathered(self, alloc: Global, given: &Yielded) -> Result<Flowing, NoMemory>
         ensures { (fs : List flow.Flowing) → IsGathered self fs → IfOk result (λ f. flowing_of f ≡ flow.gathered (given_of given.now) fs) }
     {
         let Gathering {

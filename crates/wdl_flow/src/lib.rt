@@ -8,13 +8,13 @@ mod calls;
 mod fault;
 mod flowing;
 mod gathering;
-mod given;
 mod ground;
 mod job;
 mod known;
+mod known_names;
 mod mark;
-mod names;
 mod sight;
+mod yielded;
 
 pub use answers::Answers;
 pub use calls::Calls;
@@ -23,10 +23,10 @@ pub use flowing::{
     COUNT_LIMIT, Flowing, JOB_LIMIT, fault_at, named, waiting, with_fault, with_jobs,
 };
 pub use gathering::Gathering;
-pub use given::{Given, ended_as, output_key};
 pub use ground::Ground;
 pub use job::{AskedJob, Terms};
 pub use known::{Ended, Known};
+pub use known_names::KnownNames;
 pub use mark::place_mark;
-pub use names::Names;
-pub use sight::{Mark, Sight};
+pub use sight::{Sight, SightMark};
+pub use yielded::{Yielded, ended_as, output_key};

@@ -5,27 +5,27 @@ ghost use Rattle.wdl_flow.specs.Views.{first, flowing_of, sight_of};
 use crate::calls::Calls;
 use crate::flowing::Flowing;
 use crate::known::{Ended, Known};
-use crate::names::Names;
+use crate::known_names::KnownNames;
 use std::alloc::Global;
 use wdl_value::{Items, NoMemory, Place, Segment};
 
 /// What a statement sees: names, calls, and the place of its body's instance.
 #[derive(Debug, Drop)]
 pub struct Sight {
-    pub names: Names,
+    pub names: KnownNames,
     pub calls: Calls,
     pub place: Place,
 }
 
 /// How many names and calls are seen, and how long the place is.
 #[derive(Clone, Copy, Debug)]
-pub struct Mark {
+pub struct SightMark {
     pub names: usize,
     pub calls: usize,
     pub segments: usize,
 }
 
-fn enter_names(alloc: Global, names: &mut Names, more: &[Known]) -> Result<(), NoMemory>
+fn enter_names(alloc: Global, names: &mut KnownNames, more: &[Known]) -> Result<(), NoMemory>
     ensures { OnOk result (names.new ≡ names.old ++ more.now) }
 {
     for known in more {
@@ -57,7 +57,7 @@ impl Sight {
         ensures { sight_of result ≡ flow.beginning place }
     {
         Sight {
-            names: Names::empty(alloc),
+            names: KnownNames::empty(alloc),
             calls: Calls::empty(alloc),
             place,
         }
@@ -72,12 +72,12 @@ impl Sight {
     }
 
     /// How much is seen.
-    pub fn mark(&self) -> Mark
+    pub fn mark(&self) -> SightMark
         ensures names { result.names ≡ length (sight_of self.now).names }
         ensures calls { result.calls ≡ length (sight_of self.now).calls }
         ensures segments { result.segments ≡ length (sight_of self.now).place }
     {
-        Mark {
+        SightMark {
             names: self.names.len(),
             calls: self.calls.len(),
             segments: self.place.len(),
@@ -85,7 +85,7 @@ impl Sight {
     }
 
     /// Takes away what was seen after a mark.
-    pub fn back_to(&mut self, mark: Mark)
+    pub fn back_to(&mut self, mark: SightMark)
         ensures { sight_of self.new ≡ first mark.names mark.calls mark.segments (sight_of self.old) }
     {
         self.names.keep(mark.names);

@@ -10,7 +10,7 @@ use crate::fault::LinkFault;
 use sqlite_items::Items;
 use std::alloc::Global;
 use wdl_ast::{Import, PlainString, Section};
-use wdl_names::Words;
+use wdl_names::NameStack;
 use wdl_paths::{ResolveFault, file_name, resolve};
 use wdl_value::{Name, NameFault, NoMemory, Span, Text};
 
@@ -94,7 +94,7 @@ fn name_of(alloc: Global, import: &Import) -> Result<Name, LinkFault>
 /// Adds the namespace of an import to those before it.
 fn take_name(
     alloc: Global,
-    taken: &mut Words,
+    taken: &mut NameStack,
     name: &Name,
     import: &Import,
 ) -> Result<(), LinkFault>
@@ -113,7 +113,7 @@ fn take_name(
 fn want_of(
     alloc: Global,
     base: &Text,
-    taken: &mut Words,
+    taken: &mut NameStack,
     import: &Import,
 ) -> Result<Want, LinkFault>
     ensures { spec.Wanted (spec.want_of base.now taken.old import.now) taken.old taken.new result }
@@ -134,7 +134,7 @@ fn want_of(
 pub fn wants_of(alloc: Global, base: &Text, sections: &[Section]) -> Result<Items<Want>, LinkFault>
     ensures { spec.Gives (spec.wants_of base.now [] (imports_in sections.now)) result }
 {
-    let mut taken = Words::empty(alloc);
+    let mut taken = NameStack::empty(alloc);
     let mut wants = Items::new(alloc);
     for section in sections {
         let import = match section {

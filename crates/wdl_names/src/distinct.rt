@@ -4,31 +4,35 @@ ghost use Rattle.std.specs.Prelude.{◌≡◌, ◌++◌, ◌∷◌, [], true, no
 ghost use Rattle.wdl_typed.specs.Lists as lists;
 ghost use Rattle.wdl_names.specs.Fresh as spec;
 
+use crate::name_stack::NameStack;
 use crate::named::Named;
-use crate::words::Words;
 use std::alloc::Global;
 use wdl_value::{Name, NoMemory};
 
 /// Adds a name. The answer is whether it differs from those before.
-pub fn add(alloc: Global, words: &mut Words, name: &Name) -> Result<bool, NoMemory>
-    ensures fresh { IfOk result (λ b. b ≡ not (lists.has_name name.now words.old)) }
-    ensures words { IfOk result (λ b. b ≡ true → words.new ≡ words.old ++ name.now ∷ []) }
+pub fn add(alloc: Global, names: &mut NameStack, name: &Name) -> Result<bool, NoMemory>
+    ensures fresh { IfOk result (λ b. b ≡ not (lists.has_name name.now names.old)) }
+    ensures names { IfOk result (λ b. b ≡ true → names.new ≡ names.old ++ name.now ∷ []) }
 {
-    if words.has(name) {
+    if names.has(name) {
         return Ok(false);
     }
-    words.enter(name.copy(alloc)?)?;
+    names.enter(name.copy(alloc)?)?;
     Ok(true)
 }
 
 /// Adds the names of a list. The answer is whether they differ from those before, and from each
 /// other.
-pub fn add_all<T: Named>(alloc: Global, words: &mut Words, items: &[T]) -> Result<bool, NoMemory>
-    ensures fresh { IfOk result (λ b. b ≡ spec.fresh words.old (map T.named items.now)) }
-    ensures words { IfOk result (λ b. b ≡ true → words.new ≡ words.old ++ map T.named items.now) }
+pub fn add_all<T: Named>(
+    alloc: Global,
+    names: &mut NameStack,
+    items: &[T],
+) -> Result<bool, NoMemory>
+    ensures fresh { IfOk result (λ b. b ≡ spec.fresh names.old (map T.named items.now)) }
+    ensures names { IfOk result (λ b. b ≡ true → names.new ≡ names.old ++ map T.named items.now) }
 {
     for item in items {
-        if !add(alloc, words, item.name())? {
+        if !add(alloc, names, item.name())? {
             return Ok(false);
         }
     }
@@ -39,6 +43,6 @@ pub fn add_all<T: Named>(alloc: Global, words: &mut Words, items: &[T]) -> Resul
 pub fn are_distinct<T: Named>(alloc: Global, items: &[T]) -> Result<bool, NoMemory>
     ensures { IfOk result (λ b. b ≡ lists.are_distinct (map T.named items.now)) }
 {
-    let mut words = Words::empty(alloc);
-    add_all(alloc, &mut words, items)
+    let mut names = NameStack::empty(alloc);
+    add_all(alloc, &mut names, items)
 }

@@ -1,8 +1,8 @@
 -- Members that wait for one another: each step keeps what the record says.
-use Rattle.std.proofs.Common.{◌≡◌, ◌≢◌, ℕ, ◌<◌, Bool, true, false, ◌||◌, ◌⊎◌, inl, inr, List, [], ◌∷◌, ◌++◌, length, replicate, refl, sym, ap, ◌∙◌, subst, arith}
-use Rattle.std.proofs.lemmas.Bool.{false≢true, or_cases, or_left, or_right, cases_eq, cases_lt, ne_eqb, both_ways, false_from_ne_true}
+use Rattle.std.proofs.Common.{◌≡◌, ◌≢◌, ℕ, ◌<◌, Bool, true, false, ◌||◌, ◌⊎◌, inl, inr, List, [], ◌∷◌, ◌++◌, length, refl, sym, ap, ◌∙◌, subst, arith}
+use Rattle.std.proofs.lemmas.Bool.{false≢true, or_cases, or_left, or_right, cases_eq, ne_eqb, both_ways, false_from_ne_true}
 use Rattle.std.proofs.lemmas.Bool.Decides.{nat_tests}
-use Rattle.std.proofs.lemmas.List.{length-replicate, length-set, get_or-replicate, get_or_past, nil_from_length, get_or-set_same, get_or-set_other}
+use Rattle.std.proofs.lemmas.List.{length-set, nil_from_length, get_or-set_same, get_or-set_other}
 use Rattle.std.proofs.lemmas.Map.Keys.{le_from_not_gt}
 use Rattle.std.specs.BTreeMap.{is_at}
 use Rattle.std.specs.BTreeSet.{BTreeSet, contains, Updates, IsLowerBound}

@@ -1,41 +1,23 @@
 -- The names that members give and refer to, name by name.
-use Rattle.std.proofs.Common.{◌≡◌, ℕ, Bool, true, false, ◌==◌, ◌||◌, ◌&&◌, cond, suc, zero, Option, Some, None, List, [], ◌∷◌, ◌++◌, map, refl, sym, ap, ◌∙◌, append_assoc, append-nil}
+use Rattle.std.proofs.Common.{◌≡◌, ℕ, Bool, true, false, ◌==◌, ◌||◌, ◌&&◌, cond, suc, zero, Option, Some, None, List, [], ◌∷◌, ◌++◌, map, refl, ap, ◌∙◌}
 use Rattle.std.proofs.lemmas.List.{map-append}
 use Rattle.wdl_base.specs.declared.name.Key.{Key}
 use Rattle.std.proofs.lemmas.List.Concat.{flat_map-cons}
 use Rattle.std.specs.List.{flat_map, list_any, slice_get}
 use Rattle.wdl_order.proofs.Numbers.{has-append}
 use Rattle.wdl_order.specs.declared.uses.Uses.{Uses}
-use Rattle.wdl_order.specs.Names.{after, as_needing, gives_at, gives_name, needs_at, needs_between}
+use Rattle.wdl_order.specs.Names.{as_needing, gives_at, gives_name, needs_at, needs_between}
 use Rattle.wdl_order.specs.Rows.{has}
 use Rattle.wdl_typed.specs.Lists.{has_number}
-use Rattle.wdl_typed.specs.Order.{Needing, needs_some}
+use Rattle.references.specs.Names.{argument_names}
+use Rattle.wdl_typed.specs.Order.{Needing, args_referred, needs_some, referred}
+use Rattle.wdl_typed.specs.Scope.{names_of}
+use Rattle.wdl_typed.specs.declared.expr.TExpr.{TExpr}
+use Rattle.wdl_typed.specs.declared.expr.TField.{TField}
 
-pub after_is : (names : List (List ℕ)) (keys : List Key) → after names keys ≡ names ++ map (λ (k : Key). k.first) keys
-unfolding after
-after_is names keys = refl
-
-pub after_none : (names : List (List ℕ)) → after names [] ≡ names
-after_none names = after_is names [] ∙ append-nil names
-
-pub after_one : (names : List (List ℕ)) (key : Key) → after names (key ∷ []) ≡ names ++ key.first ∷ []
-after_one names key = after_is names (key ∷ [])
-
-pub after_append : (names : List (List ℕ)) (xs ys : List Key) → after names (xs ++ ys) ≡ after (after names xs) ys
-after_append names xs ys =
-    after_is names (xs ++ ys) ∙ ap (λ l. names ++ l) (map-append (λ (k : Key). k.first) xs ys)
-    ∙ sym (append_assoc names (map (λ (k : Key). k.first) xs) (map (λ (k : Key). k.first) ys))
-    ∙ ap (λ l. l ++ map (λ (k : Key). k.first) ys) (sym (after_is names xs)) ∙ sym (after_is (after names xs) ys)
-
-pub after_more : (n m start : List (List ℕ)) (xs rest from all : List Key) → m ≡ after n xs → from ≡ xs ++ rest
-    → after n from ≡ after start all → after m rest ≡ after start all
-after_more n m start xs rest from all d e h = ap (λ k. after k rest) d ∙ sym (after_append n xs rest) ∙ ap (after n) (sym e) ∙ h
-
-pub after_all : (n start : List (List ℕ)) (rest all : List Key) → rest ≡ [] → after n rest ≡ after start all → n ≡ after start all
-after_all n start rest all e h = sym (after_none n) ∙ ap (after n) (sym e) ∙ h
-
-pub after_two : (n m l : List (List ℕ)) (xs ys zs : List Key) → m ≡ after n xs → l ≡ after m ys → zs ≡ xs ++ ys → l ≡ after n zs
-after_two n m l xs ys zs d e f = e ∙ ap (λ k. after k ys) d ∙ sym (after_append n xs ys) ∙ ap (after n) (sym f)
+pub args_are : (args : List (TField TExpr)) → map (λ (k : Key). k.first) (argument_names args) ≡ args_referred args
+args_are [] = refl
+args_are (a ∷ more) = map-append (λ (k : Key). k.first) (names_of a.value) (argument_names more) ∙ ap (λ ns. referred a.value ++ ns) (args_are more)
 
 -- ---- who gives a name
 

@@ -1,31 +1,14 @@
 -- The names that members give and refer to.
-use Rattle.std.specs.Prelude.{ℕ, Bool, false, List, [], ◌++◌, Option, Some, None, map, slice_get, String, Vec}
+use Rattle.std.specs.Prelude.{ℕ, Bool, false, List, [], Option, Some, None, slice_get, String, Vec}
 use Rattle.std.specs.BTreeMap.{BTreeMap, get_by_text}
 use Rattle.std.specs.Option.{option_map_or}
-use Rattle.wdl_base.specs.declared.name.Key.{Key}
-use Rattle.wdl_typed.specs.declared.expr.TExpr.{TExpr, TExpr-F, map-TExpr}
-use Rattle.wdl_typed.specs.declared.expr.TExpr.TheOpen as layer
-use Rattle.wdl_typed.specs.declared.expr.TPart.{TPart}
 use Rattle.wdl_order.specs.declared.uses.Uses.{Uses}
 use Rattle.wdl_order.specs.Positions.{Need}
 use Rattle.wdl_typed.specs.Lists.{has_name}
 use Rattle.wdl_typed.specs.Order.{Needing, needs_some}
-use Rattle.wdl_typed.specs.Scope.{names_of, part_names}
 
 abbrev pub as_needing : Uses → Needing
 as_needing u = record { gives = u.gives; refers = u.refers }
-
--- behind the names, the first of each key
-unfoldable pub after : List (List ℕ) → List Key → List (List ℕ)
-after names keys = names ++ map (λ (k : Key). k.first) keys
-
-abbrev pub layer_parts : {A : Type 0} → TExpr-F A → List (TPart A)
-layer_parts (layer.Strung parts) = parts
-layer_parts y = []
-
--- the names of the pieces of a string
-abbrev pub piece_names : List (TPart TExpr) → List Key
-piece_names parts = part_names (layer_parts (map-TExpr TExpr (List Key) names_of (layer.Strung parts)))
 
 abbrev pub gives_name : List ℕ → Option Needing → Bool
 gives_name name None = false

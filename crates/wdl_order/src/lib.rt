@@ -11,7 +11,6 @@ mod needing;
 mod ordering;
 mod picking;
 mod positions;
-mod referring;
 mod rows;
 mod uses;
 mod working;

@@ -1,25 +1,32 @@
 ghost use Rattle.std.specs.Prelude.{◌≡◌, ℕ, List, [], ◌∷◌, ◌++◌, ◌||◌, map, IfOk, OnOk};
 ghost use Rattle.std.specs.BTreeSet.{contains_text};
 ghost use Rattle.wdl_typed.specs.Lists.{has_name};
+ghost use Rattle.wdl_typed.specs.Order as orders;
 ghost use Rattle.wdl_typed.specs.Order.{
   all_given,
   all_referred,
-  args_referred,
   default_referred,
   input_needing,
-  referred,
   statement_needing,
   without,
 };
 ghost use Rattle.wdl_order.specs.Members.{declaration_needing};
 ghost use Rattle.wdl_order.specs.Names.{as_needing};
 
-use crate::referring::{push_copy, push_names};
 use crate::uses::Uses;
+use references::{argument_names, expression_names};
 use std::alloc::Global;
 use std::collections::BTreeSet;
 use wdl_typed::{Statement, TCall, TDecl, TExpr, TField, TInput};
-use wdl_value::{Items, Name, NoMemory};
+use wdl_value::{Items, Key, Name, NoMemory};
+
+/// Puts a copy of the name behind the others.
+fn push_copy(alloc: Global, name: &Name, names: &mut Items<Name>) -> Result<(), NoMemory>
+    ensures { OnOk result (names.new ≡ names.old ++ name.now ∷ []) }
+{
+    names.push(name.copy(alloc)?)?;
+    Ok(())
+}
 
 fn one_name(alloc: Global, name: &Name) -> Result<Items<Name>, NoMemory>
     ensures { IfOk result (λ names. names ≡ name.now ∷ []) }
@@ -29,13 +36,23 @@ fn one_name(alloc: Global, name: &Name) -> Result<Items<Name>, NoMemory>
     Ok(names)
 }
 
-#[tactic(auto, using(crate::proofs::Names::after_is))]
-fn expression_names(alloc: Global, e: &TExpr) -> Result<Items<Name>, NoMemory>
-    ensures { IfOk result (λ names. names ≡ referred e.now) }
+/// The first words of these keys.
+fn first_words(alloc: Global, keys: &[&Key]) -> Result<Items<Name>, NoMemory>
+    ensures { IfOk result (λ names. names ≡ map (λ k. k.first) (map (λ k. k.now) keys.now)) }
 {
     let mut names = Items::new(alloc);
-    push_names(alloc, e, &mut names)?;
+    for key in keys {
+        push_copy(alloc, &key.first, &mut names)?;
+    }
     Ok(names)
+}
+
+/// The names to which an expression refers: `call.output` refers to the call.
+fn referred(alloc: Global, e: &TExpr) -> Result<Items<Name>, NoMemory>
+    ensures { IfOk result (λ names. names ≡ orders.referred e.now) }
+{
+    let keys = expression_names(alloc, e)?;
+    first_words(alloc, keys.as_slice())
 }
 
 /// What a declaration or an output gives and refers to.
@@ -43,7 +60,7 @@ pub fn declaration_uses(alloc: Global, decl: &TDecl) -> Result<Uses, NoMemory>
     ensures { IfOk result (λ u. as_needing u ≡ declaration_needing decl.now) }
 {
     let gives = one_name(alloc, &decl.name)?;
-    let refers = expression_names(alloc, &decl.value)?;
+    let refers = referred(alloc, &decl.value)?;
     Ok(Uses { gives, refers })
 }
 
@@ -51,7 +68,7 @@ fn default_names(alloc: Global, value: &Option<TExpr>) -> Result<Items<Name>, No
     ensures { IfOk result (λ names. names ≡ default_referred value.now) }
 {
     match value {
-        Some(e) => expression_names(alloc, e),
+        Some(e) => referred(alloc, e),
         None => Ok(Items::new(alloc)),
     }
 }
@@ -65,15 +82,12 @@ pub fn input_uses(alloc: Global, input: &TInput) -> Result<Uses, NoMemory>
     Ok(Uses { gives, refers })
 }
 
-#[tactic(auto, using(crate::proofs::Names::after_is))]
-fn argument_names(alloc: Global, args: &[TField<TExpr>]) -> Result<Items<Name>, NoMemory>
-    ensures { IfOk result (λ names. names ≡ args_referred args.now) }
+#[tactic(auto, using(crate::proofs::Names::args_are))]
+fn args_referred(alloc: Global, args: &[TField<TExpr>]) -> Result<Items<Name>, NoMemory>
+    ensures { IfOk result (λ names. names ≡ orders.args_referred args.now) }
 {
-    let mut names = Items::new(alloc);
-    for arg in args {
-        push_names(alloc, &arg.value, &mut names)?;
-    }
-    Ok(names)
+    let keys = argument_names(alloc, args)?;
+    first_words(alloc, keys.as_slice())
 }
 
 fn push_copies(alloc: Global, more: &[Name], names: &mut Items<Name>) -> Result<(), NoMemory>
@@ -86,10 +100,10 @@ fn push_copies(alloc: Global, more: &[Name], names: &mut Items<Name>) -> Result<
 }
 
 fn call_uses(alloc: Global, call: &TCall) -> Result<Uses, NoMemory>
-    ensures { IfOk result (λ u. as_needing u ≡ record { gives = call.now.name ∷ []; refers = args_referred call.now.args ++ call.now.after }) }
+    ensures { IfOk result (λ u. as_needing u ≡ record { gives = call.now.name ∷ []; refers = orders.args_referred call.now.args ++ call.now.after }) }
 {
     let gives = one_name(alloc, &call.name)?;
-    let mut refers = argument_names(alloc, call.args.as_slice())?;
+    let mut refers = args_referred(alloc, call.args.as_slice())?;
     push_copies(alloc, call.after.as_slice(), &mut refers)?;
     Ok(Uses { gives, refers })
 }
@@ -111,10 +125,10 @@ fn outer_names(
     inside: &[Name],
     body: &[Name],
 ) -> Result<Items<Name>, NoMemory>
-    ensures { IfOk result (λ names. names ≡ referred e.now ++ without inside.now body.now) }
+    ensures { IfOk result (λ names. names ≡ orders.referred e.now ++ without inside.now body.now) }
 {
     let inside = name_set(alloc, inside)?;
-    let mut names = expression_names(alloc, e)?;
+    let mut names = referred(alloc, e)?;
     for name in body {
         if inside.contains(name.as_str()) {
             continue;
@@ -125,7 +139,7 @@ fn outer_names(
 }
 
 fn scatter_uses(alloc: Global, body: Uses, item: &Name, over: &TExpr) -> Result<Uses, NoMemory>
-    ensures { IfOk result (λ u. as_needing u ≡ record { gives = body.gives; refers = referred over.now ++ without (item.now ∷ body.gives) body.refers }) }
+    ensures { IfOk result (λ u. as_needing u ≡ record { gives = body.gives; refers = orders.referred over.now ++ without (item.now ∷ body.gives) body.refers }) }
 {
     let mut inside = one_name(alloc, item)?;
     push_copies(alloc, body.gives.as_slice(), &mut inside)?;
@@ -135,7 +149,7 @@ fn scatter_uses(alloc: Global, body: Uses, item: &Name, over: &TExpr) -> Result<
 }
 
 fn condition_uses(alloc: Global, body: Uses, cond: &TExpr) -> Result<Uses, NoMemory>
-    ensures { IfOk result (λ u. as_needing u ≡ record { gives = body.gives; refers = referred cond.now ++ without body.gives body.refers }) }
+    ensures { IfOk result (λ u. as_needing u ≡ record { gives = body.gives; refers = orders.referred cond.now ++ without body.gives body.refers }) }
 {
     let refers = outer_names(alloc, cond, body.gives.as_slice(), body.refers.as_slice())?;
     let gives = body.gives;

@@ -5,7 +5,6 @@ pub mod Few
 pub mod Forms
 pub mod Items
 pub mod Loops
-pub mod PickLemmas
 pub mod Picked
 pub mod Shows
 pub mod Statements

@@ -13,12 +13,11 @@ use Rattle.wdl_typed.specs.Requests.{before}
 use Rattle.wdl_typed.specs.Scope.{is_among, lookup, names_of, same_key, type_in}
 use Rattle.wdl_eval.specs.Ready.{IsGiven, IsReady}
 use Rattle.wdl_flow.specs.declared.known.Known.{Known}
-use Rattle.wdl_plain.specs.Referring.{pick, picked, picks}
+use Rattle.wdl_plain.specs.Referring.{pick, picks}
 use Rattle.wdl_flow.specs.Views.{env_in, knowns_of}
 use Rattle.flow_soundness.proofs.NewNames.{same_key-refl}
 use Rattle.wdl_plain.proofs.Alike.{Agree, values_alike}
 use Rattle.wdl_flow.proofs.MarkLemmas.{same_key-true}
-use Rattle.wdl_plain.proofs.PickLemmas.{picked_is}
 use Rattle.wdl_task.proofs.Fit.{value_kept as lookup_front, value_later as lookup_back}
 
 module _ (ks : List Known) where
@@ -100,17 +99,17 @@ module _ (ks : List Known) where
       by_test false e h own rest = rest h
 
   -- the names of an expression that are all known have the same values
-  pub picked_agrees : (keys : List Key) → list_all (is_known (knowns_of ks)) keys ≡ true → Agree (picked ks [] keys) full keys
+  pub picked_agrees : (keys : List Key) → list_all (is_known (knowns_of ks)) keys ≡ true → Agree (picks ks [] keys) full keys
   picked_agrees keys known key h =
       let has = picks_have keys [] known key h in
       let p = some_of (lookup (picks ks [] keys) key) has in
       let sound = picks_sound keys [] (λ other x k. absurd (cc)) in
-      ap (λ env. lookup env key) (picked_is ks [] keys) ∙ p.1 ∙ sym (sound key p.0 p.1)
+      p.1 ∙ sym (sound key p.0 p.1)
 
-  pub picked_value : (e : TExpr) → all_known (knowns_of ks) e ≡ true → value_of (before (picked ks [] (names_of e))) e ≡ value_of (before full) e
-  picked_value e known = values_alike (picked ks [] (names_of e)) full e (picked_agrees (names_of e) known)
+  pub picked_value : (e : TExpr) → all_known (knowns_of ks) e ≡ true → value_of (before (picks ks [] (names_of e))) e ≡ value_of (before full) e
+  picked_value e known = values_alike (picks ks [] (names_of e)) full e (picked_agrees (names_of e) known)
 
-  pub picked_ready : (e : TExpr) → all_known (knowns_of ks) e ≡ true → IsReady e full → IsReady e (picked ks [] (names_of e))
+  pub picked_ready : (e : TExpr) → all_known (knowns_of ks) e ≡ true → IsReady e full → IsReady e (picks ks [] (names_of e))
   picked_ready e known r = record {
     context = r.context;
     placeholder = r.placeholder;

@@ -10,7 +10,7 @@ use Rattle.wdl_typed.specs.Statuses.{successes_of}
 use Rattle.wdl_task.specs.declared.request.Prepared.{Prepared}
 use Rattle.wdl_task.specs.Views.{asked_of, next_of}
 use Rattle.wdl_flow.specs.declared.flowing.Flowing.{Flowing as Made}
-use Rattle.wdl_flow.specs.declared.given.Given.{Given}
+use Rattle.wdl_flow.specs.declared.yielded.Yielded.{Yielded}
 use Rattle.wdl_flow.specs.declared.job.AskedJob.{AskedJob}
 use Rattle.wdl_flow.specs.Views.{codes_in, flowing_of, given_of, requests_in}
 use Rattle.wdl_plain.specs.declared.attempt.Attempt.{Attempt}
@@ -105,7 +105,7 @@ module _ (r : Run) (n : Names) (call : TaskCall) where
     pub loop_ends : (f : Made) → a ≡ Ends f → asking jobs' (flowing_of f) ≡ all
     loop_ends f e = ap (λ (js : List AskedJob). asking js (flowing_of f)) jobs_are ∙ try_ends jobs p all (flowing_of f) t (gives_here (Ends f) e)
 
-    pub loop_goes : (back : Given) (q : Prepared) → a ≡ Goes back → next_of r.site p ≡ q → (given_of back ≡ n) × Trying jobs' q all
+    pub loop_goes : (back : Yielded) (q : Prepared) → a ≡ Goes back → next_of r.site p ≡ q → (given_of back ≡ n) × Trying jobs' q all
     loop_goes back q e next =
         let g = gives_here (Goes back) e in (
           g.0,

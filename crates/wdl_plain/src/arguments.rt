@@ -10,24 +10,25 @@ ghost use Rattle.flow_soundness.specs.Readiness.{AreArgsReady};
 ghost use Rattle.wdl_typed.specs.Flow as flow;
 ghost use Rattle.wdl_flow.specs.Views.{endeds_of, env_in, knowns_of};
 
-use crate::valued::{may_evaluate, value_now};
+use crate::referring::may_evaluate;
+use crate::valued::value_now;
 use std::alloc::Global;
 use std::sync::ledger::Ledger;
 use wdl_eval::EvalFault;
-use wdl_flow::{Names, Sight};
+use wdl_flow::{KnownNames, Sight};
 use wdl_task::CallFault;
 use wdl_typed::{TCall, TExpr, TField};
 use wdl_value::{Bind, Env, Items, Key, Name, NoMemory, Steps, Value, Why};
 
-fn args_known(args: &[TField<TExpr>], names: &Names) -> bool
-    ensures { result ≡ flow.args_known (knowns_of names.now) args.now }
+fn args_known(alloc: Global, args: &[TField<TExpr>], names: &KnownNames) -> Result<bool, NoMemory>
+    ensures { IfOk result (λ b. b ≡ flow.args_known (knowns_of names.now) args.now) }
 {
     for arg in args {
-        if !may_evaluate(&arg.value, names) {
-            return false;
+        if !may_evaluate(alloc, &arg.value, names)? {
+            return Ok(false);
         }
     }
-    true
+    Ok(true)
 }
 
 fn have_ended(after: &[Name], sight: &Sight) -> bool
@@ -43,17 +44,18 @@ fn have_ended(after: &[Name], sight: &Sight) -> bool
 
 /// Whether the names of a call's arguments all have a value, and the calls that it comes after have
 /// ended.
-pub fn may_begin(call: &TCall, sight: &Sight) -> bool
-    ensures { result ≡ (flow.args_known (knowns_of sight.now.names) call.now.args && list_all (flow.has_ended (endeds_of sight.now.calls)) call.now.after) }
+pub fn may_begin(alloc: Global, call: &TCall, sight: &Sight) -> Result<bool, NoMemory>
+    ensures { IfOk result (λ b. b ≡ (flow.args_known (knowns_of sight.now.names) call.now.args && list_all (flow.has_ended (endeds_of sight.now.calls)) call.now.after)) }
 {
-    args_known(call.args.as_slice(), &sight.names) && have_ended(call.after.as_slice(), sight)
+    let known = args_known(alloc, call.args.as_slice(), &sight.names)?;
+    Ok(known && have_ended(call.after.as_slice(), sight))
 }
 
 /// The value of an argument.
 fn argument<L: Ledger>(
     alloc: Global,
     arg: &TField<TExpr>,
-    names: &Names,
+    names: &KnownNames,
     steps: &mut Steps<L>,
 ) -> Result<Value, CallFault>
     requires known { flow.all_known (knowns_of names.now) arg.now.value ≡ true }
@@ -87,7 +89,7 @@ fn arg_bind(alloc: Global, name: &Name, value: Value) -> Result<Bind, NoMemory>
 pub fn args_met<L: Ledger>(
     alloc: Global,
     args: &[TField<TExpr>],
-    names: &Names,
+    names: &KnownNames,
     steps: &mut Steps<L>,
 ) -> Result<Env, CallFault>
     requires known { flow.args_known (knowns_of names.now) args.now ≡ true }

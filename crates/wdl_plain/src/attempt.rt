@@ -14,7 +14,7 @@ ghost use Rattle.wdl_flow.specs.Views.{flowing_of, given_of, known_of, knowns_of
 use std::alloc::Global;
 use std::sync::ledger::Ledger;
 use wdl_flow::{
-    AskedJob, Flowing, Given, Ground, Known, Terms, ended_as, output_key, waiting, with_fault,
+    AskedJob, Flowing, Ground, Known, Terms, Yielded, ended_as, output_key, waiting, with_fault,
     with_jobs,
 };
 use wdl_task::{CallFault, Prepared, conclude, prepare, retry};
@@ -68,7 +68,7 @@ pub fn failed(
     place: &Place,
     name: Text,
     why: Why,
-    given: Given,
+    given: Yielded,
 ) -> Result<Flowing, NoMemory>
     ensures { IfOk result (λ f. flowing_of f ≡ flow.with_fault (record { place = place.now; name = name; why = why }) (flow.missing (given_of given))) }
 {
@@ -80,14 +80,14 @@ pub fn failed(
 #[derive(Drop)]
 pub enum Attempt {
     Ends(Flowing),
-    Goes(Given),
+    Goes(Yielded),
 }
 
 /// A call whose attempt had a status of success.
 fn concluded<'a, L: Ledger>(
     alloc: Global,
     call: &TaskCall<'a>,
-    given: Given,
+    given: Yielded,
     prepared: &Prepared,
     answer: &Answer,
     ground: &Ground<'a>,
@@ -108,7 +108,7 @@ fn concluded<'a, L: Ledger>(
 fn refused<'a>(
     alloc: Global,
     call: &TaskCall<'a>,
-    given: Given,
+    given: Yielded,
     status: u8,
 ) -> Result<Flowing, NoMemory>
     ensures { IfOk result (λ f. flowing_of f ≡ flow.with_fault (flow.failing_at call.now.place.now (requests.bad_status status)) (flow.missing (given_of given))) }
@@ -121,7 +121,7 @@ fn refused<'a>(
 fn answered<'a, L: Ledger>(
     alloc: Global,
     call: &TaskCall<'a>,
-    given: Given,
+    given: Yielded,
     prepared: &Prepared,
     answer: &Answer,
     ground: &Ground<'a>,
@@ -142,7 +142,7 @@ fn answered<'a, L: Ledger>(
 }
 
 /// A call that waits for an answer.
-fn waits(alloc: Global, place: &Place, given: Given) -> Result<Flowing, NoMemory>
+fn waits(alloc: Global, place: &Place, given: Yielded) -> Result<Flowing, NoMemory>
     ensures { IfOk result (λ f. flowing_of f ≡ flow.waiting place.now (flow.missing (given_of given))) }
 {
     let place = copy_place(alloc, place)?;
@@ -153,7 +153,7 @@ fn waits(alloc: Global, place: &Place, given: Given) -> Result<Flowing, NoMemory
 fn attempted<'a, L: Ledger>(
     alloc: Global,
     call: &TaskCall<'a>,
-    given: Given,
+    given: Yielded,
     prepared: &Prepared,
     ground: &Ground<'a>,
     steps: &mut Steps<L>,
@@ -182,7 +182,7 @@ fn job_of(alloc: Global, prepared: &Prepared) -> Result<AskedJob, NoMemory>
 fn attempts<'a, L: Ledger>(
     alloc: Global,
     call: &TaskCall<'a>,
-    mut given: Given,
+    mut given: Yielded,
     mut prepared: Prepared,
     ground: &Ground<'a>,
     steps: &mut Steps<L>,
@@ -206,7 +206,7 @@ fn attempts<'a, L: Ledger>(
 pub fn task_flow<'a, L: Ledger>(
     alloc: Global,
     call: &TaskCall<'a>,
-    given: Given,
+    given: Yielded,
     args: &Env,
     ground: &Ground<'a>,
     steps: &mut Steps<L>,

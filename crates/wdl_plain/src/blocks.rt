@@ -8,7 +8,7 @@ ghost use Rattle.wdl_flow.specs.Views.{flowing_of, given_of, run_of, sight_of};
 ghost use Rattle.wdl_plain.specs.Walk as spec;
 
 use std::alloc::Global;
-use wdl_flow::{Flowing, Given, Ground, Known, Sight, fault_at, with_fault};
+use wdl_flow::{Flowing, Ground, Known, Sight, Yielded, fault_at, with_fault};
 use wdl_typed::{Statement, TCall, TScatter};
 use wdl_value::{
     EvalCode, Fault, Key, Name, NoMemory, Place, Segment, Text, Value, Why, copy_place,
@@ -25,10 +25,10 @@ pub fn is_true(value: &Value) -> bool
 }
 
 /// The names that a call gives out.
-pub fn call_names<'a>(alloc: Global, call: &TCall, ground: &Ground<'a>) -> Result<Given, NoMemory>
+pub fn call_names<'a>(alloc: Global, call: &TCall, ground: &Ground<'a>) -> Result<Yielded, NoMemory>
     ensures { IfOk result (λ g. given_of g ≡ spec.call_names (run_of ground.now) call.now) }
 {
-    let mut given = Given::empty(alloc);
+    let mut given = Yielded::empty(alloc);
     given.add_call(alloc, call, ground.checked)?;
     Ok(given)
 }
@@ -38,10 +38,10 @@ pub fn body_names<'a>(
     alloc: Global,
     body: &[Statement],
     ground: &Ground<'a>,
-) -> Result<Given, NoMemory>
+) -> Result<Yielded, NoMemory>
     ensures { IfOk result (λ g. (depth : ℕ) → given_of g ≡ flow.body_names (spec.parts_of (run_of ground.now) depth body.now)) }
 {
-    let mut given = Given::empty(alloc);
+    let mut given = Yielded::empty(alloc);
     given.add_body(alloc, body, ground.checked)?;
     Ok(given)
 }
@@ -69,7 +69,7 @@ pub fn failed_scatter(
     scatter: &TScatter<Statement>,
     place: &Place,
     code: EvalCode,
-    given: Given,
+    given: Yielded,
 ) -> Result<Flowing, NoMemory>
     ensures { IfOk result (λ f. flowing_of f ≡ flow.with_fault (flow.fault_at (place.now ++ segment.Scatter scatter.now.number ∷ []) scatter.now.item code) (flow.missing (given_of given))) }
 {
@@ -96,7 +96,7 @@ pub fn failed_if(
     number: u32,
     place: &Place,
     code: EvalCode,
-    given: Given,
+    given: Yielded,
 ) -> Result<Flowing, NoMemory>
     ensures { IfOk result (λ f. flowing_of f ≡ flow.with_fault (flow.fault_at (place.now ++ segment.If number ∷ []) (codes "if") code) (flow.missing (given_of given))) }
 {

@@ -6,7 +6,7 @@ ghost use Rattle.wdl_flow.specs.Views.{env_in, flowing_of, known_of, knowns_of};
 
 use crate::declaration::value_given;
 use std::alloc::Global;
-use wdl_flow::{Ended, Flowing, Known, Names, ended_as, output_key};
+use wdl_flow::{Ended, Flowing, Known, KnownNames, ended_as, output_key};
 use wdl_typed::TDecl;
 use wdl_value::{Bind, Items, Name, NoMemory};
 
@@ -22,17 +22,22 @@ fn known_bind(alloc: Global, bind: &Bind) -> Result<Known, NoMemory>
 }
 
 /// The names with their values in an index.
-pub fn names_of(alloc: Global, env: &[Bind]) -> Result<Names, NoMemory>
+pub fn names_of(alloc: Global, env: &[Bind]) -> Result<KnownNames, NoMemory>
     ensures { IfOk result (λ n. env_in n ≡ env.now) }
 {
-    let mut names = Names::empty(alloc);
+    let mut names = KnownNames::empty(alloc);
     for bind in env {
         names.enter(known_bind(alloc, bind)?)?;
     }
     Ok(names)
 }
 
-fn output_of(alloc: Global, call: &Name, output: &TDecl, names: &Names) -> Result<Known, NoMemory>
+fn output_of(
+    alloc: Global,
+    call: &Name,
+    output: &TDecl,
+    names: &KnownNames,
+) -> Result<Known, NoMemory>
     ensures { IfOk result (λ k. known_of k ≡ flow.output_of (knowns_of names.now) call.now output.now) }
 {
     let key = output_key(alloc, call, &output.name)?;
@@ -44,7 +49,7 @@ fn outputs_of(
     alloc: Global,
     call: &Name,
     outputs: &[TDecl],
-    names: &Names,
+    names: &KnownNames,
 ) -> Result<Items<Known>, NoMemory>
     ensures { IfOk result (λ ks. knowns_of ks ≡ map (flow.output_of (knowns_of names.now) call.now) outputs.now) }
 {
@@ -64,7 +69,7 @@ fn outputs_among(
 ) -> Result<Items<Known>, NoMemory>
     ensures { IfOk result (λ ks. knowns_of ks ≡ map (flow.output_of (knowns_of names) call.now) outputs.now) }
 {
-    let names = Names::of(alloc, names)?;
+    let names = KnownNames::of(alloc, names)?;
     outputs_of(alloc, call, outputs, &names)
 }
 

@@ -13,11 +13,12 @@ ghost use Rattle.flow_soundness.specs.Readiness.{
 };
 ghost use Rattle.wdl_flow.specs.Views.{env_in, flowing_of, sight_of};
 
-use crate::valued::{may_evaluate, value_now};
+use crate::referring::may_evaluate;
+use crate::valued::value_now;
 use std::alloc::Global;
 use std::sync::ledger::Ledger;
 use wdl_eval::EvalFault;
-use wdl_flow::{Flowing, Names, PlainFault, Sight, fault_at, named, with_fault};
+use wdl_flow::{Flowing, KnownNames, PlainFault, Sight, fault_at, named, with_fault};
 use wdl_typed::{TDecl, TExpr, TInput};
 use wdl_value::{EvalCode, Key, Name, NoMemory, Place, Steps, Value};
 
@@ -45,7 +46,8 @@ pub fn declaration<L: Ledger>(
     requires ready { IsDeclReady e.now (sight_of sight.now) }
     ensures { IfOk result (λ f. flowing_of f ≡ flow.declaration (sight_of sight.now) name.now e.now) }
 {
-    if !may_evaluate(e, &sight.names) {
+    let known = may_evaluate(alloc, e, &sight.names)?;
+    if !known {
         return named(alloc, name, None);
     }
     match value_now(alloc, e, &sight.names, steps) {
@@ -56,7 +58,11 @@ pub fn declaration<L: Ledger>(
 }
 
 /// The value of a plain name, or missing.
-pub fn value_given(alloc: Global, name: &Name, given: &Names) -> Result<Option<Value>, NoMemory>
+pub fn value_given(
+    alloc: Global,
+    name: &Name,
+    given: &KnownNames,
+) -> Result<Option<Value>, NoMemory>
     ensures { IfOk result (λ v. v ≡ lookup (env_in given.now) (plain_key name.now)) }
 {
     let key = Key {
@@ -73,7 +79,7 @@ pub fn value_given(alloc: Global, name: &Name, given: &Names) -> Result<Option<V
 fn input_of<L: Ledger>(
     alloc: Global,
     input: &TInput,
-    given: &Names,
+    given: &KnownNames,
     sight: &Sight,
     steps: &mut Steps<L>,
 ) -> Result<Flowing, NoMemory>
@@ -93,7 +99,7 @@ fn input_of<L: Ledger>(
 pub fn inputs<L: Ledger>(
     alloc: Global,
     inputs: &[TInput],
-    given: &Names,
+    given: &KnownNames,
     sight: &mut Sight,
     steps: &mut Steps<L>,
 ) -> Result<Flowing, PlainFault>

@@ -11,7 +11,7 @@ use crate::callee::names_of;
 use crate::walk::{Reach, flow_of};
 use std::alloc::Global;
 use std::sync::ledger::Ledger;
-use wdl_flow::{Answers, AskedJob, Flowing, Ground, Known, Names, PlainFault, Terms};
+use wdl_flow::{Answers, AskedJob, Flowing, Ground, Known, KnownNames, PlainFault, Terms};
 use wdl_typed::{Checked, FlowDef, TDecl};
 use wdl_value::{Bind, Entry, Env, Fault, Items, Key, NoMemory, Place, Request, Steps, Text};
 
@@ -28,7 +28,7 @@ pub struct Flow {
     pub outputs: Option<Env>,
 }
 
-fn bind_of(alloc: Global, output: &TDecl, names: &Names, env: &mut Env) -> Result<(), NoMemory>
+fn bind_of(alloc: Global, output: &TDecl, names: &KnownNames, env: &mut Env) -> Result<(), NoMemory>
     ensures { OnOk result (env.new ≡ env.old ++ flow.bound_by (plain_key output.now.name) (lookup (env_in names.now) (plain_key output.now.name))) }
 {
     let key = Key {
@@ -42,7 +42,7 @@ fn bind_of(alloc: Global, output: &TDecl, names: &Names, env: &mut Env) -> Resul
     Ok(())
 }
 
-fn outputs_in(alloc: Global, outputs: &[TDecl], names: &Names) -> Result<Env, NoMemory>
+fn outputs_in(alloc: Global, outputs: &[TDecl], names: &KnownNames) -> Result<Env, NoMemory>
     ensures { IfOk result (λ e. e ≡ flow.env_of (map (λ d. flow.known d.name (lookup (env_in names.now) (plain_key d.name))) outputs.now)) }
 {
     let mut env = Items::new(alloc);
@@ -85,7 +85,7 @@ fn outputs_of(
     if !clean {
         return Ok(None);
     }
-    let names = Names::of(alloc, names)?;
+    let names = KnownNames::of(alloc, names)?;
     let outputs = outputs_in(alloc, main.outputs.as_slice(), &names)?;
     Ok(Some(outputs))
 }

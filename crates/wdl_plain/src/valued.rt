@@ -6,27 +6,20 @@ ghost use Rattle.wdl_typed.specs.Requests.{before};
 ghost use Rattle.wdl_eval.specs.Ready.{IsReady};
 ghost use Rattle.wdl_flow.specs.Views.{env_in, knowns_of};
 
-use crate::referring::{all_known, names_with_values};
+use crate::referring::names_with_values;
 use std::alloc::Global;
 use std::sync::ledger::Ledger;
 use wdl_eval::{EvalFault, eval};
-use wdl_flow::Names;
+use wdl_flow::KnownNames;
 use wdl_typed::TExpr;
 use wdl_value::{Steps, Text, Value};
-
-/// Whether all names of an expression have a value.
-pub fn may_evaluate(e: &TExpr, names: &Names) -> bool
-    ensures { result ≡ flow.all_known (knowns_of names.now) e.now }
-{
-    all_known(e, names)
-}
 
 /// The value of an expression whose names all have a value. It is evaluated over its own names
 /// alone, so its time does not grow with the number of names that are seen.
 pub fn value_now<L: Ledger>(
     alloc: Global,
     e: &TExpr,
-    names: &Names,
+    names: &KnownNames,
     steps: &mut Steps<L>,
 ) -> Result<Value, EvalFault>
     requires known { flow.all_known (knowns_of names.now) e.now ≡ true }

@@ -26,11 +26,12 @@ use crate::blocks::{
 };
 use crate::callee::{flow_ended, names_of};
 use crate::declaration::{declaration, inputs, outputs};
-use crate::valued::{may_evaluate, value_now};
+use crate::referring::may_evaluate;
+use crate::valued::value_now;
 use std::alloc::Global;
 use std::sync::ledger::Ledger;
 use wdl_eval::EvalFault;
-use wdl_flow::{Flowing, Gathering, Given, Ground, Names, PlainFault, Sight};
+use wdl_flow::{Flowing, Gathering, Ground, KnownNames, PlainFault, Sight, Yielded};
 use wdl_stdlib::items_in;
 use wdl_task::CallFault;
 use wdl_typed::{FlowDef, Statement, TCall, TIf, TScatter, Target};
@@ -92,7 +93,8 @@ fn call_flow<'a, L: Ledger>(
     ensures kept { IfOk result (λ f. sight_of sight.new ≡ sight_of sight.old) }
 {
     let given = call_names(alloc, call, ground)?;
-    if !may_begin(call, sight) {
+    let may = may_begin(alloc, call, sight)?;
+    if !may {
         return Ok(given.missing(alloc)?);
     }
     let place = call_place(alloc, &sight.place, &call.name)?;
@@ -108,7 +110,7 @@ fn call_flow<'a, L: Ledger>(
 fn called<'a, L: Ledger>(
     alloc: Global,
     call: &TCall,
-    given: Given,
+    given: Yielded,
     args: Env,
     place: Place,
     reach: Reach,
@@ -130,7 +132,7 @@ fn task_called<'a, L: Ledger>(
     alloc: Global,
     call: &TCall,
     k: u32,
-    given: Given,
+    given: Yielded,
     args: &Env,
     place: &Place,
     ground: &Ground<'a>,
@@ -156,7 +158,7 @@ fn flow_called<'a, L: Ledger>(
     alloc: Global,
     call: &TCall,
     k: u32,
-    given: Given,
+    given: Yielded,
     args: Env,
     place: Place,
     reach: Reach,
@@ -189,7 +191,8 @@ fn scatter_flow<'a, L: Ledger>(
     ensures kept { IfOk result (λ f. sight_of sight.new ≡ sight_of sight.old) }
 {
     let given = body_names(alloc, scatter.body.as_slice(), ground)?;
-    if !may_evaluate(&scatter.over, &sight.names) {
+    let known = may_evaluate(alloc, &scatter.over, &sight.names)?;
+    if !known {
         return Ok(given.missing(alloc)?);
     }
     match value_now(alloc, &scatter.over, &sight.names, steps) {
@@ -209,7 +212,7 @@ fn scatter_flow<'a, L: Ledger>(
 fn scattered<'a, L: Ledger>(
     alloc: Global,
     scatter: &TScatter<Statement>,
-    given: Given,
+    given: Yielded,
     items: &[Value],
     reach: Reach,
     ground: &Ground<'a>,
@@ -276,7 +279,8 @@ fn if_flow<'a, L: Ledger>(
     ensures kept { IfOk result (λ f. sight_of sight.new ≡ sight_of sight.old) }
 {
     let given = body_names(alloc, condition.body.as_slice(), ground)?;
-    if !may_evaluate(&condition.cond, &sight.names) {
+    let known = may_evaluate(alloc, &condition.cond, &sight.names)?;
+    if !known {
         return Ok(given.missing(alloc)?);
     }
     match value_now(alloc, &condition.cond, &sight.names, steps) {
@@ -350,7 +354,7 @@ fn body_flow<'a, L: Ledger>(
 pub fn flow_of<'a, L: Ledger>(
     alloc: Global,
     k: u32,
-    given: &Names,
+    given: &KnownNames,
     place: Place,
     reach: Reach,
     ground: &Ground<'a>,
@@ -378,7 +382,7 @@ fn flow_in<'a, L: Ledger>(
     alloc: Global,
     k: u32,
     def: &FlowDef,
-    given: &Names,
+    given: &KnownNames,
     place: Place,
     reach: Reach,
     ground: &Ground<'a>,

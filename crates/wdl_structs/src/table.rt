@@ -20,7 +20,7 @@ ghost use Rattle.wdl_structs.specs.Tables as spec;
 use sqlite_items::Items;
 use std::alloc::Global;
 use std::marker::Model;
-use wdl_names::{Indexed, Named, Words};
+use wdl_names::{Indexed, NameStack, Named};
 use wdl_value::{Name, NoMemory};
 
 /// A name that a document sees.
@@ -41,7 +41,7 @@ impl Named for Entry {
 #[derive(Drop)]
 pub struct Table {
     entries: Items<Entry>,
-    words: Words,
+    words: NameStack,
 }
 
 impl Model for Table {
@@ -63,7 +63,7 @@ impl Table {
     {
         Table {
             entries: Items::new(alloc),
-            words: Words::empty(alloc),
+            words: NameStack::empty(alloc),
         }
     }
 

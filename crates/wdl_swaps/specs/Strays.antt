@@ -1,16 +1,14 @@
 -- The names that are used outside the bodies that declare them.
 use Rattle.std.specs.Prelude.{ℕ, List, [], ◌∷◌, ◌++◌, if◌then◌else◌, map}
-use Rattle.wdl_typed.specs.declared.expr.TExpr.{TExpr, TExpr-F, fold-TExpr}
-use Rattle.wdl_typed.specs.declared.expr.TExpr.TheOpen as layer
-use Rattle.wdl_typed.specs.declared.expr.TField.{TField}
-use Rattle.wdl_typed.specs.declared.expr.TPair.{TPair}
-use Rattle.wdl_typed.specs.declared.expr.TPart.{TPart}
-use Rattle.wdl_typed.specs.declared.expr.TPart.TheVariants as part
+use Rattle.references.specs.Names.{argument_names}
+use Rattle.wdl_base.specs.declared.name.Key.{Key}
+use Rattle.wdl_typed.specs.declared.expr.TExpr.{TExpr}
 use Rattle.wdl_typed.specs.declared.flow.FlowDef.{FlowDef}
 use Rattle.wdl_typed.specs.declared.flow.Statement.{Statement, Statement-F, fold-Statement}
 use Rattle.wdl_typed.specs.declared.flow.Statement.TheOpen as statement
 use Rattle.wdl_typed.specs.declared.task.TDecl.{TDecl}
 use Rattle.wdl_typed.specs.Lists.{has_name}
+use Rattle.wdl_typed.specs.Scope.{names_of}
 
 -- ---- expressions
 
@@ -21,46 +19,14 @@ Strays = List (List ℕ)
 abbrev pub outside : List (List ℕ) → List ℕ → Strays
 outside path name = if has_name name path then [] else name ∷ []
 
-abbrev pub in_all : {E : Type 0} → (E → Strays) → List E → Strays
-in_all f [] = []
-in_all f (x ∷ xs) = f x ++ in_all f xs
-
-abbrev pub in_rows : {E : Type 0} → (E → Strays) → List (TPair E) → Strays
-in_rows f [] = []
-in_rows f (r ∷ rows) = f r.key ++ f r.value ++ in_rows f rows
-
-abbrev pub in_fields : {E : Type 0} → (E → Strays) → List (TField E) → Strays
-in_fields f [] = []
-in_fields f (r ∷ fields) = f r.value ++ in_fields f fields
-
-abbrev pub in_parts : {E : Type 0} → (E → Strays) → List (TPart E) → Strays
-in_parts f [] = []
-in_parts f (part.Chars s ∷ parts) = in_parts f parts
-in_parts f (part.Hole h ∷ parts) = f h.expr ++ in_parts f parts
-
-abbrev pub itself : Strays → Strays
-itself names = names
-
-abbrev pub strays_step : List (List ℕ) → TExpr-F Strays → Strays
-strays_step path (layer.Lit x) = []
-strays_step path (layer.Get key) = outside path key.first
-strays_step path (layer.Member a name) = a
-strays_step path (layer.At a b) = a ++ b
-strays_step path (layer.Not a) = a
-strays_step path (layer.Neg a) = a
-strays_step path (layer.Binary o a b) = a ++ b
-strays_step path (layer.Choose c a b) = c ++ a ++ b
-strays_step path (layer.ListOf es) = in_all itself es
-strays_step path (layer.MapOf rows) = in_rows itself rows
-strays_step path (layer.PairOf a b) = a ++ b
-strays_step path (layer.StructOf name fields) = in_fields itself fields
-strays_step path (layer.Apply f es) = in_all itself es
-strays_step path (layer.Strung parts) = in_parts itself parts
-strays_step path (layer.Cast a t) = a
+-- those of the keys, without these
+abbrev pub all_outside : List (List ℕ) → List Key → Strays
+all_outside path [] = []
+all_outside path (k ∷ keys) = outside path k.first ++ all_outside path keys
 
 -- the names and calls to which an expression refers, without those of the path
-unfoldable pub strays_in : List (List ℕ) → TExpr → Strays
-strays_in path = fold-TExpr Strays (strays_step path)
+abbrev pub strays_in : List (List ℕ) → TExpr → Strays
+strays_in path e = all_outside path (names_of e)
 
 -- ---- statements
 
@@ -79,7 +45,7 @@ body_strays (s ∷ ss) path = s.strays path ++ body_strays ss (path ++ s.own)
 
 abbrev pub straying_step : Statement-F Straying → Straying
 straying_step (statement.Decl d) = record { own = d.name ∷ []; strays = λ path. strays_in path d.value }
-straying_step (statement.Call c) = record { own = []; strays = λ path. in_fields (strays_in path) c.args }
+straying_step (statement.Call c) = record { own = []; strays = λ path. all_outside path (argument_names c.args) }
 straying_step (statement.Scatter s) = record { own = []; strays = λ path. strays_in path s.over ++ body_strays s.body path }
 straying_step (statement.If i) = record { own = []; strays = λ path. strays_in path i.cond ++ body_strays i.body path }
 

@@ -10,7 +10,7 @@ use crate::forms::is_type;
 use crate::typing::{Context, type_in_place, type_of};
 use crate::written::is_written;
 use std::alloc::Global;
-use wdl_names::{Indexed, Names};
+use wdl_names::{Indexed, TypedNames};
 use wdl_typed::{Bound, TDecl, TExpr, TInput};
 use wdl_value::{Key, Name, NoMemory, StructDef, Ty};
 
@@ -29,7 +29,7 @@ fn declared_type(
     standing: Standing,
     e: &TExpr,
     structs: &Indexed<StructDef>,
-    names: &Names,
+    names: &TypedNames,
 ) -> Result<Option<Ty>, NoMemory>
     ensures { IfOk result (λ t. t ≡ type_at standing structs.now names.now e.now) }
 {
@@ -49,7 +49,7 @@ pub fn body_type(
     alloc: Global,
     e: &TExpr,
     structs: &Indexed<StructDef>,
-    names: &Names,
+    names: &TypedNames,
 ) -> Result<Option<Ty>, NoMemory>
     ensures { IfOk result (λ t. t ≡ spec.in_body structs.now names.now e.now) }
 {
@@ -57,7 +57,7 @@ pub fn body_type(
 }
 
 /// Adds a plain name.
-pub fn enter(alloc: Global, names: &mut Names, name: &Name, t: &Ty) -> Result<(), NoMemory>
+pub fn enter(alloc: Global, names: &mut TypedNames, name: &Name, t: &Ty) -> Result<(), NoMemory>
     ensures { OnOk result (names.new ≡ names.old ++ spec.bound name.now t.now ∷ []) }
 {
     let ty = t.copy(alloc)?;
@@ -75,7 +75,7 @@ fn default_is_typed(
     alloc: Global,
     input: &TInput,
     structs: &Indexed<StructDef>,
-    names: &Names,
+    names: &TypedNames,
 ) -> Result<bool, NoMemory>
     ensures { IfOk result (λ b. b ≡ spec.default_typed structs.now names.now input.now.ty input.now.value) }
 {
@@ -94,7 +94,7 @@ pub fn inputs_are_typed(
     alloc: Global,
     inputs: &[TInput],
     structs: &Indexed<StructDef>,
-    names: &mut Names,
+    names: &mut TypedNames,
 ) -> Result<bool, NoMemory>
     ensures typed { IfOk result (λ b. b ≡ spec.inputs_typed structs.now names.old inputs.now) }
     ensures names { IfOk result (λ b. b ≡ true → names.new ≡ names.old ++ spec.inputs_bound inputs.now) }
@@ -114,7 +114,7 @@ pub fn decl_is_typed(
     standing: Standing,
     d: &TDecl,
     structs: &Indexed<StructDef>,
-    names: &Names,
+    names: &TypedNames,
 ) -> Result<bool, NoMemory>
     ensures { IfOk result (λ b. b ≡ (is_written structs.now d.now.ty && is_type_of (type_at standing structs.now names.now d.now.value) d.now.ty)) }
 {
@@ -132,7 +132,7 @@ pub fn decls_are_typed(
     standing: Standing,
     decls: &[TDecl],
     structs: &Indexed<StructDef>,
-    names: &mut Names,
+    names: &mut TypedNames,
 ) -> Result<bool, NoMemory>
     ensures typed { IfOk result (λ b. b ≡ spec.decls_typed (type_at standing structs.now) structs.now names.old decls.now) }
     ensures names { IfOk result (λ b. b ≡ true → names.new ≡ names.old ++ spec.decls_bound decls.now) }

@@ -1,44 +1,13 @@
 //! Members of pairs and structs, and items of arrays and maps.
 
 ghost use Rattle.std.specs.Prelude.{◌≡◌, IfOk, option_and_then};
-ghost use Rattle.std.specs.Option.{option_copied};
 ghost use Rattle.wdl_typed.specs.Typing as spec;
 
 use crate::kind::is_int;
 use std::alloc::Global;
-use wdl_depths::members_of;
+use struct_members::member_type;
 use wdl_names::Indexed;
-use wdl_value::{Member, Name, NoMemory, StructDef, Ty};
-
-fn type_among<'a>(members: &'a [Member], name: &Name) -> Option<&'a Ty>
-    ensures { option_copied result ≡ spec.type_among members.now name.now }
-{
-    for member in members {
-        if member.name.same(name) {
-            return Some(&member.ty);
-        }
-    }
-    None
-}
-
-/// The type of a part of a pair, or of a member of a struct.
-fn member_type<'a>(structs: &Indexed<'a, StructDef>, name: &Name, ty: &'a Ty) -> Option<&'a Ty>
-    ensures { option_copied result ≡ spec.member_type structs.now name.now ty.now }
-{
-    match ty {
-        Ty::Pair { left, right } => {
-            if name.is("left") {
-                Some(left.get())
-            } else if name.is("right") {
-                Some(right.get())
-            } else {
-                None
-            }
-        }
-        Ty::Struct(owner) => type_among(members_of(structs, owner)?, name),
-        _ => None,
-    }
-}
+use wdl_value::{Name, NoMemory, StructDef, Ty};
 
 /// The type of a member of an expression of that type.
 pub fn member(

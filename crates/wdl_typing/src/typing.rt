@@ -14,8 +14,8 @@ use crate::member::{at, member};
 use crate::placeholder::takes_some;
 use sqlite_items::Items;
 use std::alloc::Global;
-use wdl_depths::members_of;
-use wdl_names::{Indexed, Names};
+use struct_members::members_of;
+use wdl_names::{Indexed, TypedNames};
 use wdl_typed::{TExpr, TField, TPair, TPart};
 use wdl_value::{Func, Member, Name, NoMemory, StructDef, Ty};
 
@@ -24,7 +24,7 @@ use wdl_value::{Func, Member, Name, NoMemory, StructDef, Ty};
 #[derive(Drop)]
 pub struct Context<'a> {
     pub structs: &'a Indexed<'a, StructDef>,
-    pub names: &'a Names,
+    pub names: &'a TypedNames,
     pub outputs: bool,
 }
 

@@ -5,7 +5,7 @@ ghost use Rattle.wdl_value.specs.Fits.{members_of as members_of_name};
 ghost use Rattle.wdl_typed.specs.KnownTypes as spec;
 
 use crate::kind::is_scalar;
-use wdl_depths::members_of;
+use struct_members::members_of;
 use wdl_names::Indexed;
 use wdl_value::{Member, Name, StructDef, Ty, is_optional};
 

@@ -1,7 +1,5 @@
 -- What statements see and give out, as the code keeps it.
-use Rattle.std.specs.Prelude.{ℕ, List, [], map, take}
-use Rattle.wdl_value.specs.declared.ty.Ty.{Ty}
-use Rattle.wdl_typed.specs.declared.scope.Bound.{Bound}
+use Rattle.std.specs.Prelude.{ℕ, List, [], take}
 use Rattle.wdl_typed.specs.Bodies.{Seen}
 use Rattle.wdl_well_typed.specs.declared.given.YieldedTypes.{YieldedTypes}
 use Rattle.wdl_well_typed.specs.declared.given.BodyScope.{BodyScope}
@@ -14,9 +12,6 @@ given g = record { names = g.names; calls = g.calls }
 
 abbrev pub nothing : Seen
 nothing = record { names = []; calls = [] }
-
-abbrev pub retyped_names : (Ty → Ty) → List Bound → List Bound
-retyped_names f = map (λ (b : Bound). record { key = b.key; ty = f b.ty })
 
 abbrev pub first : ℕ → ℕ → Seen → Seen
 first names calls s = record { names = take names s.names; calls = take calls s.calls }

@@ -1,6 +1,6 @@
 //! Calls (OpenWDL 1.1, "Call Statement").
 
-ghost use Rattle.std.specs.Prelude.{◌≡◌, ◌&&◌, IfOk, map, option_map, slice_get};
+ghost use Rattle.std.specs.Prelude.{◌≡◌, ◌&&◌, IfOk, option_map, slice_get};
 ghost use Rattle.std.specs.Option.{option_copied};
 ghost use Rattle.wdl_typed.specs.Bodies as bodies;
 ghost use Rattle.wdl_typed.specs.Lists as lists;
@@ -8,12 +8,13 @@ ghost use Rattle.wdl_well_typed.specs.Calls as spec;
 ghost use Rattle.wdl_well_typed.specs.Given as state;
 
 use crate::given::{BodyScope, YieldedTypes};
+use given_types::outputs_of;
 use sqlite_items::{Items, at};
 use std::alloc::Global;
-use wdl_names::{Indexed, Names, Words, add_all};
-use wdl_typed::{Bound, FlowDef, TCall, TDecl, TExpr, TField, TInput, Target, TaskDef};
+use wdl_names::{Indexed, NameStack, TypedNames, add_all};
+use wdl_typed::{FlowDef, TCall, TDecl, TExpr, TField, TInput, Target, TaskDef};
 use wdl_typing::{body_type, is_type};
-use wdl_value::{Key, Name, NoMemory, StructDef, Ty, is_optional};
+use wdl_value::{Name, NoMemory, StructDef, Ty, is_optional};
 
 /// What a call can name, and the structs.
 #[derive(Drop)]
@@ -75,7 +76,7 @@ fn arg_is_typed(
     arg: &TField<TExpr>,
     inputs: &Indexed<TInput>,
     structs: &Indexed<StructDef>,
-    names: &Names,
+    names: &TypedNames,
 ) -> Result<bool, NoMemory>
     ensures { IfOk result (λ b. b ≡ spec.arg_fits structs.now names.now inputs.now arg.now) }
 {
@@ -91,7 +92,7 @@ fn args_are_typed(
     args: &[TField<TExpr>],
     inputs: &Indexed<TInput>,
     structs: &Indexed<StructDef>,
-    names: &Names,
+    names: &TypedNames,
 ) -> Result<bool, NoMemory>
     ensures { IfOk result (λ b. b ≡ bodies.args_typed structs.now names.now inputs.now args.now) }
 {
@@ -110,7 +111,7 @@ fn is_required(input: &TInput) -> bool
     input.value.is_none() && !is_optional(&input.ty)
 }
 
-fn all_given(inputs: &[TInput], given: &Words) -> bool
+fn all_given(inputs: &[TInput], given: &NameStack) -> bool
     ensures { result ≡ bodies.all_given inputs.now given.now }
 {
     for input in inputs {
@@ -121,7 +122,7 @@ fn all_given(inputs: &[TInput], given: &Words) -> bool
     true
 }
 
-fn all_seen(names: &[Name], calls: &Words) -> bool
+fn all_seen(names: &[Name], calls: &NameStack) -> bool
     ensures { result ≡ bodies.all_seen calls.now names.now }
 {
     for name in names {
@@ -136,7 +137,7 @@ fn all_seen(names: &[Name], calls: &Words) -> bool
 fn args_suffice(alloc: Global, args: &[TField<TExpr>], inputs: &[TInput]) -> Result<bool, NoMemory>
     ensures { IfOk result (λ b. b ≡ (lists.are_distinct (bodies.arg_names args.now) && bodies.all_given inputs.now (bodies.arg_names args.now))) }
 {
-    let mut given = Words::empty(alloc);
+    let mut given = NameStack::empty(alloc);
     if !add_all(alloc, &mut given, args)? {
         return Ok(false);
     }
@@ -162,36 +163,11 @@ fn call_is_typed(
     )
 }
 
-fn output_names(alloc: Global, call: &Name, outputs: &[TDecl]) -> Result<Items<Bound>, NoMemory>
-    ensures { IfOk result (λ bs. bs ≡ map (bodies.output_bound call.now) outputs.now) }
-{
-    let mut names = Items::new(alloc);
-    for output in outputs {
-        names.push(output_name(alloc, call, output)?)?;
-    }
-    Ok(names)
-}
-
-fn output_name(alloc: Global, call: &Name, output: &TDecl) -> Result<Bound, NoMemory>
-    ensures { IfOk result (λ b. b ≡ bodies.output_bound call.now output.now) }
-{
-    let first = call.copy(alloc)?;
-    let second = output.name.copy(alloc)?;
-    let ty = output.ty.copy(alloc)?;
-    Ok(Bound {
-        key: Key {
-            first,
-            second: Some(second),
-        },
-        ty,
-    })
-}
-
 /// What a call gives out.
 fn given_by(alloc: Global, call: &Name, outputs: &[TDecl]) -> Result<YieldedTypes, NoMemory>
     ensures { IfOk result (λ g. state.given g ≡ bodies.call_gives call.now outputs.now) }
 {
-    let names = output_names(alloc, call, outputs)?;
+    let names = outputs_of(alloc, call, outputs)?;
     let mut calls = Items::new(alloc);
     calls.push(call.copy(alloc)?)?;
     Ok(YieldedTypes { names, calls })

@@ -7,13 +7,17 @@ ghost use Rattle.wdl_typed.specs.Lists.{has_name};
 ghost use Rattle.wdl_well_typed.specs.Items as spec;
 
 use std::alloc::Global;
-use wdl_names::{Words, add};
+use wdl_names::{NameStack, add};
 use wdl_typed::Statement;
 use wdl_value::{Name, NoMemory};
 
 /// Adds the names of declarations and calls, those of the bodies in blocks too.
 #[cycle(declared)]
-pub fn add_declared(alloc: Global, body: &[Statement], words: &mut Words) -> Result<bool, NoMemory>
+pub fn add_declared(
+    alloc: Global,
+    body: &[Statement],
+    words: &mut NameStack,
+) -> Result<bool, NoMemory>
     ensures fresh { IfOk result (λ b. b ≡ fresh words.old (bodies.all_declared body.now)) }
     ensures words { IfOk result (λ b. b ≡ true → words.new ≡ words.old ++ bodies.all_declared body.now) }
 {
@@ -26,7 +30,11 @@ pub fn add_declared(alloc: Global, body: &[Statement], words: &mut Words) -> Res
 }
 
 #[cycle(declared)]
-fn add_statement(alloc: Global, statement: &Statement, words: &mut Words) -> Result<bool, NoMemory>
+fn add_statement(
+    alloc: Global,
+    statement: &Statement,
+    words: &mut NameStack,
+) -> Result<bool, NoMemory>
     ensures fresh { IfOk result (λ b. b ≡ fresh words.old (bodies.declared statement.now)) }
     ensures words { IfOk result (λ b. b ≡ true → words.new ≡ words.old ++ bodies.declared statement.now) }
 {
@@ -40,7 +48,11 @@ fn add_statement(alloc: Global, statement: &Statement, words: &mut Words) -> Res
 
 /// Whether the items of scatters differ from these names and from the items round them.
 #[cycle(items)]
-pub fn items_differ(alloc: Global, body: &[Statement], taken: &mut Words) -> Result<bool, NoMemory>
+pub fn items_differ(
+    alloc: Global,
+    body: &[Statement],
+    taken: &mut NameStack,
+) -> Result<bool, NoMemory>
     ensures differ { IfOk result (λ b. b ≡ bodies.items_differ body.now taken.old) }
     ensures taken { IfOk result (λ b. b ≡ true → taken.new ≡ taken.old) }
 {
@@ -53,7 +65,11 @@ pub fn items_differ(alloc: Global, body: &[Statement], taken: &mut Words) -> Res
 }
 
 #[cycle(items)]
-fn item_differs(alloc: Global, statement: &Statement, taken: &mut Words) -> Result<bool, NoMemory>
+fn item_differs(
+    alloc: Global,
+    statement: &Statement,
+    taken: &mut NameStack,
+) -> Result<bool, NoMemory>
     ensures differ { IfOk result (λ b. b ≡ spec.item_differs statement.now taken.old) }
     ensures taken { IfOk result (λ b. b ≡ true → taken.new ≡ taken.old) }
 {
@@ -70,7 +86,7 @@ fn scatter_differs(
     alloc: Global,
     body: &[Statement],
     item: &Name,
-    taken: &mut Words,
+    taken: &mut NameStack,
 ) -> Result<bool, NoMemory>
     ensures differ { IfOk result (λ b. b ≡ (not (has_name item.now taken.old) && bodies.items_differ body.now (item.now ∷ taken.old))) }
     ensures taken { IfOk result (λ b. b ≡ true → taken.new ≡ taken.old) }

@@ -14,7 +14,7 @@ use crate::given::BodyScope;
 use crate::numbered::is_numbered;
 use std::alloc::Global;
 use wdl_depths::{Levels, MOST_BLOCKS, body_nests};
-use wdl_names::{Names, Words, add_all};
+use wdl_names::{NameStack, TypedNames, add_all};
 use wdl_typed::FlowDef;
 use wdl_typing::{Standing, decls_are_typed, inputs_are_typed};
 use wdl_value::NoMemory;
@@ -24,7 +24,7 @@ use wdl_value::NoMemory;
 fn names_differ(alloc: Global, flow: &FlowDef) -> Result<bool, NoMemory>
     ensures { IfOk result (λ b. b ≡ (lists.are_distinct (spec.flow_names flow.now) && bodies.items_differ flow.now.body (spec.flow_names flow.now))) }
 {
-    let mut words = Words::empty(alloc);
+    let mut words = NameStack::empty(alloc);
     let inputs = flow.inputs.as_slice();
     if !add_all(alloc, &mut words, inputs)? {
         return Ok(false);
@@ -46,8 +46,8 @@ fn lists_are_typed(alloc: Global, flow: &FlowDef, library: &Library) -> Result<b
 {
     let structs = &library.structs;
     let mut scope = BodyScope {
-        names: Names::empty(alloc),
-        calls: Words::empty(alloc),
+        names: TypedNames::empty(alloc),
+        calls: NameStack::empty(alloc),
     };
     if !inputs_are_typed(alloc, flow.inputs.as_slice(), structs, &mut scope.names)? {
         return Ok(false);

@@ -3,14 +3,14 @@
 ghost use Rattle.std.specs.Prelude.{◌≡◌, ◌++◌, IfOk, OnOk};
 ghost use Rattle.wdl_typed.specs.Bodies as bodies;
 ghost use Rattle.wdl_well_typed.specs.Given as spec;
-ghost use Rattle.wdl_value.specs.declared.ty.Ty.{out-Ty};
 ghost use Rattle.wdl_value.specs.declared.ty.Ty.TheVariants as ty;
 
-use sqlite_items::{Boxed, Items};
+use given_types::enter_names;
+use sqlite_items::Items;
 use std::alloc::Global;
-use wdl_names::{Names, Words};
+use wdl_names::{NameStack, TypedNames};
 use wdl_typed::Bound;
-use wdl_value::{Name, NoMemory, Ty, is_optional};
+use wdl_value::{Name, NoMemory};
 
 /// Names with their types, and calls, which statements give out.
 #[derive(Debug, Drop)]
@@ -22,30 +22,11 @@ pub struct YieldedTypes {
 /// The names with their types, and the calls, which a statement sees.
 #[derive(Debug, Drop)]
 pub struct BodyScope {
-    pub names: Names,
-    pub calls: Words,
+    pub names: TypedNames,
+    pub calls: NameStack,
 }
 
-fn copy_of(alloc: Global, bound: &Bound) -> Result<Bound, NoMemory>
-    ensures { IfOk result (λ b. b ≡ bound.now) }
-{
-    let key = bound.key.copy(alloc)?;
-    Ok(Bound {
-        key,
-        ty: bound.ty.copy(alloc)?,
-    })
-}
-
-fn enter_names(alloc: Global, names: &mut Names, bounds: &[Bound]) -> Result<(), NoMemory>
-    ensures { OnOk result (names.new ≡ names.old ++ bounds.now) }
-{
-    for bound in bounds {
-        names.enter(copy_of(alloc, bound)?)?;
-    }
-    Ok(())
-}
-
-fn enter_calls(alloc: Global, calls: &mut Words, names: &[Name]) -> Result<(), NoMemory>
+fn enter_calls(alloc: Global, calls: &mut NameStack, names: &[Name]) -> Result<(), NoMemory>
     ensures { OnOk result (calls.new ≡ calls.old ++ names.now) }
 {
     for name in names {
@@ -94,56 +75,12 @@ impl YieldedTypes {
     }
 }
 
-fn array_of(alloc: Global, t: &Ty, some: bool) -> Result<Ty, NoMemory>
-    ensures { IfOk result (λ u. u ≡ ty.Array t.now some) }
-{
-    let item = t.copy(alloc)?;
-    Ok(Ty::Array {
-        item: Boxed::new(alloc, item)?,
-        some,
-    })
-}
-
-fn optional(alloc: Global, t: &Ty) -> Result<Ty, NoMemory>
-    ensures { IfOk result (λ u. u ≡ bodies.optional t.now) }
-{
-    let copy = t.copy(alloc)?;
-    if is_optional(t) {
-        return Ok(copy);
-    }
-    Ok(Ty::Opt(Boxed::new(alloc, copy)?))
-}
-
-fn array_names(alloc: Global, names: &[Bound], some: bool) -> Result<Items<Bound>, NoMemory>
-    ensures { IfOk result (λ bs. bs ≡ spec.retyped_names (λ u. ty.Array u some) names.now) }
-{
-    let mut arrays = Items::new(alloc);
-    for bound in names {
-        let key = bound.key.copy(alloc)?;
-        let ty = array_of(alloc, &bound.ty, some)?;
-        arrays.push(Bound { key, ty })?;
-    }
-    Ok(arrays)
-}
-
-fn optional_names(alloc: Global, names: &[Bound]) -> Result<Items<Bound>, NoMemory>
-    ensures { IfOk result (λ bs. bs ≡ spec.retyped_names bodies.optional names.now) }
-{
-    let mut optionals = Items::new(alloc);
-    for bound in names {
-        let key = bound.key.copy(alloc)?;
-        let ty = optional(alloc, &bound.ty)?;
-        optionals.push(Bound { key, ty })?;
-    }
-    Ok(optionals)
-}
-
 /// What a scatter gives out, given what its body does: arrays, with `+` where the collection has
 /// it.
 pub fn arrays(alloc: Global, given: YieldedTypes, some: bool) -> Result<YieldedTypes, NoMemory>
     ensures { IfOk result (λ g. spec.given g ≡ bodies.retyped (λ u. ty.Array u some) (spec.given given)) }
 {
-    let names = array_names(alloc, given.names.as_slice(), some)?;
+    let names = given_types::arrays(alloc, given.names.as_slice(), some)?;
     Ok(YieldedTypes {
         names,
         calls: given.calls,
@@ -154,7 +91,7 @@ pub fn arrays(alloc: Global, given: YieldedTypes, some: bool) -> Result<YieldedT
 pub fn optionals(alloc: Global, given: YieldedTypes) -> Result<YieldedTypes, NoMemory>
     ensures { IfOk result (λ g. spec.given g ≡ bodies.retyped bodies.optional (spec.given given)) }
 {
-    let names = optional_names(alloc, given.names.as_slice())?;
+    let names = given_types::optionals(alloc, given.names.as_slice())?;
     Ok(YieldedTypes {
         names,
         calls: given.calls,

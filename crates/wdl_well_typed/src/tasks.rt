@@ -8,7 +8,7 @@ ghost use Rattle.wdl_well_typed.specs.Tasks.{lists_typed};
 
 use sqlite_items::Boxed;
 use std::alloc::Global;
-use wdl_names::{Indexed, Names, Words, add_all};
+use wdl_names::{Indexed, NameStack, TypedNames, add_all};
 use wdl_typed::{Choice, TCodes, TExpr, THole, TPart, TaskDef};
 use wdl_typing::{
     Context, Standing, body_type, decls_are_typed, inputs_are_typed, is_type, takes_some,
@@ -20,7 +20,7 @@ use wdl_value::{NoMemory, StructDef, Ty};
 fn names_differ(alloc: Global, task: &TaskDef) -> Result<bool, NoMemory>
     ensures { IfOk result (λ b. b ≡ lists.are_distinct (spec.task_names task.now)) }
 {
-    let mut words = Words::empty(alloc);
+    let mut words = NameStack::empty(alloc);
     let inputs = task.inputs.as_slice();
     if !add_all(alloc, &mut words, inputs)? {
         return Ok(false);
@@ -39,7 +39,7 @@ fn has_type(
     e: &TExpr,
     t: &Ty,
     structs: &Indexed<StructDef>,
-    names: &Names,
+    names: &TypedNames,
 ) -> Result<bool, NoMemory>
     ensures { IfOk result (λ b. b ≡ is_type_of (spec.in_body structs.now names.now e.now) t.now) }
 {
@@ -52,7 +52,7 @@ fn codes_are_typed(
     alloc: Global,
     codes: &TCodes,
     structs: &Indexed<StructDef>,
-    names: &Names,
+    names: &TypedNames,
 ) -> Result<bool, NoMemory>
     ensures { IfOk result (λ b. b ≡ spec.codes_typed structs.now names.now codes.now) }
 {
@@ -73,7 +73,7 @@ fn retries_are_typed(
     alloc: Global,
     retries: &Option<TExpr>,
     structs: &Indexed<StructDef>,
-    names: &Names,
+    names: &TypedNames,
 ) -> Result<bool, NoMemory>
     ensures { IfOk result (λ b. b ≡ spec.retries_typed structs.now names.now retries.now) }
 {
@@ -88,7 +88,7 @@ fn hole_type(
     alloc: Global,
     hole: &THole<TExpr>,
     structs: &Indexed<StructDef>,
-    names: &Names,
+    names: &TypedNames,
 ) -> Result<Option<Ty>, NoMemory>
     ensures { IfOk result (λ t. t ≡ spec.hole_type structs.now names.now hole.now.choice hole.now.expr) }
 {
@@ -108,7 +108,7 @@ fn command_is_typed(
     alloc: Global,
     parts: &[TPart<TExpr>],
     structs: &Indexed<StructDef>,
-    names: &Names,
+    names: &TypedNames,
 ) -> Result<bool, NoMemory>
     ensures { IfOk result (λ b. b ≡ spec.command_typed structs.now names.now parts.now) }
 {
@@ -129,7 +129,7 @@ fn run_is_typed(
     alloc: Global,
     task: &TaskDef,
     structs: &Indexed<StructDef>,
-    names: &Names,
+    names: &TypedNames,
 ) -> Result<bool, NoMemory>
     ensures { IfOk result (λ b. b ≡ (spec.codes_typed structs.now names.now task.now.codes && spec.retries_typed structs.now names.now task.now.retries && spec.command_typed structs.now names.now task.now.command)) }
 {
@@ -148,7 +148,7 @@ fn lists_are_typed(
 ) -> Result<bool, NoMemory>
     ensures { IfOk result (λ b. b ≡ lists_typed structs.now task.now) }
 {
-    let mut names = Names::empty(alloc);
+    let mut names = TypedNames::empty(alloc);
     if !inputs_are_typed(alloc, task.inputs.as_slice(), structs, &mut names)? {
         return Ok(false);
     }

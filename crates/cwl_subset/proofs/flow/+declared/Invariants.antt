@@ -4,4 +4,4 @@ use Rattle.cwl_subset.proofs.flow.+declared.Given as goal
 
 abbrev pub invariant-enter_declared-loop-statement : goal.invariant-enter_declared-loop-statement
 invariant-enter_declared-loop-statement l =
-    l.words ++ declared_by (drop l.statement-index l.body) ≡ l.initial.words ++ declared_by l.body
+    l.names ++ declared_by (drop l.statement-index l.body) ≡ l.initial.names ++ declared_by l.body

@@ -3,4 +3,4 @@ use Rattle.leaf_image.specs.Leaves.{items_of}
 use Rattle.struct_leaves.proofs.taken.+items.Given as goal
 
 abbrev pub invariant-enter_items-loop-statement : goal.invariant-enter_items-loop-statement
-invariant-enter_items-loop-statement l = l.words ++ items_of (drop l.statement-index l.body) ≡ l.initial.words ++ items_of l.body
+invariant-enter_items-loop-statement l = l.names ++ items_of (drop l.statement-index l.body) ≡ l.initial.names ++ items_of l.body

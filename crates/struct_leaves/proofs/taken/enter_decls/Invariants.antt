@@ -3,4 +3,4 @@ use Rattle.wdl_typed.specs.Declarations.{decl_names}
 use Rattle.struct_leaves.proofs.taken.enter_decls.Given as goal
 
 abbrev pub invariant-loop-d : goal.invariant-loop-d
-invariant-loop-d l = l.words ≡ l.initial.words ++ decl_names (take l.d-index l.decls)
+invariant-loop-d l = l.names ≡ l.initial.names ++ decl_names (take l.d-index l.decls)

@@ -4,5 +4,5 @@ use Rattle.wdl_names.proofs.distinct.add_all.Given as goal
 
 abbrev pub invariant-loop-item : goal.invariant-loop-item
 invariant-loop-item g l =
-    (l.words ++ map g.T.Named.named (drop l.item-index l.items) ≡ l.initial.words ++ map g.T.Named.named l.items)
-    × (fresh l.words (map g.T.Named.named (drop l.item-index l.items)) ≡ fresh l.initial.words (map g.T.Named.named l.items))
+    (l.names ++ map g.T.Named.named (drop l.item-index l.items) ≡ l.initial.names ++ map g.T.Named.named l.items)
+    × (fresh l.names (map g.T.Named.named (drop l.item-index l.items)) ≡ fresh l.initial.names (map g.T.Named.named l.items))

@@ -3,7 +3,6 @@ use Rattle.std.proofs.lemmas.List.{length-map}
 use Rattle.std.proofs.lemmas.Option.{slice_get_read}
 use Rattle.wdl_order.specs.Names.{as_needing}
 use Rattle.wdl_order.specs.Outcome.{IsCircular, Orders}
-use Rattle.wdl_order.specs.declared.uses.Uses.{Uses}
 use Rattle.wdl_typed.specs.Order.{Needing, IsLeastOrder, is_order, picked}
 use Rattle.wdl_order.proofs.ordering.ordered.Goals as goal
 

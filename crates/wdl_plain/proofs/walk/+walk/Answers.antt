@@ -48,13 +48,13 @@ statement_flow-returns-in_ok-declaration-in-Decl-clause-flow g t c =
 
 pub call_flow-args_met-requires-clause-ready : goal.call_flow-args_met-requires-clause-ready
 call_flow-args_met-requires-clause-ready g t c =
-    let may = and_parts _ _ (sym c.may_begin.ensures ∙ c.if-not-may_begin.false) in
+    let may = and_parts _ _ (sym c.in_ok-may.ensures ∙ c.if-not-may.false) in
     subst (λ (as_ : List (TField TExpr)). AreArgsReady (env_in c.args.sight.now.names) as_) (sym c.as_slice.ensures)
     (call_args_ready (run_of c.args.ground.now).library c.args.reach.levels c.args.call.now (sight_of c.args.sight.now) c.requires.ready may.0)
 
 pub call_flow-called-requires : goal.call_flow-called-requires
 call_flow-called-requires g t c κs within =
-    let may = and_parts _ _ (sym c.may_begin.ensures ∙ c.if-not-may_begin.false) in
+    let may = and_parts _ _ (sym c.in_ok-may.ensures ∙ c.if-not-may.false) in
     let ready : IsCalleeReady (run_of c.args.ground.now).library c.args.reach.levels c.args.call.now.target c.in-Ok.args =
     callee_is_ready (run_of c.args.ground.now).library c.args.reach.levels c.args.call.now (sight_of c.args.sight.now) c.in-Ok.args c.requires.ready may.0
     (ap (λ (as_ : List (TField TExpr)). flow.args_met (env_in c.args.sight.now.names) as_) (sym c.as_slice.ensures) ∙ c.in-Ok.ensures) in
@@ -65,18 +65,18 @@ called-task_called-requires g t c = record { ready = λ task there. c.requires.r
 
 -- ---- scatters
 
-pub scatter_flow-returns-then-not-may_evaluate-clause-flow : goal.scatter_flow-returns-then-not-may_evaluate-clause-flow
-scatter_flow-returns-then-not-may_evaluate-clause-flow g t c =
+pub scatter_flow-returns-then-not-known-clause-flow : goal.scatter_flow-returns-then-not-known-clause-flow
+scatter_flow-returns-then-not-known-clause-flow g t c =
     let r = run_of c.args.ground.now in
     let n = flow.body_names (spec.parts_of r c.args.reach.calls c.args.scatter.now.body) in
     let names : given_of c.in_ok-given.given ≡ n = c.in_ok-given.ensures c.args.reach.calls ∙ ap (λ (ss : List Statement). flow.body_names (spec.parts_of r c.args.reach.calls ss)) c.as_slice.ensures in
     as_flow _ (flow.missing n) (Ok c.in_ok-missing.field-0)
-    (scatter_waits r c.args.reach.calls (sight_of c.args.sight.now) c.args.scatter.now (sym c.may_evaluate.ensures ∙ c.if-not-may_evaluate.true))
+    (scatter_waits r c.args.reach.calls (sight_of c.args.sight.now) c.args.scatter.now (sym c.in_ok-known.ensures ∙ c.if-not-known.true))
     (c.in_ok-missing.ensures ∙ ap flow.missing names, refl)
 
 pub scatter_flow-value_now-requires-clause-ready : goal.scatter_flow-value_now-requires-clause-ready
 scatter_flow-value_now-requires-clause-ready g t c =
-    scatter_over_ready (run_of c.args.ground.now).library c.args.reach.levels c.args.scatter.now (sight_of c.args.sight.now) c.requires.ready (sym c.may_evaluate.ensures ∙ c.if-not-may_evaluate.false)
+    scatter_over_ready (run_of c.args.ground.now).library c.args.reach.levels c.args.scatter.now (sight_of c.args.sight.now) c.requires.ready (sym c.in_ok-known.ensures ∙ c.if-not-known.false)
 
 pub scatter_flow-scattered-requires : goal.scatter_flow-scattered-requires
 scatter_flow-scattered-requires g t c κs within =
@@ -85,7 +85,7 @@ scatter_flow-scattered-requires g t c κs within =
     c.in_ok-given.ensures c.args.reach.calls ∙ ap (λ (ss : List Statement). flow.body_names (spec.parts_of r c.args.reach.calls ss)) c.as_slice.ensures in
     let ready : AreItemsReady r.library c.args.reach.levels c.args.scatter.now c.items_in-items.result.now (sight_of c.args.sight.now) =
     subst (λ (xs : List Value). AreItemsReady r.library c.args.reach.levels c.args.scatter.now xs (sight_of c.args.sight.now)) (sym c.items_in-items.ensures)
-    (scatter_items_ready r.library c.args.reach.levels c.args.scatter.now (sight_of c.args.sight.now) c.in-Ok.value c.requires.ready (sym c.may_evaluate.ensures ∙ c.if-not-may_evaluate.false) c.in-Ok.ensures) in
+    (scatter_items_ready r.library c.args.reach.levels c.args.scatter.now (sight_of c.args.sight.now) c.in-Ok.value c.requires.ready (sym c.in_ok-known.ensures ∙ c.if-not-known.false) c.in-Ok.ensures) in
     search (rules, names, ready)
 
 pub scatter_flow-returns-in-Ok-clause-flow : goal.scatter_flow-returns-in-Ok-clause-flow
@@ -93,7 +93,7 @@ scatter_flow-returns-in-Ok-clause-flow g t c =
     let r = run_of c.args.ground.now in
     let s = sight_of c.args.sight.now in
     as_flow _ (spec.scattered r c.args.reach.calls c.args.scatter.now c.items_in-items.result.now s) c.scattered.result
-    (scatter_as r c.args.reach.calls s c.args.scatter.now (Ok c.in-Ok.value) (sym c.may_evaluate.ensures ∙ c.if-not-may_evaluate.false) c.in-Ok.ensures
+    (scatter_as r c.args.reach.calls s c.args.scatter.now (Ok c.in-Ok.value) (sym c.in_ok-known.ensures ∙ c.if-not-known.false) c.in-Ok.ensures
     ∙ ap (λ (xs : List Value). spec.scattered r c.args.reach.calls c.args.scatter.now xs s) (sym c.items_in-items.ensures))
     c.scattered.ensures.flow
 
@@ -104,7 +104,7 @@ scatter_flow-returns-in_ok-failed_scatter-in-Err-Code-clause-flow g t c =
     let n = flow.body_names (spec.parts_of r c.args.reach.calls c.args.scatter.now.body) in
     let names : given_of c.in_ok-given.given ≡ n = c.in_ok-given.ensures c.args.reach.calls ∙ ap (λ (ss : List Statement). flow.body_names (spec.parts_of r c.args.reach.calls ss)) c.as_slice.ensures in
     as_flow _ (flow.scattered n (spec.body_flow r c.args.reach.calls c.args.scatter.now.body) s c.args.scatter.now.number c.args.scatter.now.item (Err c.in-Err-Code.code)) (Ok c.in_ok-failed_scatter-in-Err-Code.field-0)
-    (scatter_as r c.args.reach.calls s c.args.scatter.now (Err c.in-Err-Code.code) (sym c.may_evaluate.ensures ∙ c.if-not-may_evaluate.false)
+    (scatter_as r c.args.reach.calls s c.args.scatter.now (Err c.in-Err-Code.code) (sym c.in_ok-known.ensures ∙ c.if-not-known.false)
     (c.in-Err-Code.ensures c.in-Err-Code.code c.in-Err-Code.field-0-is)) (
       failed_as (flowing_of c.in_ok-failed_scatter-in-Err-Code.field-0) (s.place ++ segment.Scatter c.args.scatter.now.number ∷ []) c.args.scatter.now.item c.in-Err-Code.code (given_of c.in_ok-given.given) n _
           c.in_ok-failed_scatter-in-Err-Code.ensures (sym c.in-Err-Code.code-is) names,
@@ -182,18 +182,18 @@ item_flow-returns-clause-flow g t c =
 
 -- ---- conditions
 
-pub if_flow-returns-then-not-may_evaluate-clause-flow : goal.if_flow-returns-then-not-may_evaluate-clause-flow
-if_flow-returns-then-not-may_evaluate-clause-flow g t c =
+pub if_flow-returns-then-not-known-clause-flow : goal.if_flow-returns-then-not-known-clause-flow
+if_flow-returns-then-not-known-clause-flow g t c =
     let r = run_of c.args.ground.now in
     let n = flow.body_names (spec.parts_of r c.args.reach.calls c.args.condition.now.body) in
     let names : given_of c.in_ok-given.given ≡ n = c.in_ok-given.ensures c.args.reach.calls ∙ ap (λ (ss : List Statement). flow.body_names (spec.parts_of r c.args.reach.calls ss)) c.as_slice.ensures in
     as_flow _ (flow.missing n) (Ok c.in_ok-missing.field-0)
-    (if_waits r c.args.reach.calls (sight_of c.args.sight.now) c.args.condition.now (sym c.may_evaluate.ensures ∙ c.if-not-may_evaluate.true))
+    (if_waits r c.args.reach.calls (sight_of c.args.sight.now) c.args.condition.now (sym c.in_ok-known.ensures ∙ c.if-not-known.true))
     (c.in_ok-missing.ensures ∙ ap flow.missing names, refl)
 
 pub if_flow-value_now-requires-clause-ready : goal.if_flow-value_now-requires-clause-ready
 if_flow-value_now-requires-clause-ready g t c =
-    if_cond_ready (run_of c.args.ground.now).library c.args.reach.levels c.args.condition.now (sight_of c.args.sight.now) c.requires.ready (sym c.may_evaluate.ensures ∙ c.if-not-may_evaluate.false)
+    if_cond_ready (run_of c.args.ground.now).library c.args.reach.levels c.args.condition.now (sight_of c.args.sight.now) c.requires.ready (sym c.in_ok-known.ensures ∙ c.if-not-known.false)
 
 pub if_flow-returns-then-not-is_true-clause-flow : goal.if_flow-returns-then-not-is_true-clause-flow
 if_flow-returns-then-not-is_true-clause-flow g t c =
@@ -201,7 +201,7 @@ if_flow-returns-then-not-is_true-clause-flow g t c =
     let n = flow.body_names (spec.parts_of r c.args.reach.calls c.args.condition.now.body) in
     let names : given_of c.in_ok-given.given ≡ n = c.in_ok-given.ensures c.args.reach.calls ∙ ap (λ (ss : List Statement). flow.body_names (spec.parts_of r c.args.reach.calls ss)) c.as_slice.ensures in
     as_flow _ _ (Ok c.in_ok-giving-in-Ok.field-0)
-    (if_false r c.args.reach.calls (sight_of c.args.sight.now) c.args.condition.now c.in-Ok.value (sym c.may_evaluate.ensures ∙ c.if-not-may_evaluate.false) c.in-Ok.ensures (sym c.is_true.ensures ∙ c.if-not-is_true.true))
+    (if_false r c.args.reach.calls (sight_of c.args.sight.now) c.args.condition.now c.in-Ok.value (sym c.in_ok-known.ensures ∙ c.if-not-known.false) c.in-Ok.ensures (sym c.is_true.ensures ∙ c.if-not-is_true.true))
     (c.in_ok-giving-in-Ok.ensures ∙ ap (λ m. flow.giving (Some v.Absent) true m) names, refl)
 
 pub if_flow-chosen-requires : goal.if_flow-chosen-requires
@@ -219,7 +219,7 @@ if_flow-returns-in_ok-failed_if-in-Err-Code-clause-flow g t c =
     let n = flow.body_names (spec.parts_of r c.args.reach.calls c.args.condition.now.body) in
     let names : given_of c.in_ok-given.given ≡ n = c.in_ok-given.ensures c.args.reach.calls ∙ ap (λ (ss : List Statement). flow.body_names (spec.parts_of r c.args.reach.calls ss)) c.as_slice.ensures in
     as_flow _ (flow.conditional n (spec.body_flow r c.args.reach.calls c.args.condition.now.body) s c.args.condition.now.number (Err c.in-Err-Code.code)) (Ok c.in_ok-failed_if-in-Err-Code.field-0)
-    (if_as r c.args.reach.calls s c.args.condition.now (Err c.in-Err-Code.code) (sym c.may_evaluate.ensures ∙ c.if-not-may_evaluate.false)
+    (if_as r c.args.reach.calls s c.args.condition.now (Err c.in-Err-Code.code) (sym c.in_ok-known.ensures ∙ c.if-not-known.false)
     (c.in-Err-Code.ensures c.in-Err-Code.code c.in-Err-Code.field-0-is)) (
       failed_as (flowing_of c.in_ok-failed_if-in-Err-Code.field-0) (s.place ++ segment.If c.args.condition.now.number ∷ []) (codes "if") c.in-Err-Code.code (given_of c.in_ok-given.given) n _
           c.in_ok-failed_if-in-Err-Code.ensures (sym c.in-Err-Code.code-is) names,

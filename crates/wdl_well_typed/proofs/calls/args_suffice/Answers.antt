@@ -9,5 +9,5 @@ returns-then-not-branch c =
 
 pub returns : goal.returns
 returns c =
-    names_go c.empty-given.result c.add_all.new.words (arg_names c.args.args.now) c.in_ok-add_all.field-0 c.all_given.result (all_given c.args.inputs.now)
-    c.empty-given.ensures c.in_ok-add_all.ensures.fresh c.if-not-branch.false (c.in_ok-add_all.ensures.words c.if-not-branch.false) c.all_given.ensures
+    names_go c.empty-given.result c.add_all.new.names (arg_names c.args.args.now) c.in_ok-add_all.field-0 c.all_given.result (all_given c.args.inputs.now)
+    c.empty-given.ensures c.in_ok-add_all.ensures.fresh c.if-not-branch.false (c.in_ok-add_all.ensures.names c.if-not-branch.false) c.all_given.ensures

@@ -1,0 +1,6 @@
+//! The names that statements give out, with their types.
+#![tactic(auto)]
+
+mod given;
+
+pub use given::{arrays, enter_names, optionals, outputs_of};

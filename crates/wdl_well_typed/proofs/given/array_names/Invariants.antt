@@ -1,7 +1,0 @@
-use Rattle.std.proofs.Common.{◌≡◌, take}
-use Rattle.wdl_value.specs.declared.ty.Ty.TheVariants as ty
-use Rattle.wdl_well_typed.specs.Given.{retyped_names}
-use Rattle.wdl_well_typed.proofs.given.array_names.Given as goal
-
-abbrev pub invariant-loop-bound : goal.invariant-loop-bound
-invariant-loop-bound l = l.arrays ≡ retyped_names (λ u. ty.Array u l.some) (take l.bound-index l.names)
