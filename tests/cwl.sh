@@ -4,22 +4,10 @@
 # of `wdl run`. Its last line is 'N passed, M failed'; it ends non-zero where a check failed.
 #
 #   tests/cwl.sh PROGRAM
-top=$(CDPATH= cd -- "$(dirname -- "$0")/.." && pwd) || exit 1
+. "$(dirname -- "$0")/checks.sh"
 program=${1:?the program, with its whole path}
 examples=$top/examples
-work=$(mktemp -d) || exit 1
-trap 'rm -rf "$work"' EXIT
 cd "$work" || exit 1
-passed=0
-failed=0
-
-pass() { passed=$((passed + 1)); }
-
-# fail WORDS..: counts a check that failed, and says so.
-fail() {
-  failed=$((failed + 1))
-  echo "FAILED $*"
-}
 
 # same_files RUN CWL: whether the files that both outputs name have the same contents, output by output.
 same_files() {
@@ -103,5 +91,4 @@ breaks 611 51..83 "task t { command <<< date >>> output { String s = read_string
 breaks 612 50..59 "workflow w { input { Int x } output { Int y = x } }"
 breaks 613 12..69 "task t { command <<< date >>> runtime { maxRetries: 1 } } workflow w { call t }"
 
-echo "$passed passed, $failed failed"
-[ "$failed" -eq 0 ]
+conclude

@@ -5,22 +5,10 @@
 #   tests/end_to_end.sh [PROGRAM]
 #
 # PROGRAM, with its whole path, stands in for the one that ./wdl runs.
-top=$(CDPATH= cd -- "$(dirname -- "$0")/.." && pwd) || exit 1
+. "$(dirname -- "$0")/checks.sh"
 program=${1:-$("$top/tools/program.sh")} || exit 1
-work=$(mktemp -d) || exit 1
-trap 'rm -rf "$work"' EXIT
 cd "$work" || exit 1
 root=$work/run
-passed=0
-failed=0
-
-pass() { passed=$((passed + 1)); }
-
-# fail NAME WORDS..: counts a check that failed, and says so.
-fail() {
-  failed=$((failed + 1))
-  echo "FAILED $*"
-}
 
 # expect NAME STATUS OUT ERR WORDS..: runs the program on the words. OUT and ERR are printf formats.
 expect() {
@@ -400,5 +388,4 @@ grep '^cwltool' out
 script journal
 grep '^skipped' out
 
-echo "$passed passed, $failed failed"
-[ "$failed" = 0 ]
+conclude

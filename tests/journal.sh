@@ -4,9 +4,8 @@
 # docs/JOURNAL.md. Its last line is 'N passed, M failed'; it ends non-zero where a check failed.
 #
 #   tests/journal.sh PROGRAM
-top=$(CDPATH= cd -- "$(dirname -- "$0")/.." && pwd) || exit 1
+. "$(dirname -- "$0")/checks.sh"
 program=${1:?the program, with its whole path}
-work=$(mktemp -d) || exit 1
 disk=$work/disk
 clean_up() {
   umount "$disk" 2>/dev/null
@@ -17,16 +16,6 @@ trap clean_up EXIT
 trap 'exit 1' HUP INT TERM
 cd "$work" || exit 1
 root=$work/run
-passed=0
-failed=0
-
-pass() { passed=$((passed + 1)); }
-
-# fail WORDS..: counts a check that failed, and says so.
-fail() {
-  failed=$((failed + 1))
-  echo "FAILED $*"
-}
 
 # note WORDS..: says what is not tested on this machine.
 note() { echo "skipped: $*"; }
@@ -421,5 +410,4 @@ else
   note "a full disk: no disk can be mounted"
 fi
 
-echo "$passed passed, $failed failed"
-[ "$failed" = 0 ]
+conclude

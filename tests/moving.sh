@@ -1,20 +1,10 @@
 #!/bin/sh
 # moving.sh PROGRAM: checks the documents of docs/MOVING.md: `wdl check` answers each `before.wdl` of examples/moving with the code of the table and each
 # `after.wdl` with `ok`, and what the page quotes is what the files hold. Its last line is 'N passed, M failed'; it ends non-zero where a check failed.
-top=$(CDPATH= cd -- "$(dirname -- "$0")/.." && pwd) || exit 1
+. "$(dirname -- "$0")/checks.sh"
 program=${1:?the program}
-work=$(mktemp -d) || exit 1
-trap 'rm -rf "$work"' EXIT
 cd "$top/examples/moving" || exit 1
 page=$top/docs/MOVING.md
-passed=0
-failed=0
-
-pass() { passed=$((passed + 1)); }
-fail() {
-  failed=$((failed + 1))
-  echo "FAILED $*"
-}
 
 # answers FILE CODE: the check of the document FILE ends with that code and word, or with `ok`.
 answers() {
@@ -48,5 +38,4 @@ for quoted in "$work"/quoted/*; do
 done
 [ "$(ls "$work/quoted" | wc -l)" -ge 20 ] && pass || fail "the page quotes too few documents"
 
-echo "$passed passed, $failed failed"
-[ "$failed" = 0 ]
+conclude

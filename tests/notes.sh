@@ -3,23 +3,10 @@
 # a fault in documents of many kinds, `wdl inputs`, help and the version. Its last line is 'N passed, M failed'.
 #
 #   tests/notes.sh PROGRAM
+. "$(dirname -- "$0")/checks.sh"
 program=${1:?the program, with its whole path}
-work=$(mktemp -d) || exit 1
-trap 'rm -rf "$work"' EXIT
 cd "$work" || exit 1
 root=$work/run
-passed=0
-failed=0
-pass() { passed=$((passed + 1)); }
-fail() {
-  failed=$((failed + 1))
-  echo "FAILED $*"
-}
-
-# same NAME WANTED GOT
-same() {
-  if [ "$2" = "$3" ]; then pass; else fail "$1: $3, wanted $2"; fi
-}
 
 # tells NAME FILE TEXT..: each text stands in the file.
 tells() {
@@ -402,5 +389,4 @@ done
 "$program" run --help >out
 tells "help run" out --inputs --workers --root --journal
 
-echo "$passed passed, $failed failed"
-[ "$failed" = 0 ]
+conclude

@@ -7,13 +7,11 @@
 # A line that ends with 'Save this as `NAME`:' stands before the block with that file. In a block of `console` each line behind `$ ` is a command, and the lines below it
 # are what is seen; `wdl` is the program, with notes; times stand for any times,
 # and `/home/you` for the folder in which the commands are run.
+. "$(dirname -- "$0")/checks.sh"
 program=${1:?the program, with its whole path}
 page=${2:?the page, with its whole path}
-work=$(mktemp -d) || exit 1
 trap 'rm -rf "$work" /tmp/first' EXIT
 rm -rf /tmp/first
-passed=0
-failed=0
 
 mkdir "$work/bin" "$work/steps" "$work/here" || exit 1
 ln -s "$program" "$work/bin/wdl" || exit 1
@@ -45,13 +43,11 @@ $(cat "$at.sh")" >"$work/seen" 2>&1 </dev/null
   status=$?
   timeless "$work/seen" >"$work/seen.times"
   timeless "$at.want" >"$work/want.times"
-  if cmp -s "$work/seen.times" "$work/want.times"; then passed=$((passed + 1)); else
-    failed=$((failed + 1))
-    echo "FAILED $(cat "$at.sh")"
+  if cmp -s "$work/seen.times" "$work/want.times"; then pass; else
+    fail "$(cat "$at.sh")"
     diff "$work/want.times" "$work/seen.times"
   fi
 done
-[ "$passed" -ge 10 ] || { echo "FAILED the page has too few commands"; failed=$((failed + 1)); }
+[ "$passed" -ge 10 ] || fail "the page has too few commands"
 
-echo "$passed passed, $failed failed"
-[ "$failed" = 0 ]
+conclude

@@ -1,18 +1,8 @@
 #!/bin/sh
 # Tests ./wdl, tools/ and .ci/run on a copy of the repository where each crate is one line long and a script replaces the toolchain. Its last line is
 # 'N passed, M failed'; it ends non-zero where a check failed.
-top=$(CDPATH= cd -- "$(dirname -- "$0")/.." && pwd) || exit 1
-work=$(mktemp -d) || exit 1
-trap 'rm -rf "$work"' EXIT
+. "$(dirname -- "$0")/checks.sh"
 copy=$work/copy
-passed=0
-failed=0
-
-pass() { passed=$((passed + 1)); }
-fail() {
-  failed=$((failed + 1))
-  echo "FAILED $*"
-}
 
 # expect NAME STATUS OUT ERR COMMAND..: runs the command. OUT is its output, ERR a pattern of its errors.
 expect() {
@@ -158,5 +148,4 @@ expect "a source that changes during the build" 1 '' '*the sources changed*' too
 base wrong
 expect "a proof that fails" 126 '' '*the build failed*wdl_base NOT PROVED' with_toolchain ./wdl check a
 
-echo "$passed passed, $failed failed"
-[ "$failed" = 0 ]
+conclude

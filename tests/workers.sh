@@ -3,18 +3,9 @@
 # same for every number of workers and every order in which jobs end. Its last line is 'N passed, M failed'.
 #
 #   tests/workers.sh PROGRAM
+. "$(dirname -- "$0")/checks.sh"
 program=${1:?the program, with its whole path}
-work=$(mktemp -d) || exit 1
-trap 'rm -rf "$work"' EXIT
 cd "$work" || exit 1
-passed=0
-failed=0
-check() {
-  if [ "$2" = "$3" ]; then passed=$((passed + 1)); else
-    failed=$((failed + 1))
-    echo "FAILED $1: $3, wanted $2"
-  fi
-}
 
 # run WORKERS FILE: runs the document; `status` is its status.
 run() {
@@ -47,10 +38,10 @@ workflow crossing {
 }
 END
 run 2 crossing.wdl
-check "two workers meet" '0 {"crossing.both":true}' "$status $(cat out)"
+same "two workers meet" '0 {"crossing.both":true}' "$status $(cat out)"
 rm -f left right
 run 1 crossing.wdl
-check "one worker meets nobody" 1 "$status"
+same "one worker meets nobody" 1 "$status"
 # Each of 64 jobs ends only once all of them have begun.
 mkdir begun_at_once
 cat >crowd.wdl <<END
@@ -74,7 +65,7 @@ workflow crowd {
 }
 END
 run 64 crowd.wdl
-check "64 workers meet" '0 {"crowd.met":64}' "$status $(cat out)"
+same "64 workers meet" '0 {"crowd.met":64}' "$status $(cat out)"
 
 echo "each job once"
 # Each job writes a line as it begins and as it ends, so that the lines tell how many were running.
@@ -99,24 +90,24 @@ END
 for workers in 1 2 4 64; do
   rm -f log
   run "$workers" forty.wdl
-  check "$workers workers: the status" 0 "$status"
+  same "$workers workers: the status" 0 "$status"
   [ "$workers" = 1 ] && cp out first
-  check "$workers workers: the outputs" "$(cat first)" "$(cat out)"
-  check "$workers workers: each job once" 41 "$(grep begin log | sort -u | wc -l)"
-  check "$workers workers: no job twice" 41 "$(grep -c begin log)"
+  same "$workers workers: the outputs" "$(cat first)" "$(cat out)"
+  same "$workers workers: each job once" 41 "$(grep begin log | sort -u | wc -l)"
+  same "$workers workers: no job twice" 41 "$(grep -c begin log)"
   most=$(awk '$1 == "begin" { if (++n > most) most = n } $1 == "end" { n-- } END { print most }' log)
-  check "$workers workers: no more at a time" yes "$([ "$most" -le "$workers" ] && echo yes || echo "$most")"
+  same "$workers workers: no more at a time" yes "$([ "$most" -le "$workers" ] && echo yes || echo "$most")"
 done
-check "the last square" 2313441 "$(sed 's/.*"forty.power":\([0-9]*\).*/\1/' first)"
+same "the last square" 2313441 "$(sed 's/.*"forty.power":\([0-9]*\).*/\1/' first)"
 
 # Where there is no memory for the stack of a thread, the program runs the jobs itself, one at a time.
 for limit in 12000 26000 34000; do
   rm -f log
   (ulimit -v "$limit" && exec "$program" run --workers 4 --root "$work/run" forty.wdl) >out 2>err </dev/null
-  check "$limit kB of memory" "0 $(cat first)" "$? $(cat out)"
-  check "$limit kB of memory: each job once" "41 41" "$(grep begin log | sort -u | wc -l) $(grep -c begin log)"
+  same "$limit kB of memory" "0 $(cat first)" "$? $(cat out)"
+  same "$limit kB of memory: each job once" "41 41" "$(grep begin log | sort -u | wc -l) $(grep -c begin log)"
   most=$(awk '$1 == "begin" { if (++n > most) most = n } $1 == "end" { n-- } END { print most }' log)
-  [ "$limit" != 12000 ] || check "without a thread: one at a time" 1 "$most"
+  [ "$limit" != 12000 ] || same "without a thread: one at a time" 1 "$most"
 done
 
 echo "what a job is handed"
@@ -138,7 +129,7 @@ END
 if [ -d /proc/self/fd ]; then
   # Three streams, and what `ls` opens itself: no file of the journal or of another job.
   "$program" run --workers 4 --journal "$work/handed" --root "$work/run" handed.wdl >out 2>err </dev/null
-  check "its streams alone" "0 $(awk 'BEGIN { printf "{\"handed.open\":["; while (i++ < 12) printf "%s\"0 1 2 3 \"", (i > 1 ? "," : ""); print "]}" }')" "$? $(cat out)"
+  same "its streams alone" "0 $(awk 'BEGIN { printf "{\"handed.open\":["; while (i++ < 12) printf "%s\"0 1 2 3 \"", (i > 1 ? "," : ""); print "]}" }')" "$? $(cat out)"
 fi
 
 echo "the orders in which five jobs end"
@@ -183,14 +174,14 @@ ends_in() {
         well) echo well >>ends ;;
       esac
     done
-  check "the order $want" "$want well {\"orders.all\":35,\"orders.r\":[1,2,5,10,17]}" "$(tr '\n' ' ' <ends)$(cat out)"
+  same "the order $want" "$want well {\"orders.all\":35,\"orders.r\":[1,2,5,10,17]}" "$(tr '\n' ' ' <ends)$(cat out)"
 }
 awk 'function from(k, line,  i) {
     if (k == 5) { print line; return }
     for (i = 0; i < 5; i++) if (!used[i]) { used[i] = 1; from(k + 1, line (k ? " " : "") i); used[i] = 0 }
   }
   BEGIN { from(0, "") }' >orders
-check "all orders" 120 "$(sort -u orders | wc -l | tr -d ' ')"
+same "all orders" 120 "$(sort -u orders | wc -l | tr -d ' ')"
 while read -r order <&8; do ends_in $order; done 8<orders
 exec 3<&- 4<&- 5<&- 6<&- 7<&-
 
@@ -215,8 +206,8 @@ END
 for workers in 1 3 8; do
   rm -f tried
   run "$workers" again.wdl
-  check "$workers workers: jobs that are tried again" '0 {"again.r":[0,1,2,3,4,5,6,7]}' "$status $(cat out)"
-  check "$workers workers: each three times" "3 3 3 3 3 3 3 3" "$(sort tried | uniq -c | awk '{ printf "%s%d", (NR > 1 ? " " : ""), $1 }')"
+  same "$workers workers: jobs that are tried again" '0 {"again.r":[0,1,2,3,4,5,6,7]}' "$status $(cat out)"
+  same "$workers workers: each three times" "3 3 3 3 3 3 3 3" "$(sort tried | uniq -c | awk '{ printf "%s%d", (NR > 1 ? " " : ""), $1 }')"
 done
 
 echo "after a failure"
@@ -241,21 +232,20 @@ workflow failing {
 }
 END
 run 2 failing.wdl
-check "a failed job" "1 failed bad: status 3" "$status $(cat err)"
-check "what began" "bad slow" "$(sort begun | tr '\n' ' ' | sed 's/ $//')"
-check "what was waited for" "bad slow" "$(sort ended | tr '\n' ' ' | sed 's/ $//')"
+same "a failed job" "1 failed bad: status 3" "$status $(cat err)"
+same "what began" "bad slow" "$(sort begun | tr '\n' ' ' | sed 's/ $//')"
+same "what was waited for" "bad slow" "$(sort ended | tr '\n' ' ' | sed 's/ $//')"
 # A job that is not launched, since something else stands in the place of its directory, stops the run in the same way, and the answer of the other is kept.
 rm -rf begun ended run journal
 mkdir -p run/bad
 echo notes >run/bad/notes
 "$program" run --workers 2 --journal journal --root "$work/run" failing.wdl >out 2>err </dev/null
-check "a job that is not launched" "9 cannot launch bad" "$? $(cat err)"
-check "what was begun and waited for then" "slow slow" "$(cat begun ended | tr '\n' ' ' | sed 's/ $//')"
+same "a job that is not launched" "9 cannot launch bad" "$? $(cat err)"
+same "what was begun and waited for then" "slow slow" "$(cat begun ended | tr '\n' ' ' | sed 's/ $//')"
 rm -r run/bad
 sed 's/status = 3/status = 0/' failing.wdl >mended.wdl
 "$program" run --workers 2 --journal journal --root "$work/run" mended.wdl >out 2>err </dev/null
-check "the run once its cause is mended" '0 {"failing.all":"badslowthird"}' "$? $(cat out)"
-check "what was launched in both" "bad slow third" "$(sort begun | tr '\n' ' ' | sed 's/ $//')"
+same "the run once its cause is mended" '0 {"failing.all":"badslowthird"}' "$? $(cat out)"
+same "what was launched in both" "bad slow third" "$(sort begun | tr '\n' ' ' | sed 's/ $//')"
 
-echo "$passed passed, $failed failed"
-[ "$failed" = 0 ]
+conclude

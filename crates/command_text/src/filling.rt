@@ -1,17 +1,4 @@
-ghost use Rattle.std.specs.Prelude.{
-  ◌≡◌,
-  ◌++◌,
-  ◌<◌,
-  ◌≤◌,
-  ◌+◌,
-  length,
-  slice_index_or,
-  [],
-  IfOk,
-  OnOk,
-  OnErr,
-  IsErrOf,
-};
+ghost use Rattle.std.specs.Prelude.{◌≡◌, ◌++◌, ◌<◌, ◌≤◌, ◌+◌, length, IfOk, OnOk, IsErrOf};
 ghost use Rattle.wdl_base.specs.Templates.{joined, part_text, HasPiece, HasPieces};
 ghost use Rattle.command_text.specs.declared.error.FillFault.TheVariants.{TooLarge};
 

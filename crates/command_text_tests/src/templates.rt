@@ -1,4 +1,4 @@
-ghost use Rattle.std.specs.Prelude.{◌≡◌, IfOk};
+ghost use Rattle.std.specs.Prelude.{IfOk};
 ghost use Rattle.wdl_base.specs.Templates.{HasPieces};
 
 use command_text::{FillFault, dedent, fill};

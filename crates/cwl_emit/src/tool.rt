@@ -1,7 +1,7 @@
 //! Tools as JSON.
 
-ghost use Rattle.std.specs.Prelude.{◌≡◌, IfOk, OnOk};
-ghost use Rattle.serde_json.specs.View.{view, members_view};
+ghost use Rattle.std.specs.Prelude.{◌≡◌, IfOk};
+ghost use Rattle.serde_json.specs.View.{view};
 ghost use Rattle.cwl_emit.specs.Writing as spec;
 
 use crate::inputs::{inputs_json, put_word, word_json};

@@ -1,6 +1,6 @@
 //! Blocks: what stands before the body of a scatter or of a condition.
 
-ghost use Rattle.std.specs.Prelude.{◌≡◌, ◌++◌, ◌∷◌, [], IfOk, OnOk, codes, map};
+ghost use Rattle.std.specs.Prelude.{◌≡◌, ◌++◌, ◌∷◌, [], IfOk, OnOk, map};
 ghost use Rattle.wdl_typed.specs.Declarations.{plain_key as spec_key};
 ghost use Rattle.cwl_model.specs.declared.ty.CwlTy.{out-CwlTy};
 ghost use Rattle.cwl_image.specs.Image as image;
@@ -10,7 +10,7 @@ ghost use Rattle.cwl_flow.specs.Drafts as draft;
 use crate::context::Context;
 use crate::ids::{block_id, id_of};
 use crate::links::Kind;
-use crate::uses::{only, outer_uses, plain_key};
+use crate::uses::{only, outer_uses};
 use crate::wires::{add_outer_wires, add_wire, seen_type, type_at};
 use cwl_image::Linkage;
 use cwl_model::{CwlIn, CwlTy, FlowOut, Link, Mode, Wire};
@@ -82,7 +82,7 @@ fn item_linkage(
 ) -> Result<Linkage, NoMemory>
     ensures { IfOk result (λ l. l ≡ image.item_linkage scope.now item.now over.now) }
 {
-    let key = plain_key(alloc, item)?;
+    let key = Key::plain(alloc, item)?;
     let link = Link::Input(item.to_text(alloc)?);
     let ty = type_of_items(alloc, scope, over)?;
     Ok(Linkage { key, link, ty })

@@ -1,7 +1,6 @@
 //! Calls: what runs in the step of one.
 
 ghost use Rattle.std.specs.Prelude.{◌≡◌, [], IfOk, map, slice_get};
-ghost use Rattle.wdl_typed.specs.Bodies.{signature};
 ghost use Rattle.cwl_image.specs.Image as image;
 ghost use Rattle.cwl_flow.specs.Calls.{Calls};
 ghost use Rattle.cwl_flow.specs.Drafts as draft;

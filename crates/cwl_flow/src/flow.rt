@@ -7,7 +7,6 @@ ghost use Rattle.cwl_flow.specs.Drafts as draft;
 
 use crate::calls::empty;
 use crate::context::Context;
-use crate::uses::plain_key;
 use crate::walk::{body_steps, flow_process};
 use crate::wires::link_of;
 use cwl_image::Linkage;
@@ -16,12 +15,12 @@ use cwl_tool::{cwl_type, inputs_of};
 use std::alloc::Global;
 use wdl_names::Index;
 use wdl_typed::{Checked, FlowDef, TDecl, TInput};
-use wdl_value::{Items, NoMemory};
+use wdl_value::{Items, Key, NoMemory};
 
 fn input_linkage(alloc: Global, input: &TInput) -> Result<Linkage, NoMemory>
     ensures { IfOk result (λ l. l ≡ image.input_linkage input.now) }
 {
-    let key = plain_key(alloc, &input.name)?;
+    let key = Key::plain(alloc, &input.name)?;
     let link = Link::Input(input.name.to_text(alloc)?);
     let ty = cwl_type(alloc, &input.ty)?;
     Ok(Linkage { key, link, ty })

@@ -1,6 +1,6 @@
 //! The references of a body that come from outside its block.
 
-ghost use Rattle.std.specs.Prelude.{◌≡◌, ◌++◌, ◌∷◌, [], IfOk, OnOk, map};
+ghost use Rattle.std.specs.Prelude.{◌≡◌, ◌++◌, ◌∷◌, [], IfOk, OnOk};
 ghost use Rattle.wdl_typed.specs.Declarations.{plain_key as spec_key};
 ghost use Rattle.wdl_typed.specs.Scope.{is_among};
 ghost use Rattle.cwl_image.specs.Image as image;
@@ -13,17 +13,6 @@ use std::alloc::Global;
 use wdl_names::Index;
 use wdl_typed::{Statement, TExpr, TField};
 use wdl_value::{Items, Key, Name, NoMemory};
-
-/// The reference of a name.
-pub fn plain_key(alloc: Global, name: &Name) -> Result<Key, NoMemory>
-    ensures { IfOk result (λ k. k ≡ spec_key name.now) }
-{
-    let first = name.copy(alloc)?;
-    Ok(Key {
-        first,
-        second: None,
-    })
-}
 
 fn has(keys: &Index<Key>, key: &Key) -> bool
     ensures { result ≡ is_among key.now keys.now }
@@ -87,7 +76,7 @@ pub fn only(alloc: Global, item: &Name) -> Result<Index<Key>, NoMemory>
     ensures { IfOk result (λ ks. ks ≡ spec_key item.now ∷ []) }
 {
     let mut keys = Index::empty(alloc);
-    keys.push(plain_key(alloc, item)?)?;
+    keys.push(Key::plain(alloc, item)?)?;
     Ok(keys)
 }
 

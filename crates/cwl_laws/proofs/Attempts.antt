@@ -22,7 +22,7 @@ use Rattle.cwl_model.specs.declared.ty.CwlTy.{fold-roll-CwlTy}
 use Rattle.cwl_model.specs.declared.ty.CwlTy.TheVariants as cwl
 use Rattle.cwl_model.specs.declared.ty.CwlTy.TheOpen as type
 use Rattle.cwl_model.specs.Means as means
-use Rattle.cwl_model.specs.Means.{Ground, Meaning, Named, Test, file_at, files_at, given_outputs, has_type, named, told, tool_run, typed_at, value_at}
+use Rattle.cwl_model.specs.Means.{Meaning, Named, Test, file_at, files_at, has_type, named, told, tool_run, typed_at, value_at}
 use Rattle.cwl_model.proofs.Rounds.{first_is, first_or_later, later_is, none_is}
 use Rattle.cwl_image.specs.Image.{Output, call_output}
 use Rattle.cwl_laws.specs.Laws.{Agrees, Given}

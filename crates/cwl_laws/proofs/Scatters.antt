@@ -37,7 +37,7 @@ use Rattle.cwl_model.specs.declared.ty.CwlTy.{CwlTy, fold-roll-CwlTy}
 use Rattle.cwl_model.specs.declared.ty.CwlTy.TheVariants as cwl
 use Rattle.cwl_model.specs.declared.ty.CwlTy.TheOpen as type
 use Rattle.cwl_model.specs.Means as means
-use Rattle.cwl_model.specs.Means.{Ground, Meaning, Named, Running, Test, all_jobs, all_outputs, all_taken, are_typed, flow_means, given_or, given_outputs, has_type, incomplete, input_links, is_complete, is_given, listed, mode_means, named, or_null, running, scatter_items, step_means, taken, typed_at, value_at, wired, wired_means}
+use Rattle.cwl_model.specs.Means.{Ground, Meaning, Named, Running, Test, all_jobs, all_outputs, all_taken, are_typed, flow_means, given_or, given_outputs, has_type, incomplete, input_links, is_complete, is_given, listed, mode_means, named, or_null, scatter_items, step_means, taken, typed_at, value_at, wired, wired_means}
 use Rattle.cwl_model.specs.Rounds.{Linked, known_value}
 use Rattle.cwl_model.proofs.Rounds.{first_is, first_or_later, later_is, none_is, or_else}
 use Rattle.cwl_image.specs.Image.{Draft, Linkage, Output, Scope, block_out, block_output, body_items, body_links, body_steps, id_of, inner_scope, input_of, item_linkage, linkage_at, list_type, out_id, outer_uses, outer_wire, reference, scatter_draft, step_of, type_of, type_step, wire_to}

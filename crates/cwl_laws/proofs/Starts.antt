@@ -21,7 +21,7 @@ use Rattle.wdl_value.specs.declared.ty.Ty.{Ty}
 use Rattle.wdl_typed.specs.Declarations.{inputs_bound, plain_key}
 use Rattle.wdl_typed.specs.Evaluation.{value_of}
 use Rattle.wdl_typed.specs.Flow as flow
-use Rattle.wdl_typed.specs.Flow.{Flowing, Known, Runner, Sight, all_known, declaration, declared_as, default_of, env_of, in_turn, is_clean, is_known, known, nothing, seeing, together, with_count}
+use Rattle.wdl_typed.specs.Flow.{Flowing, Sight, declaration, declared_as, default_of, env_of, is_clean, is_known, known, seeing, together}
 use Rattle.wdl_typed.specs.Requests.{before}
 use Rattle.wdl_typed.specs.Scope.{lookup, names_of, same_key, type_in}
 use Rattle.cwl_model.specs.declared.process.Link.TheVariants as link

@@ -17,7 +17,7 @@ use Rattle.wdl_typed.specs.declared.scope.Bound.{Bound}
 use Rattle.wdl_typed.specs.Declarations.{decl_names, input_names, inputs_bound, plain_key}
 use Rattle.wdl_typed.specs.Evaluation.{value_of}
 use Rattle.wdl_typed.specs.Flow as flow
-use Rattle.wdl_typed.specs.Flow.{Flowing, Known, Runner, Sight, all_known, declaration, declared_as, default_of, env_of, in_turn, is_clean, is_known, known, nothing, seeing, together, with_count}
+use Rattle.wdl_typed.specs.Flow.{Flowing, Known, Runner, Sight, declaration, declared_as, env_of, in_turn, is_clean, known, nothing, seeing, together, with_count}
 use Rattle.wdl_typed.specs.Lists.{are_distinct, has_name}
 use Rattle.wdl_typed.specs.Requests.{before}
 use Rattle.wdl_typed.specs.Scope.{lookup, same_key}

@@ -3,7 +3,6 @@
 
 ghost use Rattle.std.specs.Prelude.{◌≡◌, ◌++◌, ◌∷◌, [], IfOk, OnOk};
 ghost use Rattle.std.specs.Option.{option_copied};
-ghost use Rattle.wdl_typed.specs.Declarations.{bound};
 ghost use Rattle.cwl_records.specs.Aliases as spec;
 ghost use Rattle.wdl_swaps.specs.Chains as chain;
 ghost use Rattle.cwl_records.specs.Scenes as scene;
@@ -11,11 +10,10 @@ ghost use Rattle.cwl_records.specs.Scenes as scene;
 use crate::hops::hops_fit;
 use cwl_rules::is_file_type;
 use cwl_subset::{Context, call_given};
+use given_types::declared;
 use std::alloc::Global;
 use wdl_names::{NameStack, TypedNames};
-use wdl_swaps::{
-    Chain, Swap, boxed_expr, chain_of, kept_call, kept_decl, plain_key, swapped_fields,
-};
+use wdl_swaps::{Chain, Swap, boxed_expr, chain_of, kept_call, kept_decl, swapped_fields};
 use wdl_typed::{Bound, Statement, TCall, TDecl, TExpr};
 use wdl_value::{Items, Key, Name, NoMemory, Ty};
 
@@ -117,17 +115,6 @@ fn alias_of(
     Ok(source_of(chain, stage.context, names))
 }
 
-/// The name of a declaration.
-fn declared(alloc: Global, d: &TDecl) -> Result<Items<Bound>, NoMemory>
-    ensures { IfOk result (λ bs. bs ≡ bound d.now.name d.now.ty ∷ []) }
-{
-    let key = plain_key(alloc, &d.name)?;
-    let ty = d.ty.copy(alloc)?;
-    let mut names = Items::new(alloc);
-    names.push(Bound { key, ty })?;
-    Ok(names)
-}
-
 /// Puts the value of an alias into the place of its name.
 fn push_alias(
     alloc: Global,
@@ -137,7 +124,7 @@ fn push_alias(
 ) -> Result<(), NoMemory>
     ensures { OnOk result (swaps.new ≡ swaps.old ++ spec.alias_swap name.now value ∷ []) }
 {
-    let key = plain_key(alloc, name)?;
+    let key = Key::plain(alloc, name)?;
     let path = Items::new(alloc);
     swaps.push(Swap { key, path, value })?;
     Ok(())

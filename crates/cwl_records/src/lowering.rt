@@ -1,6 +1,6 @@
 //! Checked forms without aliases and struct inputs.
 
-ghost use Rattle.std.specs.Prelude.{◌≡◌, [], IfOk, IsSome, Some};
+ghost use Rattle.std.specs.Prelude.{◌≡◌, IfOk, IsSome, Some};
 ghost use Rattle.cwl_records.specs.Outcomes as outcome;
 
 use crate::leaf::RecordLeaf;

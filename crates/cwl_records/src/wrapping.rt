@@ -15,7 +15,7 @@ use struct_leaves::{copy_names, is_record};
 use struct_members::members_of;
 use wdl_names::Indexed;
 use wdl_typed::TInput;
-use wdl_value::{Items, Member, Name, NoMemory, StructDef, Structs, Text, Ty};
+use wdl_value::{Items, Member, NoMemory, StructDef, Structs, Text, Ty};
 
 /// The most structs through which the members of a struct lead.
 const LEVELS: u32 = 32;

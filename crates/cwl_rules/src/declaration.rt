@@ -1,7 +1,6 @@
 //! Inputs, declarations and outputs.
 
 ghost use Rattle.std.specs.Prelude.{◌≡◌, ◌&&◌, IfOk};
-ghost use Rattle.cwl_image.specs.Expressions as expressions;
 ghost use Rattle.cwl_image.specs.Subset as subset;
 ghost use Rattle.cwl_rules.specs.Lowest.{lowest};
 ghost use Rattle.cwl_rules.specs.Roles as spec;

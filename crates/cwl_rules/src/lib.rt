@@ -19,4 +19,4 @@ pub use literal::{is_zero, literal_of};
 pub use lowest::{lower, unless};
 pub use named::see_names;
 pub use referring::reference;
-pub use types::{is_file_type, is_scalar, widens};
+pub use types::{is_file_type, widens};

@@ -2,7 +2,6 @@
 
 ghost use Rattle.std.specs.Prelude.{◌≡◌};
 ghost use Rattle.cwl_image.specs.Expressions as spec;
-ghost use Rattle.wdl_value.specs.Kinds as kinds;
 
 use wdl_value::{Ty, bare_type};
 
@@ -34,13 +33,6 @@ pub fn is_file_type(t: &Ty) -> bool
     ensures { result ≡ spec.is_file_type t.now }
 {
     matches!(t, Ty::File)
-}
-
-/// Whether the type is Int, String, Boolean or File.
-pub fn is_scalar(t: &Ty) -> bool
-    ensures { result ≡ kinds.is_scalar t.now }
-{
-    matches!(t, Ty::Bool | Ty::Int | Ty::Str | Ty::File)
 }
 
 /// Whether a cast from the first type to the second makes T to `T?` and `Array[T]+` to `Array[T]`

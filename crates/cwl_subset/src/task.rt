@@ -10,14 +10,14 @@ ghost use Rattle.cwl_subset.specs.Tables.{task_table};
 use crate::scope::{input_scope, task_scope};
 use cwl_image::Broken;
 use cwl_rules::{
-    Role, are_allowed, decls_broken, default_allowed, inputs_broken, is_command, is_scalar,
-    is_zero, literal_of, lower, reference, unless,
+    Role, are_allowed, decls_broken, default_allowed, inputs_broken, is_command, is_zero,
+    literal_of, lower, reference, unless,
 };
 use sqlite_items::Items;
 use std::alloc::Global;
 use wdl_names::{Indexed, TypedNames};
 use wdl_typed::{Choice, TCodes, TExpr, THole, TPart, TaskDef};
-use wdl_value::{NoMemory, StructDef, Ty};
+use wdl_value::{NoMemory, StructDef, Ty, is_scalar};
 
 /// Whether the type is there, and is Int, String, Boolean or File.
 fn some_scalar(t: Option<&Ty>) -> bool

@@ -1,22 +1,21 @@
 //! The bodies of workflows, whose statements stand in dependency order.
 
-ghost use Rattle.std.specs.Prelude.{◌≡◌, ◌∷◌, [], IfOk, OnOk, option_map, slice_get};
+ghost use Rattle.std.specs.Prelude.{◌≡◌, IfOk, OnOk, option_map, slice_get};
 ghost use Rattle.std.specs.Option.{option_copied};
 ghost use Rattle.wdl_typed.specs.Bodies as bodies;
-ghost use Rattle.wdl_typed.specs.Declarations.{bound};
 ghost use Rattle.cwl_image.specs.Subset as subset;
 ghost use Rattle.cwl_rules.specs.Lowest.{lowest};
 ghost use Rattle.cwl_subset.specs.Walks as spec;
 
 use cwl_image::Broken;
 use cwl_rules::{Role, are_allowed, decl_broken, lower, refers, unless};
-use given_types::{arrays, enter_names, optionals, outputs_of};
+use given_types::{arrays, declared, enter_names, optionals, outputs_of};
 use sqlite_items::{Items, at};
 use std::alloc::Global;
 use wdl_names::{Indexed, NameStack, TypedNames};
 use wdl_typed::{Bound, FlowDef, Statement, TCall, TDecl, TExpr, TField, Target, TaskDef};
 use wdl_typing::{body_type, enter};
-use wdl_value::{Key, Name, NoMemory, Span, StructDef, Ty};
+use wdl_value::{Name, NoMemory, Span, StructDef, Ty};
 
 /// The library, and the names that the workflow's body declares.
 #[derive(Drop)]
@@ -152,23 +151,6 @@ fn call_walk(
     let broken = call_broken(alloc, call, context, names)?;
     let given = call_given(alloc, call, context)?;
     Ok(Walked { given, broken })
-}
-
-/// The name of a declaration.
-fn declared(alloc: Global, d: &TDecl) -> Result<Items<Bound>, NoMemory>
-    ensures { IfOk result (λ bs. bs ≡ bound d.now.name d.now.ty ∷ []) }
-{
-    let first = d.name.copy(alloc)?;
-    let ty = d.ty.copy(alloc)?;
-    let mut names = Items::new(alloc);
-    names.push(Bound {
-        key: Key {
-            first,
-            second: None,
-        },
-        ty,
-    })?;
-    Ok(names)
 }
 
 fn decl_walk(

@@ -1,6 +1,6 @@
 //! The note of a fault in a document.
 
-ghost use Rattle.std.specs.Prelude.{◌≡◌, IfOk, string_bytes};
+ghost use Rattle.std.specs.Prelude.{IfOk, string_bytes};
 ghost use Rattle.fault_notes.specs.Notes.{Begins};
 ghost use Rattle.fault_places.specs.Heads.{head_of};
 

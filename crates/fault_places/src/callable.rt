@@ -5,7 +5,7 @@ use wdl_ast::{
     Workflow, WorkflowElement,
 };
 use wdl_library::{Doc, Library};
-use wdl_value::{Name, NoMemory, Span};
+use wdl_value::{Name, NoMemory};
 
 /// A task or a workflow.
 #[derive(Clone, Copy)]

@@ -1,15 +1,16 @@
 //! The names that statements give out, with their types.
 
-ghost use Rattle.std.specs.Prelude.{◌≡◌, ◌++◌, IfOk, OnOk, map};
+ghost use Rattle.std.specs.Prelude.{◌≡◌, ◌++◌, ◌∷◌, [], IfOk, OnOk, map};
 ghost use Rattle.wdl_typed.specs.Bodies as bodies;
+ghost use Rattle.wdl_typed.specs.Declarations.{bound};
 ghost use Rattle.wdl_value.specs.declared.ty.Ty.TheVariants as ty;
 ghost use Rattle.given_types.specs.Types as spec;
 
-use sqlite_items::{Boxed, Items};
+use sqlite_items::Items;
 use std::alloc::Global;
 use wdl_names::TypedNames;
 use wdl_typed::{Bound, TDecl};
-use wdl_value::{Key, Name, NoMemory, Ty, is_optional};
+use wdl_value::{Key, Name, NoMemory, Ty};
 
 fn copy_of(alloc: Global, bound: &Bound) -> Result<Bound, NoMemory>
     ensures { IfOk result (λ b. b ≡ bound.now) }
@@ -19,6 +20,17 @@ fn copy_of(alloc: Global, bound: &Bound) -> Result<Bound, NoMemory>
         key,
         ty: bound.ty.copy(alloc)?,
     })
+}
+
+/// The name of a declaration.
+pub fn declared(alloc: Global, d: &TDecl) -> Result<Items<Bound>, NoMemory>
+    ensures { IfOk result (λ bs. bs ≡ bound d.now.name d.now.ty ∷ []) }
+{
+    let key = Key::plain(alloc, &d.name)?;
+    let ty = d.ty.copy(alloc)?;
+    let mut names = Items::new(alloc);
+    names.push(Bound { key, ty })?;
+    Ok(names)
 }
 
 /// Adds names.
@@ -31,26 +43,6 @@ pub fn enter_names(alloc: Global, names: &mut TypedNames, bounds: &[Bound]) -> R
     Ok(())
 }
 
-fn array_of(alloc: Global, t: &Ty, some: bool) -> Result<Ty, NoMemory>
-    ensures { IfOk result (λ u. u ≡ ty.Array t.now some) }
-{
-    let item = t.copy(alloc)?;
-    Ok(Ty::Array {
-        item: Boxed::new(alloc, item)?,
-        some,
-    })
-}
-
-fn optional(alloc: Global, t: &Ty) -> Result<Ty, NoMemory>
-    ensures { IfOk result (λ u. u ≡ bodies.optional t.now) }
-{
-    let copy = t.copy(alloc)?;
-    if is_optional(t) {
-        return Ok(copy);
-    }
-    Ok(Ty::Opt(Boxed::new(alloc, copy)?))
-}
-
 /// The names as arrays, with `+` where `some` says so.
 pub fn arrays(alloc: Global, names: &[Bound], some: bool) -> Result<Items<Bound>, NoMemory>
     ensures { IfOk result (λ bs. bs ≡ spec.retyped_names (λ u. ty.Array u some) names.now) }
@@ -58,7 +50,7 @@ pub fn arrays(alloc: Global, names: &[Bound], some: bool) -> Result<Items<Bound>
     let mut arrays = Items::new(alloc);
     for bound in names {
         let key = bound.key.copy(alloc)?;
-        let ty = array_of(alloc, &bound.ty, some)?;
+        let ty = Ty::array_of(alloc, bound.ty.copy(alloc)?, some)?;
         arrays.push(Bound { key, ty })?;
     }
     Ok(arrays)
@@ -71,7 +63,7 @@ pub fn optionals(alloc: Global, names: &[Bound]) -> Result<Items<Bound>, NoMemor
     let mut optionals = Items::new(alloc);
     for bound in names {
         let key = bound.key.copy(alloc)?;
-        let ty = optional(alloc, &bound.ty)?;
+        let ty = Ty::optional_of(alloc, bound.ty.copy(alloc)?)?;
         optionals.push(Bound { key, ty })?;
     }
     Ok(optionals)

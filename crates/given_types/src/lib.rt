@@ -3,4 +3,4 @@
 
 mod given;
 
-pub use given::{arrays, enter_names, optionals, outputs_of};
+pub use given::{arrays, declared, enter_names, optionals, outputs_of};

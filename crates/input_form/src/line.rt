@@ -1,6 +1,6 @@
 //! The line of an input.
 
-ghost use Rattle.std.specs.Prelude.{◌≡◌, false, IfOk};
+ghost use Rattle.std.specs.Prelude.{◌≡◌, IfOk};
 ghost use Rattle.json.specs.Print.{quoted as quoted_text};
 ghost use Rattle.serde_json.specs.Written.{compact_text};
 ghost use Rattle.json_values.specs.Writing.{json_of as json_data};
@@ -13,7 +13,7 @@ use json_values::json_of;
 use serde_json::Value as Json;
 use std::alloc::Global;
 use wdl_typed::{TExpr, TInput};
-use wdl_value::{Name, NoMemory, Text, Ty, Value, is_optional};
+use wdl_value::{Name, NoMemory, Text, Value, is_optional};
 
 /// The member of a form for one input, with the byte of the document at which the input begins.
 #[derive(Debug, Drop)]

@@ -1,6 +1,6 @@
 //! Values read from JSON, by their types.
 
-ghost use Rattle.std.specs.Prelude.{◌≡◌, IfOk, false};
+ghost use Rattle.std.specs.Prelude.{◌≡◌, IfOk};
 ghost use Rattle.serde_json.specs.View.{view, items_view, members_view};
 ghost use Rattle.wdl_value.specs.declared.ty.Ty.{out-Ty};
 ghost use Rattle.json_values.specs.Reading as spec;

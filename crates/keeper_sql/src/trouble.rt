@@ -5,25 +5,28 @@ ghost use Rattle.sqlite.specs.declared.error.Error.TheVariants.{SqliteFailure};
 ghost use Rattle.sqlite.specs.declared.error.ErrorCode.TheVariants.{OutOfMemory as SqliteNoMemory};
 
 use run_keeper::RowFault;
-use sqlite::{Error, ErrorCode};
+use sqlite::{Error as SqliteError, ErrorCode};
 use std::alloc::{AllocError, AllocFailed};
+use thiserror::Error;
 use wdl_value::NoMemory;
 
 /// Why a step of the keeper failed.
-#[derive(Clone, Copy, Debug, PartialEq, Eq)]
+#[derive(Clone, Copy, Debug, PartialEq, Eq, Error)]
 pub enum Trouble {
     /// What the keeper counts as a fault: the file cannot be opened, read or written, or is no
     /// journal.
+    #[error("the journal cannot be opened, read or written")]
     Failed,
+    #[error("out of memory")]
     NoMemory,
 }
 
-impl From<Error> for Trouble {
+impl From<SqliteError> for Trouble {
     ghost from_gives = { λ e t. (t ≡ OutOfMemory) ↔ (e ≡ SqliteFailure SqliteNoMemory) };
 
-    fn from(e: Error) -> Trouble {
+    fn from(e: SqliteError) -> Trouble {
         match e {
-            Error::SqliteFailure(ErrorCode::OutOfMemory) => Trouble::NoMemory,
+            SqliteError::SqliteFailure(ErrorCode::OutOfMemory) => Trouble::NoMemory,
             _ => Trouble::Failed,
         }
     }

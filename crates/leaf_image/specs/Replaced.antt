@@ -1,5 +1,5 @@
 -- Workflows with the leaves in the places of their struct inputs, where main reaches them.
-use Rattle.std.specs.Prelude.{ℕ, Bool, true, false, List, [], ◌∷◌, Option, Some, None, option_and_then, option_map, if◌then◌else◌}
+use Rattle.std.specs.Prelude.{ℕ, Bool, List, [], ◌∷◌, Option, Some, None, option_and_then, option_map, if◌then◌else◌}
 use Rattle.wdl_value.specs.Fits.{Structs}
 use Rattle.wdl_typed.specs.declared.flow.FlowDef.{FlowDef}
 use Rattle.wdl_typed.specs.Bodies.{Library, library}

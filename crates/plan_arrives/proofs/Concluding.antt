@@ -28,7 +28,7 @@ use Rattle.plan_layout.specs.declared.layout.BodyLayout.{BodyLayout}
 use Rattle.plan_layout.specs.declared.layout.Layout.{Layout}
 use Rattle.plan_layout.specs.declared.layout.StatementLayout.{StatementLayout}
 use Rattle.plan_layout.specs.Laid as laid
-use Rattle.plan_layout.specs.Laid.{HasSlots, Laid, Stand, given_at, laid_call, laid_decl, laid_if, laid_next, laid_none, laid_scatter, laid_whole}
+use Rattle.plan_layout.specs.Laid.{Laid, Stand, given_at, laid_call, laid_decl, laid_if, laid_next, laid_none, laid_scatter, laid_whole}
 use Rattle.plan_layout.specs.Sees.{Sees}
 use Rattle.plan_room.specs.Room.{HasRuns}
 use Rattle.plan_ready.specs.Ready.{IsCallReady, IsLayerReady, IsRuleReady}

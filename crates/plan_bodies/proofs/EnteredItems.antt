@@ -1,5 +1,5 @@
 -- The items of a scatter while they are entered one after the other.
-use Rattle.std.proofs.Common.{◌≡◌, ◌≤◌, ℕ, ◌+◌, List, [], ◌∷◌, ◌++◌, length, reverse, append_assoc, append-nil, ap, sym, ◌∙◌, subst, refl, arith}
+use Rattle.std.proofs.Common.{◌≡◌, ◌≤◌, ℕ, ◌+◌, List, [], ◌∷◌, ◌++◌, length, reverse, append_assoc, append-nil, ap, sym, ◌∙◌, subst, arith}
 use Rattle.std.proofs.lemmas.List.{length-append, reverse-append, reverse-reverse}
 use Rattle.wdl_base.specs.declared.place.Segment.{Segment}
 use Rattle.wdl_base.specs.declared.place.Segment.TheVariants as segment
@@ -9,7 +9,7 @@ use Rattle.plan_layout.specs.declared.layout.BodyLayout.{BodyLayout}
 use Rattle.plan_bodies.specs.declared.entered.Entered.{Entered}
 use Rattle.plan_growth.specs.Entering.{Plot, firsts_of, with_item, with_items}
 use Rattle.plan_bodies.specs.Plots.{plot}
-use Rattle.plan_bodies.proofs.Counts.{item_count, items_more}
+use Rattle.plan_bodies.proofs.Counts.{item_count}
 
 -- the items that are left, the last one first, come behind those that were entered
 pub record IsOn (all left : List Value) (body : ℕ) (outer : List ℕ) (place : List Segment) (layout : BodyLayout) (old : Plot) (new : Entered) (firsts : List ℕ) : Type 0 where

@@ -1,6 +1,6 @@
 //! Bodies that are entered: the cells of an instance, and a step for each of its statements.
 
-ghost use Rattle.std.specs.Prelude.{◌≡◌, ◌++◌, ◌∷◌, [], ◌+◌, ◌<◌, length, IfOk, OnOk};
+ghost use Rattle.std.specs.Prelude.{◌≡◌, ◌++◌, ◌+◌, ◌<◌, IfOk, OnOk};
 ghost use Rattle.value_net.specs.Nets.{IsSound, view, with_step};
 ghost use Rattle.plan_growth.specs.Entering as entering;
 ghost use Rattle.plan_bodies.specs.Plots.{cell_count, plot};

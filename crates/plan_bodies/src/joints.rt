@@ -1,22 +1,7 @@
 //! Cells that are made of others: gathered names, calls that ended at each item, and what is inside
 //! a block under its name outside.
 
-ghost use Rattle.std.specs.Prelude.{
-  ◌≡◌,
-  ◌∷◌,
-  [],
-  ◌+◌,
-  ◌<◌,
-  ◌≤◌,
-  ◌^◌,
-  true,
-  ℕ,
-  Some,
-  map,
-  length,
-  IfOk,
-  OnOk,
-};
+ghost use Rattle.std.specs.Prelude.{◌≡◌, ◌+◌, ◌<◌, ◌≤◌, true, Some, map, length, IfOk, OnOk};
 ghost use Rattle.wdl_value.specs.declared.value.Value.TheVariants as kind;
 ghost use Rattle.wdl_typed.specs.Flow.{all_values};
 ghost use Rattle.value_net.specs.Nets.{IsSound, are_set, is_set, value_at, view, with_value};

@@ -1,6 +1,6 @@
 //! What blocks that were entered give out, under its names outside.
 
-ghost use Rattle.std.specs.Prelude.{◌≡◌, ◌++◌, ◌+◌, ◌<◌, length, IfOk, OnOk};
+ghost use Rattle.std.specs.Prelude.{◌≡◌, ◌+◌, ◌<◌, IfOk, OnOk};
 ghost use Rattle.std.specs.List.{All};
 ghost use Rattle.value_net.specs.Nets.{IsSound, view};
 ghost use Rattle.plan_growth.specs.Blocks.{with_copied, with_gathered, with_nothing};

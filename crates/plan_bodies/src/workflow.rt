@@ -25,10 +25,7 @@ use wdl_value::{Env, Items, Key, Name, NoMemory, Place, Value};
 fn given_value(alloc: Global, given: &Env, name: &Name) -> Result<Option<Value>, NoMemory>
     ensures { IfOk result (λ value. value ≡ found given.now (plain_key name.now)) }
 {
-    let key = Key {
-        first: name.copy(alloc)?,
-        second: None,
-    };
+    let key = Key::plain(alloc, name)?;
     match lookup(given.as_slice(), &key) {
         Some(value) => Ok(Some(value.copy(alloc)?)),
         None => Ok(None),

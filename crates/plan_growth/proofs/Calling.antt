@@ -23,7 +23,7 @@ use Rattle.wdl_typed.specs.Requests.{Asked, Failing, Tried, asks, request}
 use Rattle.flow_laws.specs.Laws.{run_with}
 use Rattle.step_net.specs.Views.{Wants}
 use Rattle.value_net.specs.Nets as values
-use Rattle.value_net.specs.Nets.{joined, value_at, view_of, with_taken, with_value}
+use Rattle.value_net.specs.Nets.{joined, value_at, with_taken}
 use Rattle.net_laws.specs.Cost.{TaskCost, called_cost, met_cost}
 use Rattle.net_laws.specs.Growing as net
 use Rattle.net_laws.specs.Growing.{CallNeeded, Form, does, mark_cell, slot_cell}

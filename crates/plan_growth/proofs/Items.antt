@@ -14,7 +14,7 @@ use Rattle.value_net.specs.Nets.{joined, with_cells, with_value}
 use Rattle.net_laws.specs.Growing as net
 use Rattle.net_laws.specs.Growing.{Item, all, body_given, each, item_next, no_item}
 use Rattle.net_laws.specs.Moving as even
-use Rattle.net_laws.specs.Moving.{IsWeight, at_step}
+use Rattle.net_laws.specs.Moving.{IsWeight}
 use Rattle.net_laws.specs.Net.{Mark, Scope, Slot, Work, both_works, item_scope, no_work}
 use Rattle.net_laws.specs.Planned.{counted}
 use Rattle.net_laws.specs.Works.{work_of}
@@ -25,7 +25,7 @@ use Rattle.plan_layout.specs.declared.layout.Layout.{Layout}
 use Rattle.plan_layout.specs.declared.layout.Need.{Need}
 use Rattle.plan_layout.specs.Cells.{marks_at, slot_at, slots_at}
 use Rattle.plan_layout.specs.Laid as laid
-use Rattle.plan_layout.specs.Laid.{HasRuns, Laid, Stand, beginning, item_spot}
+use Rattle.plan_layout.specs.Laid.{Laid, Stand, beginning, item_spot}
 use Rattle.plan_layout.specs.Paths.{body_at}
 use Rattle.plan_layout.specs.Sees.{Sees}
 use Rattle.plan_growth.specs.declared.instance.Instance.{Instance}

@@ -10,7 +10,7 @@ use Rattle.wdl_typed.specs.Bodies.{Library}
 use Rattle.wdl_typed.specs.KnownTypes as known
 use Rattle.step_net.specs.Views.{Wants}
 use Rattle.value_net.specs.Nets as values
-use Rattle.value_net.specs.Nets.{IsTaken, joined, value_at, with_taken}
+use Rattle.value_net.specs.Nets.{joined, value_at}
 use Rattle.net_laws.specs.Growing as net
 use Rattle.net_laws.specs.Growing.{are_set}
 use Rattle.plan_moves.specs.Sheets.{IsMove, state_of}

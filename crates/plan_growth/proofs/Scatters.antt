@@ -17,7 +17,7 @@ use Rattle.wdl_typed.specs.Flow.{Names}
 use Rattle.wdl_typed.specs.Journal.{keys_distinct}
 use Rattle.step_net.specs.Views.{Wants}
 use Rattle.value_net.specs.Nets as values
-use Rattle.value_net.specs.Nets.{view_of, with_step, with_taken}
+use Rattle.value_net.specs.Nets.{with_step, with_taken}
 use Rattle.net_laws.specs.Growing as net
 use Rattle.net_laws.specs.Growing.{AllEnding, AllGathered, Ending, Gathered, Item, body_given, does, each, ends, gathers, mark_cell, slot_cell}
 use Rattle.net_laws.specs.Net.{Mark, Slot}

@@ -14,7 +14,7 @@ use Rattle.wdl_typed.specs.Requests.{before}
 use Rattle.wdl_typed.specs.Scope.{names_of}
 use Rattle.step_net.specs.Views.{Wants}
 use Rattle.value_net.specs.Nets as values
-use Rattle.value_net.specs.Nets.{IsTaken, joined, value_at, view_of, with_taken, with_value}
+use Rattle.value_net.specs.Nets.{value_at, view_of}
 use Rattle.net_laws.specs.Cost.{TaskCost}
 use Rattle.net_laws.specs.Growing as net
 use Rattle.net_laws.specs.Growing.{Form, only}

@@ -16,7 +16,7 @@ use Rattle.plan_layout.specs.declared.layout.BodyLayout.{BodyLayout}
 use Rattle.plan_layout.specs.declared.layout.StatementLayout.{StatementLayout}
 use Rattle.plan_layout.specs.Cells.{marks_at, slots_at}
 use Rattle.plan_layout.specs.Laid as laid
-use Rattle.plan_layout.specs.Laid.{Laid, Stand, behind_all, behind_one, blocks_at, given_at, laid_call, laid_decl, laid_if, laid_next, laid_none, laid_scatter, laid_whole, one_name}
+use Rattle.plan_layout.specs.Laid.{Laid, Stand, behind_all, behind_one, blocks_at, given_at, laid_call, laid_decl, laid_if, laid_next, laid_none, laid_scatter, laid_whole}
 use Rattle.plan_layout.specs.Sees.{Sees}
 use Rattle.plan_layout.specs.Spots.{plain_keys, spots_from}
 use Rattle.plan_layout.proofs.Given.{name_is}

@@ -17,7 +17,7 @@ use Rattle.value_net.specs.Nets.{view_of, with_cells}
 use Rattle.net_laws.specs.Growing as net
 use Rattle.net_laws.specs.Growing.{all, body_given, flow_whole, nothing_given, slot_cell, start, tells, whole}
 use Rattle.net_laws.specs.Moving as even_works
-use Rattle.net_laws.specs.Moving.{IsWeight, at_step}
+use Rattle.net_laws.specs.Moving.{IsWeight}
 use Rattle.net_laws.specs.Net.{Given, Mark, Resolved, Scope, Slot, Work, beyond, both_given, both_works, no_work, slot_keys}
 use Rattle.net_laws.specs.Planned.{counted}
 use Rattle.net_laws.specs.Works.{work_of}

@@ -13,7 +13,7 @@ use Rattle.wdl_typed.specs.declared.task.TDecl.{TDecl}
 use Rattle.wdl_typed.specs.Bodies.{Giving, Library, Seen, body_step, call_by, gives, if_over, joined, optional, output_bound, retyped, scatter_over, signature, statement_step, with_item}
 use Rattle.wdl_typed.specs.Declarations.{in_body}
 use Rattle.wdl_typed.specs.Flow as flow
-use Rattle.wdl_typed.specs.Flow.{Callee, Names, Part, Run, all_given, body_names, names_of_part, nothing, output_keys, signature_keys}
+use Rattle.wdl_typed.specs.Flow.{Callee, Names, Part, Run, names_of_part, nothing, output_keys, signature_keys}
 use Rattle.flow_laws.specs.Laws.{run_with}
 use Rattle.net_laws.specs.Growing.{body_given}
 use Rattle.net_laws.specs.Planned.{part_of}

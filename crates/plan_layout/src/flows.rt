@@ -1,6 +1,6 @@
 //! The layout of all workflows.
 
-ghost use Rattle.std.specs.Prelude.{◌≡◌, ◌++◌, ◌∷◌, [], Some, length, slice_get, IfOk, OnOk};
+ghost use Rattle.std.specs.Prelude.{◌≡◌, [], Some, slice_get, IfOk, OnOk};
 ghost use Rattle.wdl_typed.specs.Bodies.{library};
 ghost use Rattle.plan_layout.specs.Laid.{
   IsLayout,
@@ -12,7 +12,7 @@ ghost use Rattle.plan_layout.specs.Laid.{
   with_plain,
 };
 ghost use Rattle.plan_layout.specs.Sees.{Sees};
-ghost use Rattle.plan_layout.specs.Steps.{LaysFlow, lib_of};
+ghost use Rattle.plan_layout.specs.Steps.{LaysFlow};
 
 use crate::layout::{BodyLayout, FlowLayout, Layout, Need};
 use crate::needs::expr_needs;

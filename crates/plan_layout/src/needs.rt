@@ -1,6 +1,6 @@
 //! What expressions need: their names, each once, where their cells stand.
 
-ghost use Rattle.std.specs.Prelude.{◌≡◌, ◌++◌, [], map, IfOk, OnOk};
+ghost use Rattle.std.specs.Prelude.{◌≡◌, map, IfOk, OnOk};
 ghost use Rattle.wdl_typed.specs.Scope.{names_of};
 ghost use Rattle.net_laws.specs.Rules.{arg_keys};
 ghost use Rattle.plan_layout.specs.Spots as spec;
@@ -68,24 +68,13 @@ pub fn arg_needs(
     picked(alloc, names.as_slice(), seen)
 }
 
-/// The key of a plain name.
-pub fn plain_key(alloc: Global, name: &Name) -> Result<Key, NoMemory>
-    ensures { IfOk result (λ k. k ≡ record { first = name.now; second = None }) }
-{
-    let first = name.copy(alloc)?;
-    Ok(Key {
-        first,
-        second: None,
-    })
-}
-
 /// The calls of these names, as they are seen.
 pub fn call_needs(alloc: Global, calls: &[Name], seen: &Spots) -> Result<Items<Need>, NoMemory>
     ensures { IfOk result (λ needs. needs ≡ spec.needs_of seen.now (spec.plain_keys calls.now)) }
 {
     let mut needs = Spots::empty(alloc);
     for call in calls {
-        let key = plain_key(alloc, call)?;
+        let key = Key::plain(alloc, call)?;
         pick(alloc, &key, seen, &mut needs)?;
     }
     Ok(needs.into_items())

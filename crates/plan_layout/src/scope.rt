@@ -4,12 +4,10 @@ ghost use Rattle.std.specs.Prelude.{◌≡◌, ◌+◌, ◌++◌, ◌∷◌, [],
 ghost use Rattle.wdl_typed.specs.Declarations as declarations;
 ghost use Rattle.net_laws.specs.Growing.{body_given};
 ghost use Rattle.wdl_flow.specs.Views.{given_of};
-ghost use Rattle.plan_layout.specs.Laid.{behind_names};
 ghost use Rattle.plan_layout.specs.Spots as spec;
-ghost use Rattle.plan_layout.specs.Steps.{lib_of, stand_of};
+ghost use Rattle.plan_layout.specs.Steps.{lib_of};
 
 use crate::layout::Need;
-use crate::needs::plain_key;
 use crate::spots::Spots;
 use std::alloc::Global;
 use wdl_flow::Yielded;
@@ -151,7 +149,7 @@ fn enter_calls(
 {
     let mut slot = first;
     for call in calls {
-        let key = plain_key(alloc, call)?;
+        let key = Key::plain(alloc, call)?;
         spots.enter(Need { key, level, slot })?;
         slot = sum(slot, 1)?;
     }
@@ -174,7 +172,7 @@ impl CellScope {
     pub fn add_name(&mut self, alloc: Global, name: &Name, slot: usize) -> Result<(), NoMemory>
         ensures { OnOk result (self.new ≡ record { names = self.old.names ++ record { key = declarations.plain_key name.now; level = length self.old.path; slot = slot } ∷ []; calls = self.old.calls; path = self.old.path }) }
     {
-        let key = plain_key(alloc, name)?;
+        let key = Key::plain(alloc, name)?;
         let level = self.path.len();
         self.names.enter(Need { key, level, slot })
     }

@@ -1,6 +1,6 @@
 //! The bodies of workflows, one after another: those of blocks before the body that they stand in.
 
-ghost use Rattle.std.specs.Prelude.{◌≡◌, ◌+◌, ◌++◌, ◌∷◌, [], ℕ, length, IfOk, OnOk};
+ghost use Rattle.std.specs.Prelude.{◌≡◌, ◌+◌, ◌++◌, ◌∷◌, [], length, IfOk, OnOk};
 ghost use Rattle.wdl_typed.specs.declared.flow.Statement.TheVariants as stmt;
 ghost use Rattle.wdl_typed.specs.Scope.{names_of};
 ghost use Rattle.wdl_flow.specs.Views.{given_of};
@@ -11,12 +11,12 @@ ghost use Rattle.plan_layout.specs.Spots.{needs_of};
 ghost use Rattle.plan_layout.specs.Steps.{LaysBody, LaysOne, Settles, lib_of, scope_behind};
 
 use crate::layout::{BodyLayout, Need, StatementLayout};
-use crate::needs::{arg_needs, call_needs, expr_needs, plain_key};
+use crate::needs::{arg_needs, call_needs, expr_needs};
 use crate::scope::{CellScope, Next, Origin, Runs, given_in};
 use std::alloc::Global;
 use wdl_flow::Yielded;
 use wdl_typed::{Statement, TCall, TDecl, TExpr};
-use wdl_value::{Items, Name, NoMemory};
+use wdl_value::{Items, Key, Name, NoMemory};
 
 /// What is known of a statement before its slots.
 #[derive(Drop)]
@@ -64,7 +64,7 @@ fn declared(alloc: Global, name: &Name) -> Result<Yielded, NoMemory>
     ensures { IfOk result (λ g. given_of g ≡ one_name name.now) }
 {
     let mut given = Yielded::empty(alloc);
-    given.keys.push(plain_key(alloc, name)?)?;
+    given.keys.push(Key::plain(alloc, name)?)?;
     Ok(given)
 }
 

@@ -16,7 +16,7 @@ use Rattle.flow_laws.proofs.FlowJobs.{flow_jobs_answered}
 use Rattle.value_net.specs.Nets as net
 use Rattle.value_net.specs.Nets.{AllStuck, value_at}
 use Rattle.net_laws.specs.Growing as growing
-use Rattle.net_laws.specs.Growing.{Rule, State, are_set, whole}
+use Rattle.net_laws.specs.Growing.{are_set}
 use Rattle.net_laws.specs.Laws.{IsBeneath}
 use Rattle.net_laws.specs.Net.{Work, flowing_of}
 use Rattle.net_laws.specs.Works.{work_of}

@@ -10,7 +10,7 @@ use Rattle.flow_laws.proofs.Checked.{IsKept, flow_at_kept, kept}
 use Rattle.flow_laws.proofs.Elements.{none_within, only_one}
 use Rattle.flow_laws.proofs.Signs.{heads, heads_all}
 use Rattle.net_laws.specs.Askers.{Asker}
-use Rattle.net_laws.specs.Growing.{Form, Growing, Rule, State, absent_input, default_input, each_scatter, failed_if, failed_scatter, false_if, flow_whole, given_input, item_next, left_call, left_decl, left_if, left_scatter, next, no_input, no_item, no_output, none_left, one, output_next, run_call, told_call, told_decl, true_if}
+use Rattle.net_laws.specs.Growing.{Form, Growing, Rule, State, absent_input, default_input, each_scatter, failed_if, failed_scatter, false_if, flow_whole, given_input, item_next, left_call, left_decl, left_if, left_scatter, next, no_input, no_item, no_output, none_left, output_next, run_call, told_call, told_decl, true_if}
 use Rattle.net_laws.specs.Net.{Scope}
 use Rattle.net_laws.specs.Roots.{IsRoot}
 use Rattle.net_laws.proofs.Places.{AllApart, Differ, first_differs, rest_differs, heads_of_layer, scatter_differs, if_differs, flow_differs, heads_apart, Spread, Spreads, nobody, spread_deeper, spread_same, spread_both, items_below, items_both, nil_right, apart_of}

@@ -22,7 +22,7 @@ use Rattle.wdl_eval.specs.Ready.{IsReady}
 use Rattle.wdl_task.specs.Readiness.{are_given}
 use Rattle.value_net.specs.Nets.{are_set, value_at}
 use Rattle.net_laws.specs.Growing as net
-use Rattle.net_laws.specs.Growing.{does, mark_cell, slot_cell}
+use Rattle.net_laws.specs.Growing.{mark_cell, slot_cell}
 use Rattle.net_laws.specs.Net.{Resolved, Scope, Slot, Work}
 use Rattle.net_laws.specs.Planned.{CallNeeds}
 use Rattle.net_laws.specs.Rules.{Needs, arg_keys}
@@ -33,7 +33,7 @@ use Rattle.plan_layout.specs.declared.layout.Need.{Need}
 use Rattle.plan_layout.specs.declared.layout.StatementLayout.{StatementLayout}
 use Rattle.plan_layout.specs.Cells.{cell_at, marks_at, slots_at}
 use Rattle.plan_layout.specs.Laid as laid
-use Rattle.plan_layout.specs.Laid.{HasNeeds, HasSlots, IsLaidAs, IsLaidFlow, IsLayout, Laid, Stand, given_at, laid_call, laid_decl, laid_if, laid_scatter}
+use Rattle.plan_layout.specs.Laid.{HasNeeds, HasSlots, IsLayout, Laid, Stand, given_at, laid_call, laid_decl, laid_if, laid_scatter}
 use Rattle.plan_layout.specs.Sees.{AllSeen, Sees, after_at, keys_at}
 use Rattle.plan_layout.specs.Spots.{needs_of, plain_keys}
 use Rattle.plan_layout.proofs.Needed.{needs_all, needs_resolved}

@@ -18,7 +18,7 @@ use Rattle.flow_laws.proofs.SameRequests.{place_same}
 use Rattle.net_laws.specs.Askers.{Asker}
 use Rattle.net_laws.specs.Cost.{TaskCost}
 use Rattle.net_laws.specs.Growing as net
-use Rattle.net_laws.specs.Growing.{Form, copies, declares, does, ends, gathers, mark_cell, slot_cell}
+use Rattle.net_laws.specs.Growing.{Form, copies, declares, does, ends, gathers}
 use Rattle.net_laws.specs.Moving.{at_step}
 use Rattle.net_laws.specs.Net.{Given, Scope, Work}
 use Rattle.net_laws.specs.Works.{work_of}

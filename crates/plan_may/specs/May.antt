@@ -25,7 +25,7 @@ use Rattle.step_net.specs.Views.{Wants}
 use Rattle.value_net.specs.Nets.{are_set, value_at}
 use Rattle.net_laws.specs.Cost.{TaskCost}
 use Rattle.net_laws.specs.Growing as net
-use Rattle.net_laws.specs.Growing.{Form, all, does, each, one, takes, tells, whole}
+use Rattle.net_laws.specs.Growing.{Form, all, each, one, takes, tells, whole}
 use Rattle.net_laws.specs.Net.{Work, known_in}
 use Rattle.plan_lists.specs.Lists.{JobTest, jobs_in}
 use Rattle.plan_layout.specs.declared.layout.BodyLayout.{BodyLayout}

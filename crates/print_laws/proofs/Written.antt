@@ -1,5 +1,5 @@
 -- The text that is made of tokens has these tokens.
-use Rattle.std.proofs.Common.{◌≡◌, ℕ, Bool, true, false, cond, ◌||◌, ◌==◌, ◌⊎◌, inl, inr, List, [], ◌∷◌, ◌++◌, length, Option, Some, None, refl, ap, sym, ◌∙◌, subst, append_assoc, arith}
+use Rattle.std.proofs.Common.{◌≡◌, ℕ, Bool, true, false, cond, ◌==◌, ◌⊎◌, inl, inr, List, [], ◌∷◌, ◌++◌, length, Option, Some, None, refl, ap, sym, ◌∙◌, subst, append_assoc, arith}
 use Rattle.std.proofs.lemmas.Bool.Decides.{nat_tests}
 use Rattle.std.proofs.lemmas.Str.{IsUtf8-append, IsUtf8-nil, length-encode}
 use Rattle.std.specs.Char.{encode_utf8, len_utf8}
@@ -17,11 +17,11 @@ use Rattle.wdl_ast.specs.declared.token.Token.{Token}
 use Rattle.wdl_ast.specs.DocumentWords.{document_words}
 use Rattle.wdl_ast.specs.Spelled.{inside_at, is_command, IsGapIn, IsTokenIn, Spelled}
 use Rattle.wdl_ast.specs.Spelled.Chars as s
-use Rattle.wdl_ast.specs.Spelled.Chars.{Inside, string, command, is_string, closer, closing, hole_at, hole_byte, stops, AreChars, Stops, IsTextToken}
+use Rattle.wdl_ast.specs.Spelled.Chars.{Inside, string, command, closer, closing, hole_byte, stops, AreChars, Stops, IsTextToken}
 use Rattle.wdl_ast.specs.Spelled.Classes.{Bytes, is_blank, is_end}
 use Rattle.wdl_ast.specs.Spelled.Code.{IsCodeToken}
 use Rattle.wdl_ast.specs.Spelled.Gaps as gaps
-use Rattle.wdl_ast.specs.Spelled.Gaps.{IsGap, IsLastGap}
+use Rattle.wdl_ast.specs.Spelled.Gaps.{IsLastGap}
 use Rattle.wdl_lex.proofs.CodeLaws.{spells_plain}
 use Rattle.wdl_lex.proofs.Digits.{plain_utf8}
 use Rattle.wdl_lex.proofs.TextLaws.{chars_text, behind_token, behind_gap}

@@ -22,7 +22,7 @@ use Rattle.ready_core.specs.Inside.{HasRoomFor, IsRun, Stands, state}
 use Rattle.ready_core.specs.Logs.{HasRoom, IsEmpty, IsPlaceOf, IsWider, Settles, Takes}
 use Rattle.ready_core.specs.Rows.{TakenJob}
 use Rattle.ready_core.specs.Turns as turns
-use Rattle.ready_core.specs.Turns.{AreShared, IsFirst, IsFollowed, IsNext, IsRoomier, IsSight, IsTurn, earlier, gathered, is_closed}
+use Rattle.ready_core.specs.Turns.{AreShared, IsFirst, IsFollowed, IsNext, IsRoomier, IsSight, IsTurn, is_closed}
 use Rattle.ready_core.proofs.Counted.{requested}
 use Rattle.ready_core.proofs.Counting.{passes_at}
 use Rattle.ready_core.proofs.Paired.{paired_request}

@@ -12,7 +12,6 @@ ghost use Rattle.std.specs.Prelude.{
   IsSome,
   OnOk,
   Some,
-  length,
   slice_get,
 };
 ghost use Rattle.wdl_value.specs.Tables.{table};

@@ -1,6 +1,5 @@
 -- Data that is written in one way, without NUL, and read back.
-use Rattle.std.proofs.Common.{◌≡◌, ℕ, suc, ◌^◌, ◌<◌, ◌≤◌, max, false, List, [], ◌∷◌, map, codes, decimal, Option, Some, option_map, option_and_then, refl, sym, ap, ◌∙◌, append-nil, arith}
-use Rattle.std.specs.Prelude.{⊤}
+use Rattle.std.proofs.Common.{◌≡◌, ℕ, suc, ◌^◌, ◌<◌, ◌≤◌, false, List, [], ◌∷◌, map, decimal, Option, Some, option_map, option_and_then, refl, sym, ap, ◌∙◌, append-nil, arith}
 use Rattle.json.specs.Json as json
 use Rattle.json.specs.Print.{print}
 use Rattle.json.specs.Token.{Token}
@@ -8,10 +7,10 @@ use Rattle.json.specs.Tree as tree
 use Rattle.json.proofs.Printed.Decimals.{IsNumber-decimal}
 use Rattle.json.proofs.Printed.Tokens.{tokens-print}
 use Rattle.json.proofs.Printed.Trees.{value-json_tokens, ArePrintable-json_tokens}
-use Rattle.serde_json.specs.Data.{Data, null, number, unsigned, string, array, object, Items, no_items, item, Members, no_members, member, put}
+use Rattle.serde_json.specs.Data.{Data, null, number, unsigned, string, object, Members, no_members, member, put}
 use Rattle.serde_json.specs.Read.{read, max_depth, of_json, of_items, of_members}
 use Rattle.serde_json.specs.View.{items_of}
-use Rattle.serde_json.specs.Written.{outline, items_outline, members_outline, has_float, items_have_float, members_have_float, compact_text}
+use Rattle.serde_json.specs.Written.{outline, items_outline, members_outline, items_have_float, members_have_float, compact_text}
 use Rattle.serde_json.proofs.Numbers.{number_of-decimal}
 use Rattle.serde_json.proofs.Texts.{print-outline}
 use Rattle.run_keeper.specs.RowText.{list_data}

@@ -6,7 +6,7 @@ use Rattle.wdl_base.specs.declared.entry.Entry.{Entry}
 use Rattle.run_keeper.specs.RowText.{IsRowOf, row_text}
 use Rattle.run_keeper.specs.Entries.{IsEntry}
 use Rattle.run_keeper.specs.declared.error.RowFault.{RowFault}
-use Rattle.run_keeper.specs.declared.error.RowFault.TheVariants.{NotARow, NoMemory}
+use Rattle.run_keeper.specs.declared.error.RowFault.TheVariants.{NoMemory}
 
 -- that value is answered, if memory is found
 abbrev pub Gives : {T : Type 0} → Result T RowFault → T → Type 0

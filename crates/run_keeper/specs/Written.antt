@@ -1,6 +1,6 @@
 -- Data that is written in one way, and how a row is built of its parts.
 use Rattle.std.specs.Prelude.{◌≡◌, false, codes}
-use Rattle.serde_json.specs.Data.{Data, number, unsigned, string, object, Members, no_members, put}
+use Rattle.serde_json.specs.Data.{Data, number, unsigned, string, Members, put}
 use Rattle.serde_json.specs.Written.{compact_text, has_float}
 use Rattle.wdl_base.specs.Places.{place_text}
 use Rattle.wdl_base.specs.Plain.{has_nul}

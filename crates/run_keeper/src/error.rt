@@ -1,8 +1,5 @@
 ghost use Rattle.std.specs.Prelude.{◌≡◌};
-ghost use Rattle.run_keeper.specs.declared.error.RowFault.TheVariants.{
-  NotARow as NoRow,
-  NoMemory as OutOfMemory,
-};
+ghost use Rattle.run_keeper.specs.declared.error.RowFault.TheVariants.{NoMemory as OutOfMemory};
 ghost use Rattle.run_keeper.specs.declared.error.MigrateFault.TheVariants.{NoMemory as NoRoom};
 
 use std::alloc::AllocError;

@@ -30,11 +30,7 @@ fn push_output(
         return Ok(());
     };
     let value = value.get().copy(alloc)?;
-    let first = output.name.copy(alloc)?;
-    let key = Key {
-        first,
-        second: None,
-    };
+    let key = Key::plain(alloc, &output.name)?;
     env.push(Bind { key, value })?;
     Ok(())
 }

@@ -1,6 +1,6 @@
 //! Runs of a document by a plan, with the flow from scratch after each answer.
 
-ghost use Rattle.std.specs.Prelude.{◌≡◌, ◌<◌, true, IfOk, IsSome, OnOk, length};
+ghost use Rattle.std.specs.Prelude.{◌≡◌, ◌<◌, true, IfOk, IfSome, IsSome, OnOk, length};
 ghost use Rattle.scatter_plan.specs.Calls.{HasTold};
 ghost use Rattle.scatter_plan.specs.Plans.{IsMade, ready_in};
 ghost use Rattle.scatter_plan_tests.specs.Inputs.{AreInputsOf};
@@ -252,6 +252,29 @@ fn follow<L: Ledger>(
     Ok(Text::new(alloc, "!no end")?)
 }
 
+/// The plan of a document with no inputs given; nothing where it has none.
+fn plan_of<L: Ledger>(
+    alloc: Global,
+    document: &str,
+    steps: &mut Steps<L>,
+) -> Result<Option<Plan>, Fail>
+    ensures made { IfOk result (λ plan. IfSome plan IsMade) }
+    ensures told { IfOk result (λ plan. IfSome plan HasTold) }
+{
+    let Some(checked) = checked_of(alloc, document)? else {
+        return Ok(None);
+    };
+    let Some(_) = checked.main else {
+        return Ok(None);
+    };
+    let inputs = no_inputs(alloc, &checked)?;
+    let site = Text::new(alloc, "/site")?;
+    match Plan::new(alloc, checked, inputs, site, steps) {
+        Ok(plan) => Ok(Some(plan)),
+        Err(_) => Ok(None),
+    }
+}
+
 /// What a run of a document comes to, by an order of its answers: as `ended` says.
 fn found_in<L: Ledger>(
     alloc: Global,
@@ -260,20 +283,17 @@ fn found_in<L: Ledger>(
     order: u64,
     steps: &mut Steps<L>,
 ) -> Result<Text, Fail> {
-    let (Some(checked), Some(again)) = (checked_of(alloc, document)?, checked_of(alloc, document)?)
-    else {
+    let Some(checked) = checked_of(alloc, document)? else {
         return Ok(Text::new(alloc, "!no checked form")?);
     };
-    let (Some(_), Some(_)) = (checked.main, again.main) else {
+    let Some(_) = checked.main else {
         return Ok(Text::new(alloc, "!no workflow")?);
     };
     let inputs = no_inputs(alloc, &checked)?;
-    let given = no_inputs(alloc, &again)?;
-    let site = Text::new(alloc, "/site")?;
-    let Ok(mut plan) = Plan::new(alloc, again, given, site, steps) else {
-        return past(alloc, &checked, &inputs, &[], steps);
-    };
-    follow(alloc, &checked, &inputs, told, order, &mut plan, steps)
+    match plan_of(alloc, document, steps)? {
+        Some(mut plan) => follow(alloc, &checked, &inputs, told, order, &mut plan, steps),
+        None => past(alloc, &checked, &inputs, &[], steps),
+    }
 }
 
 /// The same, by a counter that is opened for it.

@@ -1,7 +1,6 @@
 //! Bodies, with leaves in the places of struct inputs.
 
 ghost use Rattle.std.specs.Prelude.{◌≡◌, ◌++◌, ◌∷◌, [], IfOk, OnOk, map, slice_get};
-ghost use Rattle.std.specs.Option.{option_copied};
 ghost use Rattle.wdl_swaps.specs.Swaps as swap;
 ghost use Rattle.leaf_image.specs.Records as spec;
 ghost use Rattle.struct_leaves.specs.Settings as views;

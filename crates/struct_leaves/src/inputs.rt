@@ -8,17 +8,17 @@ ghost use Rattle.struct_leaves.specs.Settings as views;
 use crate::places::{copy_names, is_record};
 use leaf_image::Leaf;
 use std::alloc::Global;
-use wdl_swaps::{Chain, Swap, boxed_expr, plain_key};
+use wdl_swaps::{Chain, Swap, boxed_expr};
 use wdl_typed::{TExpr, TInput};
-use wdl_value::{Boxed, Items, Name, NoMemory, Span, Ty};
+use wdl_value::{Boxed, Items, Key, Name, NoMemory, Span, Ty};
 
 fn leaf_swap(alloc: Global, leaf: &Leaf) -> Result<Swap, NoMemory>
     ensures { IfOk result (λ s. s ≡ spec.leaf_swap leaf.now) }
 {
-    let key = plain_key(alloc, &leaf.input)?;
+    let key = Key::plain(alloc, &leaf.input)?;
     let path = copy_names(alloc, leaf.path.as_slice())?;
     let value = Chain {
-        key: plain_key(alloc, &leaf.name)?,
+        key: Key::plain(alloc, &leaf.name)?,
         hops: Items::new(alloc),
     };
     Ok(Swap { key, path, value })

@@ -1,7 +1,6 @@
 //! The members of struct inputs that are no structs themselves.
 
 ghost use Rattle.std.specs.Prelude.{◌≡◌, ◌++◌, ◌∷◌, [], IfOk, OnOk};
-ghost use Rattle.wdl_value.specs.declared.ty.Ty.{out-Ty};
 ghost use Rattle.leaf_image.specs.Leaves as spec;
 
 use leaf_image::Place;

@@ -1,6 +1,6 @@
 //! The workflows that main reaches by calls.
 
-ghost use Rattle.std.specs.Prelude.{◌≡◌, ◌++◌, IfOk};
+ghost use Rattle.std.specs.Prelude.{◌≡◌, IfOk};
 ghost use Rattle.leaf_image.specs.Reached as spec;
 
 use sqlite_items::at;

@@ -1,6 +1,6 @@
 //! The names of a workflow.
 
-ghost use Rattle.std.specs.Prelude.{◌≡◌, ◌++◌, IfOk, OnOk, map};
+ghost use Rattle.std.specs.Prelude.{◌≡◌, ◌++◌, IfOk, OnOk};
 ghost use Rattle.wdl_typed.specs.Bodies as bodies;
 ghost use Rattle.wdl_typed.specs.Declarations as declarations;
 ghost use Rattle.leaf_image.specs.Leaves as spec;
@@ -8,7 +8,7 @@ ghost use Rattle.leaf_image.specs.Leaves as spec;
 use std::alloc::Global;
 use wdl_names::NameStack;
 use wdl_typed::{FlowDef, Statement, TDecl, TInput};
-use wdl_value::{Name, NoMemory};
+use wdl_value::NoMemory;
 
 fn enter_inputs(alloc: Global, inputs: &[TInput], names: &mut NameStack) -> Result<(), NoMemory>
     ensures { OnOk result (names.new ≡ names.old ++ declarations.input_names inputs.now) }

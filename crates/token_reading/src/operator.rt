@@ -1,7 +1,6 @@
 //! The operators that marks stand for, the words of options, and the functions that are left out.
 
-ghost use Rattle.std.specs.Prelude.{◌≡◌, true, false, Some, None, codes};
-ghost use Rattle.std.specs.Str.{bytes_eq};
+ghost use Rattle.std.specs.Prelude.{◌≡◌, true, false, Some, None};
 ghost use Rattle.token_reading.specs.Forms as forms;
 ghost use Rattle.token_reading.specs.Operators as operators;
 ghost use Rattle.token_reading.specs.Strings as strings;

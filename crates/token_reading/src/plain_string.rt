@@ -1,6 +1,5 @@
 //! Strings without placeholders, and the options of placeholders.
 
-ghost use Rattle.std.specs.Prelude.{◌≡◌};
 ghost use Rattle.token_reading.specs.Outcome.{Reads};
 ghost use Rattle.token_reading.specs.Strings as spec;
 

@@ -2,7 +2,7 @@
 //! itself.
 #![tactic(auto, using(std::proofs::lemmas::Grind::common_steps), unfolding(crate::specs::Outcome::then_, crate::specs::Outcome::found))]
 
-ghost use Rattle.std.specs.Prelude.{◌≡◌, [], length, IfOk, codes};
+ghost use Rattle.std.specs.Prelude.{◌≡◌, IfOk};
 ghost use Rattle.token_reading.specs.Outcome.{Reads};
 ghost use Rattle.token_reading.specs.Nests.{NestsTypes};
 ghost use Rattle.token_reading.specs.TypeReading as spec;

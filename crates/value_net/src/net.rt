@@ -1,17 +1,6 @@
 //! A net of steps and cells, with the value of each cell and the rule of each step beside it.
 
-ghost use Rattle.std.specs.Prelude.{
-  ◌≡◌,
-  ◌<◌,
-  ℕ,
-  IfOk,
-  IfSome,
-  OnOk,
-  Some,
-  length,
-  slice_get,
-  slice_index,
-};
+ghost use Rattle.std.specs.Prelude.{◌≡◌, ◌<◌, ℕ, IfOk, OnOk, Some, length, slice_get, slice_index};
 ghost use Rattle.std.specs.Option.{option_copied};
 ghost use Rattle.step_net.specs.Views.{Wants};
 ghost use Rattle.value_net.specs.Nets.{

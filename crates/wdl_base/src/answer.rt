@@ -1,4 +1,4 @@
-ghost use Rattle.std.specs.Prelude.{◌≡◌, ◌∷◌, ◌+◌, ◌<◌, min, true, false, IfOk, OnErr, OnOk};
+ghost use Rattle.std.specs.Prelude.{◌≡◌, ◌<◌, min, true, false, IfOk, OnErr, OnOk};
 ghost use Rattle.wdl_base.specs.Answers.{
   is_answer,
   is_file_name,

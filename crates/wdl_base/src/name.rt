@@ -1,4 +1,4 @@
-ghost use Rattle.std.specs.Prelude.{◌≡◌, true, false, IfOk, OnOk, IsErrOf};
+ghost use Rattle.std.specs.Prelude.{◌≡◌, true, false, None, IfOk, OnOk, IsErrOf};
 ghost use Rattle.std.specs.Str.{bytes_eq};
 ghost use Rattle.wdl_base.specs.Names.{is_name, is_word_from, is_word};
 ghost use Rattle.wdl_base.specs.Plain.{has_nul};
@@ -113,6 +113,16 @@ pub struct Key {
 }
 
 impl Key {
+    /// The reference `name`.
+    pub fn plain(alloc: Global, name: &Name) -> Result<Key, NoMemory>
+        ensures { IfOk result (λ k. k ≡ record { first = name.now; second = None }) }
+    {
+        Ok(Key {
+            first: name.copy(alloc)?,
+            second: None,
+        })
+    }
+
     /// A copy of the value.
     pub fn copy(&self, alloc: Global) -> Result<Key, NoMemory>
         ensures { IfOk result (λ k. k ≡ self.now) }

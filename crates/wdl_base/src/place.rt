@@ -1,4 +1,4 @@
-ghost use Rattle.std.specs.Prelude.{◌≡◌, ◌++◌, ◌∷◌, [], false, decimal, OnOk, IfOk};
+ghost use Rattle.std.specs.Prelude.{◌≡◌, ◌++◌, [], false, decimal, OnOk, IfOk};
 ghost use Rattle.wdl_base.specs.Places as spec;
 ghost use Rattle.wdl_base.specs.Plain.{has_nul};
 

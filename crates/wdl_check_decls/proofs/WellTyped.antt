@@ -24,7 +24,7 @@ use Rattle.wdl_typed.specs.declared.scope.Bound.{Bound}
 use Rattle.wdl_typed.specs.declared.task.TDecl.{TDecl}
 use Rattle.wdl_typed.specs.declared.task.TInput.{TInput}
 use Rattle.wdl_typed.specs.Declarations as well
-use Rattle.wdl_typed.specs.Declarations.{bound, decls_bound, default_typed, inputs_bound, type_in_place}
+use Rattle.wdl_typed.specs.Declarations.{decls_bound, default_typed, inputs_bound, type_in_place}
 use Rattle.wdl_typed.specs.KnownTypes.{is_written}
 use Rattle.wdl_typed.specs.Order.{picked}
 use Rattle.wdl_typed.specs.Typing.{are_same, is_type, type_of, when}

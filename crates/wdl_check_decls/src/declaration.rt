@@ -97,14 +97,8 @@ pub fn enter(alloc: Global, names: &mut TypedNames, name: &Name, t: &Ty) -> Resu
     ensures { OnOk result (names.new ≡ names.old ++ bound name.now t.now ∷ []) }
 {
     let ty = t.copy(alloc)?;
-    let first = name.copy(alloc)?;
-    names.enter(Bound {
-        key: Key {
-            first,
-            second: None,
-        },
-        ty,
-    })
+    let key = Key::plain(alloc, name)?;
+    names.enter(Bound { key, ty })
 }
 
 /// A declaration, whose name is added to the names.

@@ -1,15 +1,14 @@
 //! What statements see.
 
 ghost use Rattle.std.specs.Prelude.{◌≡◌, ◌≤◌, ◌++◌, drop, length, reverse, take, IfOk, OnOk};
-ghost use Rattle.wdl_value.specs.declared.ty.Ty.TheVariants as ty;
 ghost use Rattle.wdl_typed.specs.Bodies as bodies;
 ghost use Rattle.wdl_check_flow.specs.Given as spec;
 
-use sqlite_items::{Boxed, Items};
+use sqlite_items::Items;
 use std::alloc::Global;
 use wdl_names::{NameStack, TypedNames};
 use wdl_typed::{Bound, TDecl};
-use wdl_value::{Key, Member, Name, NoMemory, Ty, is_optional};
+use wdl_value::{Key, Member, Name, NoMemory, Ty};
 
 /// The names that statements see with their types, and the calls that `after` may name.
 #[derive(Drop)]
@@ -27,30 +26,12 @@ pub enum Gathering {
     Optional,
 }
 
-fn array_of(alloc: Global, item: Ty, some: bool) -> Result<Ty, NoMemory>
-    ensures { IfOk result (λ t. t ≡ ty.Array item some) }
-{
-    Ok(Ty::Array {
-        item: Boxed::new(alloc, item)?,
-        some,
-    })
-}
-
-fn optional(alloc: Global, t: Ty) -> Result<Ty, NoMemory>
-    ensures { IfOk result (λ u. u ≡ bodies.optional t) }
-{
-    if is_optional(&t) {
-        return Ok(t);
-    }
-    Ok(Ty::Opt(Boxed::new(alloc, t)?))
-}
-
 fn gathered(alloc: Global, gathering: Gathering, t: Ty) -> Result<Ty, NoMemory>
     ensures { IfOk result (λ u. u ≡ spec.gathered gathering t) }
 {
     match gathering {
-        Gathering::List { some } => array_of(alloc, t, some),
-        Gathering::Optional => optional(alloc, t),
+        Gathering::List { some } => Ty::array_of(alloc, t, some),
+        Gathering::Optional => Ty::optional_of(alloc, t),
     }
 }
 
@@ -75,15 +56,9 @@ impl Visible {
     pub fn enter(&mut self, alloc: Global, name: &Name, t: &Ty) -> Result<(), NoMemory>
         ensures { OnOk result (spec.seen_of self.new ≡ bodies.with_item (spec.seen_of self.old) name.now t.now) }
     {
-        let first = name.copy(alloc)?;
+        let key = Key::plain(alloc, name)?;
         let ty = t.copy(alloc)?;
-        self.names.enter(Bound {
-            key: Key {
-                first,
-                second: None,
-            },
-            ty,
-        })
+        self.names.enter(Bound { key, ty })
     }
 
     /// Adds what a declaration gives.

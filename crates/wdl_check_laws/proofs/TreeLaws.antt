@@ -35,7 +35,7 @@ use Rattle.wdl_typed.specs.declared.expr.TPart.{TPart}
 use Rattle.wdl_typed.specs.declared.expr.TPart.TheVariants as tp
 use Rattle.wdl_typed.specs.Scope.{type_in}
 use Rattle.wdl_typed.specs.Typing as table
-use Rattle.wdl_typed.specs.Typing.{Context, Typing, type_step, type_of, when, literal_type, literal_at, all_types, all_same, are_same, at_of, at_type, binary_type, list_type, map_type, is_type, fields_have, struct_type, exact_args, apply_type, hole_takes, takes_some, keys_in, values_in, fields_in, items_in, member_type}
+use Rattle.wdl_typed.specs.Typing.{Typing, type_step, type_of, when, literal_type, literal_at, all_types, all_same, are_same, at_of, at_type, binary_type, list_type, map_type, is_type, fields_have, exact_args, apply_type, hole_takes, takes_some, keys_in, values_in, fields_in, items_in, member_type}
 use Rattle.wdl_check_rules.specs.Scopes.{Scope}
 use Rattle.wdl_check_rules.specs.declared.literal_members.MemberValue.{MemberValue}
 use Rattle.wdl_check_rules.specs.declared.typed.Typed.{Typed}

@@ -1,5 +1,5 @@
 -- The names of an expression, form by form.
-use Rattle.std.proofs.Common.{◌≡◌, ℕ, ℤ, List, [], ◌∷◌, ◌++◌, refl, ap, sym, ◌∙◌, append_assoc, append-nil}
+use Rattle.std.proofs.Common.{◌≡◌, ℤ, List, [], ◌∷◌, ◌++◌, refl, ap, sym, ◌∙◌, append_assoc, append-nil}
 use Rattle.wdl_base.specs.declared.span.Span.{Span}
 use Rattle.wdl_ast.specs.declared.expr.BinaryOperator.{BinaryOperator}
 use Rattle.wdl_ast.specs.declared.expr.UnaryOperator.{UnaryOperator}

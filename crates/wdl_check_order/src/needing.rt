@@ -1,7 +1,7 @@
 //! What members of a list give and refer to.
 
 ghost use Rattle.std.specs.Prelude.{◌≡◌, ◌++◌, ◌∷◌, [], map, IfOk, OnOk};
-ghost use Rattle.wdl_typed.specs.Order.{Needing, all_given, all_referred, without};
+ghost use Rattle.wdl_typed.specs.Order.{all_given, all_referred, without};
 ghost use Rattle.wdl_check_order.specs.Names as names;
 ghost use Rattle.wdl_check_order.specs.Needs as spec;
 ghost use Rattle.wdl_order.specs.Names.{as_needing};

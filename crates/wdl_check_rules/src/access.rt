@@ -1,17 +1,16 @@
 //! Members of pairs and structs, and items of arrays and maps.
 
-ghost use Rattle.std.specs.Prelude.{◌≡◌, IfOk, option_map};
+ghost use Rattle.std.specs.Prelude.{◌≡◌, IfOk};
 ghost use Rattle.wdl_typed.specs.Typing as table;
 ghost use Rattle.wdl_check_rules.specs.Rules as spec;
 
-use crate::operator::is_int;
 use crate::typed::{Typed, coerced};
-use sqlite_items::{Boxed, Items};
+use sqlite_items::Boxed;
 use std::alloc::Global;
 use struct_members::member_type;
 use wdl_names::Indexed;
 use wdl_typed::TExpr;
-use wdl_value::{Name, NoMemory, StructDef, Ty};
+use wdl_value::{Name, NoMemory, StructDef, Ty, is_int};
 
 /// A copy of the type of a member.
 fn copied_type(

@@ -1,7 +1,6 @@
 //! Calls of functions, given their typed arguments.
 
 ghost use Rattle.std.specs.Prelude.{◌≡◌, IfOk, map};
-ghost use Rattle.wdl_value.specs.FunctionTypes as table;
 ghost use Rattle.wdl_check_rules.specs.Functions as name;
 ghost use Rattle.wdl_check_rules.specs.Rules as spec;
 ghost use Rattle.wdl_check_rules.specs.Checked as checked;
@@ -14,7 +13,7 @@ use std::alloc::Global;
 use wdl_ast::Ident;
 use wdl_typed::TExpr;
 use wdl_types::{FuncTyping, function_type};
-use wdl_value::{Func, NoMemory, Span, Ty};
+use wdl_value::{Func, NoMemory, Ty};
 
 /// The functions by their names.
 const FUNCTIONS: [(&str, Func); 34] = [
@@ -74,31 +73,6 @@ pub fn func_of(word: &str) -> Option<Func>
     func_among(&FUNCTIONS, word)
 }
 
-/// Whether the function writes a file.
-fn writes(func: Func) -> bool
-    ensures { result ≡ table.writes func }
-{
-    matches!(func, Func::WriteLines | Func::WriteTsv | Func::WriteMap)
-}
-
-/// Whether the function sees what the command of a task left.
-fn reads(func: Func) -> bool
-    ensures { result ≡ table.reads func }
-{
-    matches!(
-        func,
-        Func::Stdout
-            | Func::Stderr
-            | Func::Glob
-            | Func::ReadString
-            | Func::ReadLines
-            | Func::ReadInt
-            | Func::ReadBoolean
-            | Func::ReadTsv
-            | Func::ReadMap
-    )
-}
-
 /// The function that a name calls, where it may stand: 302 where there is none, 312 where it writes
 /// a file, 309 where it reads one and the scope has no outputs.
 pub fn callee(ident: &Ident, outputs: bool) -> Result<Func, CheckFault>
@@ -108,10 +82,10 @@ pub fn callee(ident: &Ident, outputs: bool) -> Result<Func, CheckFault>
     let Some(func) = func_of(ident.name.as_str()) else {
         return Err(CheckFault::Bad { code: 302, span });
     };
-    if writes(func) {
+    if func.writes() {
         return Err(CheckFault::Bad { code: 312, span });
     }
-    if reads(func) && !outputs {
+    if func.reads() && !outputs {
         return Err(CheckFault::Bad { code: 309, span });
     }
     Ok(func)

@@ -1,7 +1,6 @@
 //! List, map and pair literals, given their typed parts.
 
 ghost use Rattle.std.specs.Prelude.{◌≡◌, IfOk};
-ghost use Rattle.wdl_value.specs.FunctionTypes as table;
 ghost use Rattle.wdl_value.specs.Join.{join as join_of};
 ghost use Rattle.wdl_check_rules.specs.Rules as spec;
 ghost use Rattle.wdl_check_rules.specs.Checked as checked;
@@ -13,7 +12,7 @@ use sqlite_items::{Boxed, Items};
 use std::alloc::Global;
 use wdl_typed::{TExpr, TPair};
 use wdl_types::join;
-use wdl_value::{NoMemory, Span, Ty};
+use wdl_value::{NoMemory, Span, Ty, is_plain};
 
 /// A list whose items stand at the join of their types. None where they have none.
 pub fn list(alloc: Global, items: Parts<Typed>) -> Result<Option<Typed>, NoMemory>
@@ -116,13 +115,6 @@ fn values_join(alloc: Global, rows: &[TPair<Typed>]) -> Result<Option<Ty>, NoMem
         }
     }
     Ok(Some(joined))
-}
-
-/// Whether a map may have keys of the type: Boolean, Int, String, File, or no type at all.
-fn is_plain(t: &Ty) -> bool
-    ensures { result ≡ table.is_plain t.now }
-{
-    matches!(t, Ty::Bool | Ty::Int | Ty::Str | Ty::File | Ty::Empty)
 }
 
 fn map_with(

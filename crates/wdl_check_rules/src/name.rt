@@ -1,6 +1,6 @@
 //! Names as expressions.
 
-ghost use Rattle.std.specs.Prelude.{◌≡◌, IfOk, option_map};
+ghost use Rattle.std.specs.Prelude.{◌≡◌, IfOk};
 ghost use Rattle.std.specs.Option.{option_copied};
 ghost use Rattle.wdl_check_rules.specs.Rules as spec;
 ghost use Rattle.wdl_check_rules.specs.Checked as checked;

@@ -1,8 +1,6 @@
 //! Operators, members, items and `if`, given their typed parts.
 
 ghost use Rattle.std.specs.Prelude.{◌≡◌, IfOk, option_map};
-ghost use Rattle.wdl_typed.specs.Typing as table;
-ghost use Rattle.wdl_value.specs.Kinds as kind;
 ghost use Rattle.wdl_check_rules.specs.Rules as spec;
 
 use crate::typed::{Typed, boxed_cast};
@@ -11,23 +9,10 @@ use std::alloc::Global;
 use wdl_ast::{BinaryOperator, UnaryOperator};
 use wdl_typed::TExpr;
 use wdl_types::{OpTyping, join, operator_type};
-use wdl_value::{NoMemory, Op, Ty};
+use wdl_value::{NoMemory, Op, Ty, is_bool, is_int};
 
 /// An operator with its row of the table.
 type OperatorRow = (Op, OpTyping);
-
-fn is_bool(t: &Ty) -> bool
-    ensures { result ≡ kind.is_bool t.now }
-{
-    matches!(t, Ty::Bool)
-}
-
-/// Whether it is Int.
-pub fn is_int(t: &Ty) -> bool
-    ensures { result ≡ kind.is_int t.now }
-{
-    matches!(t, Ty::Int)
-}
 
 /// `!`, `-` and `+` before one operand.
 pub fn unary(alloc: Global, operator: UnaryOperator, x: Typed) -> Result<Option<Typed>, NoMemory>

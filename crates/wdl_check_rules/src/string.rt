@@ -1,8 +1,6 @@
 //! Strings, given their typed placeholders.
 
-ghost use Rattle.std.specs.Prelude.{◌≡◌, ◌++◌, IfOk};
-ghost use Rattle.wdl_typed.specs.Typing as table;
-ghost use Rattle.wdl_value.specs.Kinds as kind;
+ghost use Rattle.std.specs.Prelude.{◌≡◌, IfOk};
 ghost use Rattle.wdl_check_rules.specs.Rules as spec;
 
 use crate::typed::{Typed, literal};
@@ -10,7 +8,7 @@ use sqlite_items::Items;
 use std::alloc::Global;
 use wdl_ast::{Chars, Expr, PlaceholderOption, PlaceholderOptions, StringPart};
 use wdl_typed::{Choice, TExpr, THole, TPart};
-use wdl_value::{NoMemory, Text, Ty, Value, bare_type};
+use wdl_value::{NoMemory, Text, Ty, Value};
 
 fn text_of(alloc: Global, chars: &Option<Chars>) -> Result<Text, NoMemory>
     ensures { IfOk result (λ t. t ≡ spec.text_of chars.now) }
@@ -52,44 +50,11 @@ pub fn choice_of(alloc: Global, options: &PlaceholderOptions) -> Result<Choice, 
     }
 }
 
-fn is_scalar(t: &Ty) -> bool
-    ensures { result ≡ kind.is_scalar t.now }
-{
-    matches!(t, Ty::Bool | Ty::Int | Ty::Str | Ty::File)
-}
-
-fn is_absent(t: &Ty) -> bool
-    ensures { result ≡ kind.is_absent t.now }
-{
-    matches!(t, Ty::Absent)
-}
-
-fn is_bool(t: &Ty) -> bool
-    ensures { result ≡ kind.is_bool t.now }
-{
-    matches!(t, Ty::Bool)
-}
-
-/// Whether a placeholder takes the type, by its option.
-fn hole_takes(choice: &Choice, t: &Ty) -> bool
-    ensures { result ≡ table.hole_takes choice.now t.now }
-{
-    match choice {
-        Choice::Plain => is_absent(t) || is_scalar(bare_type(t)),
-        Choice::Sep(_) => match t {
-            Ty::Array { item, .. } => is_scalar(item.get()),
-            _ => false,
-        },
-        Choice::Both { .. } => is_bool(bare_type(t)),
-        Choice::Default(_) => is_scalar(bare_type(t)),
-    }
-}
-
 /// A placeholder. None where it does not take the type.
 pub fn hole(choice: Choice, x: Typed) -> Option<TPart<TExpr>>
     ensures { result ≡ spec.hole_of choice x }
 {
-    if !hole_takes(&choice, &x.ty) {
+    if !choice.takes(&x.ty) {
         return None;
     }
     Some(TPart::Hole(THole {

@@ -1,6 +1,6 @@
 //! Whole tasks.
 
-ghost use Rattle.std.specs.Prelude.{◌≡◌, ◌++◌, [], map, IfOk};
+ghost use Rattle.std.specs.Prelude.{◌≡◌, ◌++◌, [], IfOk};
 ghost use Rattle.wdl_typed.specs.Declarations.{decls_bound, inputs_bound};
 ghost use Rattle.wdl_check_types.specs.Outcome as outcome;
 ghost use Rattle.wdl_check_decls.specs.Declarations as declared;

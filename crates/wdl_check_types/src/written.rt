@@ -2,7 +2,6 @@
 
 ghost use Rattle.std.specs.Prelude.{◌≡◌, IfOk};
 ghost use Rattle.wdl_value.specs.declared.ty.Ty.TheVariants as ty;
-ghost use Rattle.wdl_value.specs.Kinds.{is_scalar as is_scalar_type};
 ghost use Rattle.wdl_check_rules.specs.Locals as local;
 ghost use Rattle.wdl_check_types.specs.Outcome as outcome;
 ghost use Rattle.wdl_check_types.specs.Written as spec;
@@ -13,7 +12,7 @@ use std::alloc::Global;
 use wdl_ast::{BaseType, Ident, TypeTree};
 use wdl_check_rules::{CheckFault, Local, stands_for};
 use wdl_names::Indexed;
-use wdl_value::{NoMemory, Span, Ty};
+use wdl_value::{NoMemory, Span, Ty, is_scalar};
 
 fn struct_type(alloc: Global, ident: &Ident, locals: &Indexed<Local>) -> Result<Ty, CheckFault>
     ensures { outcome.Answers (spec.struct_written (local.stands_for locals.now) ident.now) result }
@@ -27,40 +26,13 @@ fn struct_type(alloc: Global, ident: &Ident, locals: &Indexed<Local>) -> Result<
     }
 }
 
-fn is_scalar(t: &Ty) -> bool
-    ensures { result ≡ is_scalar_type t.now }
-{
-    matches!(t, Ty::Bool | Ty::Int | Ty::Str | Ty::File)
-}
-
-fn array(alloc: Global, item: Ty, some: bool) -> Result<Ty, NoMemory>
-    ensures { IfOk result (λ t. t ≡ ty.Array item some) }
-{
-    Ok(Ty::Array {
-        item: Boxed::new(alloc, item)?,
-        some,
-    })
-}
-
 fn map(alloc: Global, key: Ty, value: Ty, span: Span) -> Result<Ty, CheckFault>
     ensures { outcome.Answers (spec.map_written span key value) result }
 {
     if !is_scalar(&key) {
         return Err(CheckFault::Bad { code: 329, span });
     }
-    Ok(Ty::Map {
-        key: Boxed::new(alloc, key)?,
-        value: Boxed::new(alloc, value)?,
-    })
-}
-
-fn pair(alloc: Global, left: Ty, right: Ty) -> Result<Ty, NoMemory>
-    ensures { IfOk result (λ t. t ≡ ty.Pair left right) }
-{
-    Ok(Ty::Pair {
-        left: Boxed::new(alloc, left)?,
-        right: Boxed::new(alloc, right)?,
-    })
+    Ok(Ty::map_of(alloc, key, value)?)
 }
 
 /// The type with its `?`, of which more than one count as one.
@@ -97,7 +69,7 @@ fn after_left(
     ensures { outcome.Answers (outcome.then_ (spec.written (local.stands_for locals.now) right.now) (λ u. outcome.done (ty.Pair left u))) result }
 {
     let right = written_type(alloc, right, locals)?;
-    Ok(pair(alloc, left, right)?)
+    Ok(Ty::pair_of(alloc, left, right)?)
 }
 
 #[cycle(written)]
@@ -112,7 +84,7 @@ fn base(alloc: Global, base: &BaseType<TypeTree>, locals: &Indexed<Local>) -> Re
         BaseType::Struct(ident) => struct_type(alloc, ident, locals),
         BaseType::Array { item, plus, .. } => {
             let item = written_type(alloc, item.get(), locals)?;
-            Ok(array(alloc, item, plus.is_some())?)
+            Ok(Ty::array_of(alloc, item, plus.is_some())?)
         }
         BaseType::Map {
             word,

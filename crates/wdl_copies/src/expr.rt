@@ -1,7 +1,6 @@
 //! Copies of expressions, with the names of structs as the library has them.
 
 ghost use Rattle.std.specs.Prelude.{◌≡◌, IfOk};
-ghost use Rattle.wdl_ast.specs.declared.expr.Expr.TheVariants as form;
 ghost use Rattle.wdl_check_rules.specs.Locals as local;
 ghost use Rattle.wdl_copies.specs.Expressions as spec;
 ghost use Rattle.wdl_copies.specs.Parts as piece;

@@ -1,7 +1,7 @@
 //! How many blocks and calls stand on a path: level by level, each in time linear in the
 //! statements.
 
-ghost use Rattle.std.specs.Prelude.{◌≡◌, ◌+◌, ◌<◌, ◌≤◌, [], IfOk, OnOk, slice_get};
+ghost use Rattle.std.specs.Prelude.{◌≡◌, ◌+◌, ◌<◌, ◌≤◌, IfOk, OnOk, slice_get};
 ghost use Rattle.wdl_typed.specs.declared.flow.Statement.{out-Statement};
 ghost use Rattle.wdl_typed.specs.Bodies as bodies;
 ghost use Rattle.wdl_depths.specs.Levels.{holds, nesting_level};

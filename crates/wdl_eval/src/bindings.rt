@@ -1,4 +1,3 @@
-ghost use Rattle.std.specs.Prelude.{◌≡◌};
 ghost use Rattle.wdl_typed.specs.Evaluation as spec;
 ghost use Rattle.wdl_typed.specs.Scope.{lookup as looked_up};
 ghost use Rattle.wdl_eval.specs.Binds.{binds_in};

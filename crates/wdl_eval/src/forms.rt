@@ -1,6 +1,6 @@
 //! The values of single forms of expressions, once their parts have values.
 
-ghost use Rattle.std.specs.Prelude.{◌≡◌, Ok};
+ghost use Rattle.std.specs.Prelude.{Ok};
 ghost use Rattle.wdl_value.specs.declared.value.Value.{out-Value};
 ghost use Rattle.wdl_value.specs.declared.value.Value.TheVariants as v;
 ghost use Rattle.wdl_value.specs.Apply.{apply as applied_value};

@@ -1,6 +1,6 @@
 //! What is met, as the standard library and the limits of values give it.
 
-ghost use Rattle.std.specs.Prelude.{◌≡◌, Ok};
+ghost use Rattle.std.specs.Prelude.{Ok};
 ghost use Rattle.wdl_value.specs.declared.value.Value.{Value as Val};
 ghost use Rattle.wdl_value.specs.Outcome.{Outcome};
 ghost use Rattle.wdl_stdlib.specs.Gives.{Gives};

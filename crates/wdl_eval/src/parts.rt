@@ -1,6 +1,5 @@
 //! The parts of values: members, items, and the values of maps. None is copied.
 
-ghost use Rattle.std.specs.Prelude.{◌≡◌};
 ghost use Rattle.wdl_value.specs.declared.value.Value.{out-Value};
 ghost use Rattle.wdl_typed.specs.Evaluation as spec;
 ghost use Rattle.wdl_eval.specs.Meets.{Lends};

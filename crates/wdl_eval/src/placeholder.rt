@@ -1,6 +1,6 @@
 //! The texts that placeholders print (OpenWDL 1.1, "Expression Placeholder Options").
 
-ghost use Rattle.std.specs.Prelude.{◌≡◌, ◌++◌, Ok};
+ghost use Rattle.std.specs.Prelude.{◌++◌, Ok};
 ghost use Rattle.std.specs.List.{join_by};
 ghost use Rattle.wdl_value.specs.declared.value.Value.{out-Value};
 ghost use Rattle.wdl_typed.specs.Evaluation as spec;

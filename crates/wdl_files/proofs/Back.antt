@@ -1,24 +1,20 @@
 -- Reading the file of what was written.
-use Rattle.std.proofs.Common.{◌≡◌, ℕ, ◌≤◌, Bool, true, false, cond, not, ◌&&◌, List, [], ◌∷◌, length, Option, Some, Ok, Err, refl, sym, ap, ◌∙◌}
+use Rattle.std.proofs.Common.{◌≡◌, ℕ, true, false, cond, not, ◌&&◌, List, Some, Ok, Err, ap, ◌∙◌}
 use Rattle.std.proofs.lemmas.Bool.{false≢true}
 use Rattle.std.specs.Str.{is_utf8}
 use Rattle.wdl_base.specs.declared.answer.Answer.{Answer}
 use Rattle.wdl_base.specs.declared.body.Body.TheVariants.{Bytes}
 use Rattle.wdl_base.specs.declared.fault.EvalCode.TheVariants.{NotText}
-use Rattle.wdl_value.specs.declared.operator.Func.{Func}
 use Rattle.wdl_value.specs.declared.operator.Func.TheVariants as func
 use Rattle.wdl_value.specs.declared.value.Value.{Value, Value-F}
 use Rattle.wdl_value.specs.declared.value.Value.TheVariants as v
-use Rattle.wdl_value.specs.Apply.{reading, apply}
 use Rattle.wdl_value.specs.Files.{file_body, body_text, file_text}
-use Rattle.wdl_value.specs.Fits.{Structs, fits}
 use Rattle.wdl_value.specs.Limits.{limited}
 use Rattle.wdl_value.specs.Outcome.{Outcome, and_then}
 use Rattle.wdl_base.specs.Plain.{has_nul}
 use Rattle.wdl_value.specs.Reads.{lines_read, tsv_read, map_read}
 use Rattle.wdl_value.specs.ValueText.{text_at, text_of}
-use Rattle.wdl_value.specs.Written.{written}
-use Rattle.wdl_files.specs.ReadBack.{ReadBack, can_be_read, reader, written_type}
+use Rattle.wdl_files.specs.ReadBack.{ReadBack}
 use Rattle.wdl_files.proofs.Within.{lines_within, tsv_within, map_within}
 use Rattle.wdl_files.proofs.Written.{lines_back, tsv_back, map_back}
 

@@ -1,17 +1,16 @@
 -- A value that was written in at most 65,536 bytes keeps the limits of values.
-use Rattle.std.proofs.Common.{◌≡◌, ℕ, zero, suc, ◌+◌, ◌≤◌, ◌<◌, Bool, true, false, cond, ◌&&◌, nat_le, List, [], ◌∷◌, ◌++◌, length, map, Ok, Err, refl, sym, ap, ◌∙◌, arith, length-append}
+use Rattle.std.proofs.Common.{◌≡◌, ℕ, ◌+◌, ◌≤◌, Bool, true, false, cond, ◌&&◌, nat_le, List, [], ◌∷◌, ◌++◌, length, map, Ok, Err, refl, sym, ap, ◌∙◌, arith, length-append}
 use Rattle.std.proofs.lemmas.Bool.{false≢true, and_parts, and_from}
 use Rattle.std.proofs.lemmas.Bool.Decides.{nat_tests}
 use Rattle.std.proofs.lemmas.List.{length-map}
 use Rattle.std.specs.List.{flat_map, join_by}
-use Rattle.wdl_value.specs.declared.ty.Ty.{Ty}
 use Rattle.wdl_value.specs.declared.ty.Ty.TheVariants as ty
 use Rattle.wdl_value.specs.declared.value.MapRow.{MapRow}
 use Rattle.wdl_value.specs.declared.value.Value.{Value, Value-F, map-Value, fold_out-Value}
 use Rattle.wdl_value.specs.declared.value.Value.TheVariants as v
 use Rattle.wdl_base.specs.declared.fault.EvalCode.TheVariants.{TooLarge}
 use Rattle.wdl_value.specs.Fits.{Structs, fits}
-use Rattle.wdl_value.specs.Limits.{short_step, is_short, list_is_short, rows_are_short, is_within, limited}
+use Rattle.wdl_value.specs.Limits.{short_step, is_short, list_is_short, rows_are_short, limited}
 use Rattle.wdl_value.specs.Parts.{items_at, items_in, rows_at, rows_in}
 use Rattle.wdl_value.specs.Size.{size, size_step, size_list, size_row_list}
 use Rattle.wdl_value.specs.ValueText.{text_at, text_of}

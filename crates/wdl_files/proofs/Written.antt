@@ -1,21 +1,20 @@
 -- What is written is read as the value.
-use Rattle.std.proofs.Common.{◌≡◌, ℕ, ◌+◌, ◌≤◌, ◌<◌, ◌==◌, Bool, true, false, cond, not, ◌&&◌, ◌||◌, nat_le, List, [], ◌∷◌, ◌++◌, length, map, Option, Some, Ok, Err, refl, sym, ap, ◌∙◌, subst, arith, append_assoc, append-nil, length-append}
+use Rattle.std.proofs.Common.{◌≡◌, ℕ, ◌+◌, Bool, true, false, cond, not, ◌&&◌, List, [], ◌∷◌, ◌++◌, map, Ok, Err, refl, sym, ap, ◌∙◌, append_assoc, append-nil}
 use Rattle.std.proofs.lemmas.Bool.{false≢true, and_parts, and_from, or_parts, or_from, not-true}
 use Rattle.std.proofs.lemmas.Slice.Eq.{bytes_eq-Decides}
 use Rattle.std.specs.List.{list_all, flat_map, join_by}
 use Rattle.std.specs.Str.{bytes_eq}
 use Rattle.std.specs.Str.Lines.{lines}
-use Rattle.wdl_value.specs.declared.ty.Ty.{Ty}
 use Rattle.wdl_value.specs.declared.ty.Ty.TheVariants as ty
 use Rattle.wdl_value.specs.declared.value.MapRow.{MapRow}
-use Rattle.wdl_value.specs.declared.value.Value.{Value, Value-F, out-Value}
+use Rattle.wdl_value.specs.declared.value.Value.{Value, Value-F}
 use Rattle.wdl_value.specs.declared.value.Value.TheVariants as v
 use Rattle.wdl_value.specs.declared.value.Value.TheOpen as layer
 use Rattle.wdl_base.specs.declared.fault.EvalCode.TheVariants.{RepeatedKey}
 use Rattle.wdl_value.specs.Fits.{Structs, fits}
 use Rattle.wdl_value.specs.Functions.{pair_of, row_of, key_text, has_key_text, repeat_a_key, as_map_of}
 use Rattle.wdl_value.specs.Keyed.{has_key, distinct_keys}
-use Rattle.wdl_value.specs.Outcome.{Outcome, and_then}
+use Rattle.wdl_value.specs.Outcome.{and_then}
 use Rattle.wdl_value.specs.Parts.{items_at, items_in, rows_at, rows_in, left_at, left_in, right_at, right_in}
 use Rattle.wdl_value.specs.Reads.{cells, lines_read, row_read, tsv_read, pair_read, pairs_read, map_read}
 use Rattle.wdl_value.specs.SameValue.{same_value}

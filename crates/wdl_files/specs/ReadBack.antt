@@ -2,7 +2,6 @@
 use Rattle.std.specs.Prelude.{◌≡◌, ℕ, ◌≤◌, ◌==◌, Bool, true, false, not, ◌&&◌, List, [], ◌∷◌, length, Some, Ok}
 use Rattle.std.specs.List.{list_any, list_all}
 use Rattle.std.specs.Str.{is_utf8}
-use Rattle.std.specs.Prelude.{Option}
 use Rattle.wdl_base.specs.declared.answer.Answer.{Answer}
 use Rattle.wdl_base.specs.declared.body.Body.TheVariants.{Bytes}
 use Rattle.wdl_value.specs.declared.operator.Func.{Func}
@@ -12,7 +11,7 @@ use Rattle.wdl_value.specs.declared.ty.Ty.TheVariants as ty
 use Rattle.wdl_value.specs.declared.value.MapRow.{MapRow}
 use Rattle.wdl_value.specs.declared.value.Value.{Value}
 use Rattle.wdl_value.specs.declared.value.Value.TheVariants as v
-use Rattle.wdl_value.specs.Apply.{reading, apply}
+use Rattle.wdl_value.specs.Apply.{apply}
 use Rattle.wdl_value.specs.Files.{file_body}
 use Rattle.wdl_value.specs.Fits.{Structs, fits}
 use Rattle.wdl_value.specs.Parts.{items_in, rows_in}

@@ -1,8 +1,7 @@
-ghost use Rattle.std.specs.Prelude.{◌≡◌, ◌∷◌, [], false, true, IfOk, OnOk};
+ghost use Rattle.std.specs.Prelude.{◌≡◌, [], false, IfOk};
 ghost use Rattle.wdl_typed.specs.Flow as flow;
 ghost use Rattle.wdl_flow.specs.Flows.{Flows, counted};
 ghost use Rattle.wdl_flow.specs.Views.{codes_in, flowing_of, requests_in};
-ghost use Rattle.wdl_flow.specs.declared.fault.PlainFault.TheVariants.{TooMany as PastLimits};
 
 use crate::fault::PlainFault;
 use crate::job::AskedJob;
@@ -102,10 +101,7 @@ impl Flowing {
 pub fn named(alloc: Global, name: &Name, value: Option<Value>) -> Result<Flowing, NoMemory>
     ensures { IfOk result (λ f. flowing_of f ≡ flow.named (flow.known name.now value)) }
 {
-    let key = Key {
-        first: name.copy(alloc)?,
-        second: None,
-    };
+    let key = Key::plain(alloc, name)?;
     let mut given = Flowing::counted(alloc, 0);
     given.names.push(Known { key, value })?;
     Ok(given)

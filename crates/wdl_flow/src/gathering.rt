@@ -1,19 +1,6 @@
 //! What a scatter gives out, of what its body gives for each item (OpenWDL 1.1, "Scatter").
 
-ghost use Rattle.std.specs.Prelude.{
-  ◌≡◌,
-  ◌∷◌,
-  ◌++◌,
-  [],
-  List,
-  IfOk,
-  map,
-  option_and_then,
-  Some,
-  false,
-  true,
-};
-ghost use Rattle.std.specs.List.{list_all};
+ghost use Rattle.std.specs.Prelude.{◌≡◌, ◌∷◌, ◌++◌, [], List, IfOk, map, Some, false, true};
 ghost use Rattle.wdl_value.specs.declared.value.Value.TheVariants as value;
 ghost use Rattle.wdl_typed.specs.Flow as flow;
 ghost use Rattle.wdl_typed.specs.Scope.{lookup};
@@ -21,14 +8,7 @@ ghost use Rattle.wdl_flow.specs.Gathers.{IsGathered};
 ghost use Rattle.wdl_flow.specs.Gathered as spec;
 ghost use Rattle.wdl_flow.specs.Flows.{quiet};
 ghost use Rattle.wdl_flow.specs.declared.fault.PlainFault.TheVariants.{TooMany as PastLimits};
-ghost use Rattle.wdl_flow.specs.Views.{
-  endeds_of,
-  env_in,
-  flowing_of,
-  given_of,
-  known_of,
-  knowns_of,
-};
+ghost use Rattle.wdl_flow.specs.Views.{endeds_of, flowing_of, given_of, known_of, knowns_of};
 
 use crate::calls::Calls;
 use crate::fault::PlainFault;

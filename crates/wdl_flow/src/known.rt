@@ -1,7 +1,7 @@
 ghost use Rattle.std.specs.Prelude.{◌≡◌, IfOk};
 
 use std::alloc::Global;
-use wdl_value::{Bind, Key, Name, NoMemory, Value};
+use wdl_value::{Key, Name, NoMemory, Value};
 
 /// A name with its value, or missing.
 #[derive(Debug, Drop)]

@@ -1,6 +1,6 @@
 //! The names and calls that statements give out.
 
-ghost use Rattle.std.specs.Prelude.{◌≡◌, ◌++◌, ◌∷◌, [], map, OnOk, IfOk};
+ghost use Rattle.std.specs.Prelude.{◌≡◌, ◌++◌, [], OnOk, IfOk};
 ghost use Rattle.wdl_typed.specs.Flow as flow;
 ghost use Rattle.wdl_flow.specs.Given as spec;
 ghost use Rattle.wdl_flow.specs.Views.{endeds_of, flowing_of, given_of, knowns_of};
@@ -75,11 +75,7 @@ impl Yielded {
     fn add_decl(&mut self, alloc: Global, name: &Name) -> Result<(), NoMemory>
         ensures { OnOk result (given_of self.new ≡ spec.with_decl (given_of self.old) name.now) }
     {
-        let first = name.copy(alloc)?;
-        self.keys.push(Key {
-            first,
-            second: None,
-        })?;
+        self.keys.push(Key::plain(alloc, name)?)?;
         Ok(())
     }
 

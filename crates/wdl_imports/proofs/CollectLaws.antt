@@ -23,7 +23,7 @@ use Rattle.wdl_links.specs.declared.fault.LinkFault.{LinkFault}
 use Rattle.wdl_links.specs.declared.fault.LinkFault.TheVariants as fault
 use Rattle.wdl_links.specs.Circles.{IsCircle}
 use Rattle.wdl_links.specs.Circles as circles
-use Rattle.wdl_structs.specs.Faults.{bare, AreSameDocs, HasUnknown, ImportUnknown, HasNameFault, AreNamed, AreUnnamed, AreStood}
+use Rattle.wdl_structs.specs.Faults.{bare, AreSameDocs, HasUnknown, ImportUnknown, HasNameFault, AreUnnamed, AreStood}
 use Rattle.wdl_structs.specs.Faults as names
 use Rattle.wdl_structs.proofs.IdentityLaws.{contained}
 use Rattle.wdl_structs.proofs.SameLaws.{same_linked, same_circle, same_tokens}
@@ -32,7 +32,7 @@ use Rattle.wdl_structs.proofs.OneLaws.{one_structs}
 use Rattle.wdl_sources.specs.declared.source.Source.{Source}
 use Rattle.wdl_sources.specs.declared.fault.ImportFault.{ImportFault}
 use Rattle.wdl_sources.specs.declared.fault.ImportFault.TheVariants as import
-use Rattle.wdl_sources.specs.Walks.{Files, AreFiles, IsWhole, HasStopped, IsBad, HasWhole, most_documents}
+use Rattle.wdl_sources.specs.Walks.{IsWhole, HasWhole, most_documents}
 use Rattle.wdl_sources.specs.Walks as walks
 use Rattle.wdl_imports.specs.Libraries.{source_of, OneLibrary, IsPlaced, Gathers}
 use Rattle.wdl_imports.specs.LinksTo.{AreDocs}

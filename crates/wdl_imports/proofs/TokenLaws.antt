@@ -18,7 +18,7 @@ use Rattle.wdl_ast.specs.DocumentWords.{document_words, section_words, each, may
 use Rattle.wdl_ast.specs.Spelled.{Open, inside, in_hole, is_command, after, span_at, IsTokenIn, AreTokens, IsOver}
 use Rattle.wdl_ast.specs.Spelled.Classes.{Bytes}
 use Rattle.wdl_ast.specs.Spelled.Chars as chars
-use Rattle.wdl_ast.specs.Spelled.Chars.{Inside, string, command, closer, hole_byte, IsTextToken}
+use Rattle.wdl_ast.specs.Spelled.Chars.{Inside, string, command, closer, IsTextToken}
 use Rattle.wdl_lex.specs.Limits.{max_document}
 use Rattle.wdl_lex.proofs.CodeLaws.{spells_first}
 use Rattle.wdl_imports.specs.Numbers.{AliasesOf, SectionsOf}

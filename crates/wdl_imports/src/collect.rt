@@ -1,6 +1,6 @@
 //! The library of a document.
 
-ghost use Rattle.std.specs.Prelude.{◌≡◌, ◌↔◌, ◌≤◌, ◌<◌, ℕ, List, length, map, IfOk};
+ghost use Rattle.std.specs.Prelude.{◌≡◌, ◌↔◌, ◌≤◌, ◌<◌, ℕ, List, map, IfOk};
 ghost use Rattle.wdl_port.specs.Causes.{Rose};
 ghost use Rattle.wdl_sources.specs.Walks.{Counts};
 ghost use Rattle.wdl_imports.specs.Libraries as spec;

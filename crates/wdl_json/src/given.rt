@@ -59,11 +59,7 @@ pub(crate) fn is_misfit(given: &GivenInput) -> bool
 fn bind(alloc: Global, name: &Name, value: Value) -> Result<Bind, NoMemory>
     ensures { IfOk result (λ b. b ≡ record { key = plain_key name.now; value = value }) }
 {
-    let first = name.copy(alloc)?;
-    let key = Key {
-        first,
-        second: None,
-    };
+    let key = Key::plain(alloc, name)?;
     Ok(Bind { key, value })
 }
 

@@ -1,5 +1,4 @@
-ghost use Rattle.std.specs.Prelude.{◌≡◌, IsSome, Some, Ok, true, IfOk, option_and_then, slice_get};
-ghost use Rattle.std.specs.Option.{option_copied};
+ghost use Rattle.std.specs.Prelude.{◌≡◌, IsSome, Some, true, IfOk};
 ghost use Rattle.serde_json.specs.View.{members_view};
 ghost use Rattle.wdl_typed.specs.declared.flow.FlowDef.{FlowDef as Flow};
 ghost use Rattle.wdl_typed.specs.Journal.{inputs_fit};

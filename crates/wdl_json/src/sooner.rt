@@ -2,7 +2,6 @@
 
 ghost use Rattle.std.specs.Prelude.{◌≡◌, Some, None, if◌then◌else◌};
 ghost use Rattle.std.specs.Option.{option_copied};
-ghost use Rattle.wdl_json.specs.Inputs as spec;
 ghost use Rattle.wdl_json.specs.Sooner.{joined};
 
 use wdl_typed::TInput;

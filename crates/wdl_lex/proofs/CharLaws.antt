@@ -13,7 +13,7 @@ use Rattle.wdl_ast.specs.declared.token.Kind.TheVariants as kind
 use Rattle.wdl_ast.specs.Spelled.Classes.{Bytes, first}
 use Rattle.wdl_ast.specs.Spelled.Escapes.{IsEscape}
 use Rattle.wdl_ast.specs.Spelled.Chars as s
-use Rattle.wdl_ast.specs.Spelled.Chars.{Inside, string, command, is_string, closer, closing, begins, takes_dollar, hole_at, hole_byte, stops, is_backslash, AreChars, Stops, IsTextToken}
+use Rattle.wdl_ast.specs.Spelled.Chars.{Inside, string, command, is_string, closer, begins, takes_dollar, hole_at, hole_byte, stops, is_backslash, AreChars, Stops, IsTextToken}
 use Rattle.wdl_lex.specs.declared.fault.Flaw.{Flaw}
 use Rattle.wdl_lex.specs.Faults as fault
 use Rattle.wdl_lex.specs.Faults.{IsBadEscape, IsTextFlaw}

@@ -6,7 +6,7 @@ use Rattle.std.proofs.lemmas.List.{append-nil, drop_at}
 use Rattle.std.specs.List.{list_all, prefix_len}
 use Rattle.wdl_ast.specs.declared.token.Kind.{Kind}
 use Rattle.wdl_ast.specs.declared.token.Kind.TheVariants as kind
-use Rattle.wdl_ast.specs.Spelled.Classes.{Bytes, is_blank, is_letter, is_word_byte, is_digit_of, are_digits, first, is_end}
+use Rattle.wdl_ast.specs.Spelled.Classes.{Bytes, is_blank, is_letter, is_word_byte, is_digit_of, are_digits, first}
 use Rattle.wdl_ast.specs.Spelled.Numbers as n
 use Rattle.wdl_ast.specs.Spelled.Numbers.{IsInt, IsExponent, MayBeExponent, IsFrac, is_exponent_mark, is_sign, is_hex_mark}
 use Rattle.wdl_ast.specs.Spelled.Marks.{mark_of}

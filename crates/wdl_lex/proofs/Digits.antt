@@ -1,14 +1,13 @@
 -- Digits as texts, and the numbers that std reads from them.
-use Rattle.std.proofs.Common.{◌≡◌, ℕ, ◌+◌, ◌<◌, ◌≤◌, ◌^◌, Bool, true, false, cond, ◌&&◌, ◌||◌, ◌==◌, nat_lt, List, [], ◌∷◌, length, Result, Ok, Err, Option, Some, None, refl, ap, sym, ◌∙◌, subst, arith, pos, ℤ}
+use Rattle.std.proofs.Common.{◌≡◌, ℕ, ◌<◌, ◌≤◌, ◌^◌, Bool, true, false, cond, ◌&&◌, ◌||◌, ◌==◌, nat_lt, [], ◌∷◌, length, Some, None, refl, ap, sym, ◌∙◌, subst, arith, pos, ℤ}
 use Rattle.std.proofs.lemmas.Bool.{and_parts, ltb-true, cond-true, cond-false, leb-true, le-leb}
 use Rattle.std.proofs.lemmas.Bool.Decides.{nat_tests}
 use Rattle.std.proofs.lemmas.Str.{IsUtf8-from_ascii}
 use Rattle.std.proofs.lemmas.Str.Ascii.{IsAscii-cons, IsAscii-nil}
 use Rattle.std.specs.Char.{digit_value}
 use Rattle.std.specs.List.{list_all}
-use Rattle.std.specs.Result.{OkIff}
 use Rattle.std.specs.Str.{IsUtf8, IsAscii}
-use Rattle.std.specs.Str.Parse.{AllDigits, IsNumeral, digits_value, without_leading_plus, without_leading_sign, signed_digits_value, starts_with_minus, ParsesUnsigned}
+use Rattle.std.specs.Str.Parse.{AllDigits, IsNumeral, digits_value, without_leading_plus, without_leading_sign, signed_digits_value, starts_with_minus}
 use Rattle.std.specs.Prelude.{FitsSigned, nat_le, take}
 use Rattle.std.specs.List.{prefix_len}
 use Rattle.std.proofs.Common.{w64}

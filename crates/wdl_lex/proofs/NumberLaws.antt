@@ -8,7 +8,7 @@ use Rattle.wdl_ast.specs.declared.token.Kind.{Kind}
 use Rattle.wdl_ast.specs.declared.token.Kind.TheVariants as kind
 use Rattle.wdl_ast.specs.Spelled.Classes.{Bytes, is_digit_of, are_digits, some_digits, first, is_end}
 use Rattle.wdl_ast.specs.Spelled.Numbers as s
-use Rattle.wdl_ast.specs.Spelled.Numbers.{is_hex_mark, is_exponent_mark, is_sign, IsInt, IsExponent, MayBeExponent, IsFrac}
+use Rattle.wdl_ast.specs.Spelled.Numbers.{is_hex_mark, is_exponent_mark, is_sign, IsInt, IsExponent, IsFrac}
 use Rattle.wdl_lex.specs.Reading.Numbers.{digits_len, exponent_mark_len, joined_len, exponent_len, pointed_len, behind_digits, frac_len, is_hex, base_of, int_from, int_at}
 use Rattle.wdl_lex.proofs.Lists.{clash, same_head, StopsAt, front_of, front_more, front_exact, front_whole, nonempty_length}
 

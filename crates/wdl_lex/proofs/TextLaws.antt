@@ -1,6 +1,6 @@
 -- The texts of tokens are UTF-8 without NUL, and so is what follows a token of a text that is UTF-8.
 use Rattle.std.proofs.Common.{◌≡◌, ℕ, suc, ◌<◌, Bool, true, false, cond, ◌&&◌, ◌||◌, ◌==◌, ◌⊎◌, inl, inr, [], ◌∷◌, ◌++◌, length, take, get_or, Option, Some, None, Result, Ok, refl, ap, sym, ◌∙◌, subst, append_assoc, length-append, arith}
-use Rattle.std.proofs.lemmas.Bool.{and_parts, and_from, or_parts, or_cases, eqb-true, not-true, ltb-true}
+use Rattle.std.proofs.lemmas.Bool.{and_parts, and_from, or_parts, or_cases, eqb-true, not-true}
 use Rattle.std.proofs.lemmas.Bool.Decides.{nat_tests}
 use Rattle.std.proofs.lemmas.List.{append-nil, drop_at, take_at, get_or_at}
 use Rattle.std.proofs.lemmas.Str.{IsUtf8-append, IsUtf8-nil, IsUtf8-encode, IsUtf8-take, IsUtf8-drop, IsCharBoundary-before_ascii, IsCharBoundary-from_take, inside_one}
@@ -13,12 +13,12 @@ use Rattle.wdl_ast.specs.declared.token.Quote.TheVariants.{Single, Double}
 use Rattle.wdl_ast.specs.declared.token.Fence.TheVariants.{Brace, Angle}
 use Rattle.wdl_ast.specs.declared.token.HoleMark.{HoleMark}
 use Rattle.wdl_ast.specs.declared.token.HoleMark.TheVariants.{Tilde, Dollar}
-use Rattle.wdl_ast.specs.Spelled.{Open, inside, in_hole, IsTokenIn}
-use Rattle.wdl_ast.specs.Spelled.Classes.{Bytes, is_digit_of, are_digits, first}
+use Rattle.wdl_ast.specs.Spelled.{IsTokenIn}
+use Rattle.wdl_ast.specs.Spelled.Classes.{Bytes, first}
 use Rattle.wdl_ast.specs.Spelled.Escapes as e
-use Rattle.wdl_ast.specs.Spelled.Escapes.{simple, hex_digits, is_character, IsEscape}
+use Rattle.wdl_ast.specs.Spelled.Escapes.{simple, is_character, IsEscape}
 use Rattle.wdl_ast.specs.Spelled.Chars as s
-use Rattle.wdl_ast.specs.Spelled.Chars.{Inside, string, command, is_string, closer, begins, hole_at, hole_byte, stops, AreChars, Stops, IsTextToken}
+use Rattle.wdl_ast.specs.Spelled.Chars.{Inside, string, command, is_string, closer, begins, hole_at, hole_byte, stops, AreChars, Stops}
 use Rattle.wdl_ast.specs.Spelled.Gaps as gaps
 use Rattle.wdl_ast.specs.Spelled.Gaps.{IsGap}
 use Rattle.wdl_lex.proofs.Digits.{is_plain, are_plain, plain_utf8, digits_plain}

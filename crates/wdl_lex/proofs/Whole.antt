@@ -4,7 +4,7 @@ use Rattle.std.proofs.lemmas.Bool.{and_parts, and_from, cond-true, cond-false}
 use Rattle.std.proofs.lemmas.List.{append-nil, drop_at}
 use Rattle.wdl_ast.specs.declared.token.Kind.{Kind}
 use Rattle.wdl_ast.specs.declared.token.Token.{Token}
-use Rattle.wdl_ast.specs.Spelled.{Open, innermost, inside_at, inside_of, inside, in_hole, after, is_command, unclosed, unclosed_from, IsTokenIn, IsToken, IsGapIn, span_at, placed, AreTokens, IsOver}
+use Rattle.wdl_ast.specs.Spelled.{Open, inside_of, inside, in_hole, after, is_command, unclosed, unclosed_from, IsTokenIn, IsToken, IsGapIn, span_at, placed, AreTokens, IsOver}
 use Rattle.wdl_ast.specs.Spelled.Classes.{Bytes, is_end}
 use Rattle.wdl_ast.specs.Spelled.Code.{IsCodeToken}
 use Rattle.wdl_ast.specs.Spelled.Chars as chars

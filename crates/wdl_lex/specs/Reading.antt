@@ -4,13 +4,12 @@ pub mod Code
 pub mod Escapes
 pub mod Chars
 pub mod Gaps
-use Rattle.std.specs.Prelude.{◌≡◌, ℕ, zero, suc, ◌+◌, ◌≤◌, Bool, true, false, if◌then◌else◌, List, [], ◌∷◌, ◌++◌, length, drop, Option, Some, None, Result, Ok, Err}
+use Rattle.std.specs.Prelude.{◌≡◌, ℕ, zero, suc, ◌+◌, ◌≤◌, Bool, false, if◌then◌else◌, List, [], ◌∷◌, ◌++◌, length, drop, Option, Some, None, Result, Ok, Err}
 use Rattle.wdl_base.specs.declared.span.Span.{Span}
-use Rattle.wdl_ast.specs.declared.token.Kind.{Kind}
 use Rattle.wdl_ast.specs.declared.token.Token.{Token}
 use Rattle.wdl_ast.specs.Spelled.{Open, inside_of, inside, in_hole, after, is_command, unclosed, span_at, placed}
 use Rattle.wdl_ast.specs.Spelled.Classes.{Bytes, is_end}
-use Rattle.wdl_ast.specs.Spelled.Chars.{Inside, string, command}
+use Rattle.wdl_ast.specs.Spelled.Chars.{Inside}
 use Rattle.wdl_lex.specs.declared.fault.Flaw.{Flaw}
 use Rattle.wdl_lex.specs.declared.fault.NoToken.{NoToken}
 use Rattle.wdl_lex.specs.declared.fault.NoToken.TheVariants as stop

@@ -1,19 +1,6 @@
 //! The tokens in strings and commands.
 
-ghost use Rattle.std.specs.Prelude.{
-  ◌≡◌,
-  ◌++◌,
-  ◌+◌,
-  ◌^◌,
-  ◌≤◌,
-  ◌<◌,
-  false,
-  OnOk,
-  IfOk,
-  IfErr,
-  Ok,
-  length,
-};
+ghost use Rattle.std.specs.Prelude.{◌≡◌, ◌++◌, ◌+◌, ◌^◌, ◌<◌, false, OnOk, IfOk, IfErr, Ok, length};
 ghost use Rattle.std.specs.Char.{encode_utf8};
 ghost use Rattle.std.specs.Str.{IsUtf8};
 ghost use Rattle.wdl_ast.specs.Spelled.Chars as form;

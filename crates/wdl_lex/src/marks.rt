@@ -1,6 +1,6 @@
 //! Marks, quotes and braces.
 
-ghost use Rattle.std.specs.Prelude.{◌≡◌, ◌≤◌, IfSome, length, ◌<◌};
+ghost use Rattle.std.specs.Prelude.{◌≡◌, ◌<◌};
 ghost use Rattle.wdl_ast.specs.Spelled.Marks as spec;
 ghost use Rattle.wdl_lex.specs.Reading.Code.{mark_at};
 

@@ -1,5 +1,5 @@
 -- The uri and the namespace of an import.
-use Rattle.std.specs.Prelude.{ℕ, ◌-◌, Bool, false, ◌||◌, List, [], ◌∷◌, take, drop, length, Option, Some, None, if◌then◌else◌, codes}
+use Rattle.std.specs.Prelude.{ℕ, ◌-◌, List, [], take, drop, length, Option, Some, None, if◌then◌else◌, codes}
 use Rattle.std.specs.Str.{bytes_eq}
 use Rattle.wdl_ast.specs.declared.leaf.Chars.{Chars}
 use Rattle.wdl_ast.specs.declared.workflow.Renaming.{Renaming}

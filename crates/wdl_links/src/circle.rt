@@ -14,7 +14,7 @@ ghost use Rattle.std.specs.Prelude.{
   Some,
 };
 ghost use Rattle.std.specs.List.{list_all};
-ghost use Rattle.wdl_library.specs.Links.{has_links, has_no_circle};
+ghost use Rattle.wdl_library.specs.Links.{has_links};
 ghost use Rattle.wdl_library.specs.Sections.{imports_in};
 ghost use Rattle.wdl_links.specs.Circles as spec;
 

@@ -1,6 +1,6 @@
 //! The documents that a document imports.
 
-ghost use Rattle.std.specs.Prelude.{◌≡◌, [], false, length};
+ghost use Rattle.std.specs.Prelude.{◌≡◌, [], false};
 ghost use Rattle.wdl_base.specs.Plain.{has_nul};
 ghost use Rattle.wdl_links.specs.Wants as spec;
 ghost use Rattle.wdl_library.specs.Imports as imports;

@@ -13,7 +13,7 @@ ghost use Rattle.wdl_load.specs.Loads.{
 use crate::value::load_values;
 use std::alloc::Global;
 use wdl_port::{TableLauncher, TableRow};
-use wdl_value::{Answer, Body, Items, Name, NameFault, NoMemory, Place, Segment, Text};
+use wdl_value::{Answer, Body, Items, Name, NameFault, NoMemory, Place, Segment};
 
 /// The name of a call.
 #[tactic(auto, using(crate::proofs::Names::call_is_name))]

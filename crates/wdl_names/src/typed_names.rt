@@ -35,7 +35,7 @@ pub struct TypedNames {
 }
 
 impl Model for TypedNames {
-    ghost use Rattle.std.specs.Prelude.{List, ℕ};
+    ghost use Rattle.std.specs.Prelude.{List};
     ghost use Rattle.std.specs.BTreeMap.{get_by_text};
     ghost use Rattle.wdl_typed.specs.declared.scope.Bound.{Bound};
     ghost use Rattle.wdl_names.specs.Firsts.{Finds};

@@ -18,7 +18,7 @@ ghost use Rattle.std.specs.List.{flat_map};
 ghost use Rattle.std.specs.Str.{bytes_eq};
 ghost use Rattle.wdl_typed.specs.Lists.{has_name, has_number};
 ghost use Rattle.wdl_order.specs.Names.{as_needing, gives_at, givers_of, needs_at};
-ghost use Rattle.wdl_order.specs.Rows.{AreWithin, has};
+ghost use Rattle.wdl_order.specs.Rows.{has};
 
 use crate::uses::Uses;
 use std::alloc::Global;

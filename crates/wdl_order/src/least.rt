@@ -1,4 +1,4 @@
-ghost use Rattle.std.specs.Prelude.{◌≡◌, length, IfOk};
+ghost use Rattle.std.specs.Prelude.{length, IfOk};
 ghost use Rattle.wdl_order.specs.Rows.{AreWithin, has};
 ghost use Rattle.wdl_order.specs.Working.{Answers};
 

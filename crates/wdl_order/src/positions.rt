@@ -1,4 +1,4 @@
-ghost use Rattle.std.specs.Prelude.{◌≡◌, map, IfOk};
+ghost use Rattle.std.specs.Prelude.{map, IfOk};
 ghost use Rattle.wdl_order.specs.Names.{as_needing};
 ghost use Rattle.wdl_order.specs.Outcome.{Orders};
 

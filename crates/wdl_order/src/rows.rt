@@ -1,20 +1,6 @@
-ghost use Rattle.std.specs.Prelude.{
-  ◌≡◌,
-  ◌<◌,
-  true,
-  ℕ,
-  [],
-  ◌∷◌,
-  ◌++◌,
-  length,
-  slice_set,
-  vec_len,
-  IfOk,
-  OnOk,
-  IfSome,
-};
+ghost use Rattle.std.specs.Prelude.{◌≡◌, ◌<◌, [], ◌∷◌, ◌++◌, length, slice_set, IfOk, OnOk, IfSome};
 ghost use Rattle.std.specs.List.{All};
-ghost use Rattle.wdl_order.specs.Rows.{row, is_set};
+ghost use Rattle.wdl_order.specs.Rows.{row};
 
 use sqlite_items::Items;
 use std::alloc::Global;

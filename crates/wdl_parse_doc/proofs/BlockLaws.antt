@@ -1,13 +1,13 @@
 -- Blocks in one another, read turn by turn and written.
-use Rattle.std.proofs.Common.{◌≡◌, ℕ, zero, suc, ◌<◌, ◌≤◌, Bool, true, false, List, [], ◌∷◌, ◌++◌, length, Option, Some, None, Ok, refl, ap, sym, ◌∙◌, subst, append_assoc, length-append, arith, codes}
+use Rattle.std.proofs.Common.{◌≡◌, ℕ, zero, suc, ◌<◌, ◌≤◌, List, [], ◌∷◌, ◌++◌, length, Option, Some, None, Ok, refl, ap, sym, ◌∙◌, subst, append_assoc, length-append, arith}
 use Rattle.std.proofs.lemmas.List.{append-nil}
 use Rattle.wdl_base.specs.declared.span.Span.{Span}
 use Rattle.wdl_ast.specs.declared.token.Mark.TheVariants as mark
 use Rattle.wdl_ast.specs.declared.workflow.Statement.{Statement}
 use Rattle.wdl_ast.specs.declared.workflow.Statement.TheVariants as st
 use Rattle.wdl_ast.specs.Words.{Words, marked}
-use Rattle.wdl_ast.specs.DocumentWords.{each, maybe, statement_words}
-use Rattle.token_reading.specs.Outcome.{Outcome, Parser, then_, found, eat, one_more}
+use Rattle.wdl_ast.specs.DocumentWords.{each, statement_words}
+use Rattle.token_reading.specs.Outcome.{then_, eat, one_more}
 use Rattle.token_reading.proofs.Steps.{ate, then_is, found_some, found_none}
 use Rattle.token_reading.proofs.Says.{Says, Takes, carry, says_then, says_found}
 use Rattle.wdl_parse_parts.specs.declared.heads.BlockHead.{BlockHead}
@@ -19,7 +19,7 @@ use Rattle.wdl_parse_doc.specs.declared.block.Turn.TheVariants as turn
 use Rattle.wdl_parse_doc.specs.Context as ctx
 use Rattle.wdl_parse_doc.specs.Context.{Stands}
 use Rattle.wdl_parse_doc.specs.Grammar as g
-use Rattle.wdl_parse_parts.specs.Grammar.{Each, IfThere}
+use Rattle.wdl_parse_parts.specs.Grammar.{Each}
 use Rattle.wdl_parse_doc.specs.Grammar.{AreStatements, IsStatement}
 use Rattle.wdl_parse_doc.specs.Reading.Blocks as r
 use Rattle.wdl_parse_parts.specs.Reading.Heads as heads

@@ -1,13 +1,9 @@
 -- Calls, read and written.
-use Rattle.std.proofs.Common.{◌≡◌, ℕ, ◌<◌, ◌≤◌, Bool, true, false, cond, List, [], ◌∷◌, ◌++◌, length, Option, Some, None, Ok, refl, ap, sym, ◌∙◌, subst, append_assoc, length-append, arith, codes}
+use Rattle.std.proofs.Common.{◌≡◌, ℕ, Bool, true, false, List, [], ◌∷◌, ◌++◌, Option, Some, None, Ok, refl, ap, sym, ◌∙◌, subst, append_assoc, arith, codes}
 use Rattle.std.specs.Str.{bytes_eq}
-use Rattle.std.proofs.lemmas.Slice.Eq.{bytes_eq-Decides}
 use Rattle.wdl_base.specs.declared.span.Span.{Span}
-use Rattle.wdl_ast.specs.declared.token.Mark.{Mark}
 use Rattle.wdl_ast.specs.declared.token.Mark.TheVariants as mark
-use Rattle.wdl_ast.specs.declared.token.Kind.{Kind}
 use Rattle.wdl_ast.specs.declared.token.Kind.TheVariants as kind
-use Rattle.wdl_ast.specs.declared.token.Token.{Token}
 use Rattle.wdl_ast.specs.declared.leaf.Ident.{Ident}
 use Rattle.wdl_ast.specs.declared.leaf.ListItem.{ListItem}
 use Rattle.wdl_ast.specs.declared.type_tree.BaseType.{BaseType}
@@ -21,21 +17,21 @@ use Rattle.wdl_ast.specs.declared.workflow.Argument.{Argument}
 use Rattle.wdl_ast.specs.declared.workflow.CallInputs.{CallInputs}
 use Rattle.wdl_ast.specs.declared.workflow.CallBody.{CallBody}
 use Rattle.wdl_ast.specs.declared.workflow.Call.{Call}
-use Rattle.wdl_ast.specs.Words.{Words, at, marked, keyword, ident, comma, words, items_words, questions_words, base_words, type_words}
+use Rattle.wdl_ast.specs.Words.{Words, marked, keyword, ident, words, questions_words, base_words, type_words}
 use Rattle.wdl_ast.specs.DocumentWords.{each, maybe, assigned_words, declaration_words, renaming_words, target_member_words, target_words, after_words, argument_words, call_inputs_words, call_body_words, call_words}
 use Rattle.wdl_ast.proofs.WordLaws.{words_type}
-use Rattle.token_reading.specs.Outcome.{Outcome, Parser, then_, found, is_mark, is_word, sees, eat, eat_word, ident_at}
+use Rattle.token_reading.specs.Outcome.{found, is_word, sees, eat, eat_word, ident_at}
 use Rattle.token_reading.specs.TypeGrammar as types
-use Rattle.token_reading.specs.TypeGrammar.{type_tree, IsBase, IsTypeOver, TypeWithin, IsType}
-use Rattle.token_reading.proofs.Steps.{ate, ate_word, ate_ident, sees_ident, then_is, found_some, found_none, cond_true, cond_false}
-use Rattle.token_reading.proofs.Says.{Says, Takes, says_then, says_found, says_cond}
+use Rattle.token_reading.specs.TypeGrammar.{type_tree, IsBase, IsTypeOver, TypeWithin}
+use Rattle.token_reading.proofs.Steps.{ate, ate_word, ate_ident, sees_ident, found_some, found_none, cond_true, cond_false}
+use Rattle.token_reading.proofs.Says.{Says, Takes, says_found, says_cond}
 use Rattle.wdl_parse_doc.specs.Context as ctx
 use Rattle.wdl_parse_doc.specs.Context.{Stands, an_expression}
 use Rattle.wdl_parse_parts.specs.Grammar.{Each, IfThere, commas_fit, IsIdent, IsDeclaration}
-use Rattle.wdl_parse_doc.specs.Grammar.{IsTarget, IsTargetMember, IsRenaming, IsAfter, IsArgument, IsArgumentItem, IsCallInputs, IsCallBody, IsCall}
-use Rattle.wdl_parse_parts.specs.Reading.Parts.{many, until, item}
+use Rattle.wdl_parse_doc.specs.Grammar.{IsTarget, IsTargetMember, IsRenaming, IsAfter, IsArgument, IsCallInputs, IsCallBody, IsCall}
+use Rattle.wdl_parse_parts.specs.Reading.Parts.{item}
 use Rattle.wdl_parse_doc.specs.Reading.Calls as r
-use Rattle.wdl_parse_doc.proofs.Formats.{Doc, SoundAt, Format, Worded, Parts, starts_some, next, behind_both, goes, listed, parts_until, until_ends}
+use Rattle.wdl_parse_doc.proofs.Formats.{Doc, SoundAt, Format, Worded, Parts, next, behind_both, goes, listed, parts_until, until_ends}
 use Rattle.wdl_parse_doc.proofs.Leaves.{Any, a_mark, a_name, an_item}
 use Rattle.wdl_parse_doc.proofs.Follows.{Settled, settled_eat, settled_sees, settled_comma, no_as, type_word}
 use Rattle.wdl_parse_doc.proofs.MetaLaws.{items_each}

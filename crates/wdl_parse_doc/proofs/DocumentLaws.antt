@@ -1,34 +1,28 @@
 -- Documents, read and written.
-use Rattle.std.proofs.Common.{◌≡◌, ℕ, ◌<◌, ◌≤◌, Bool, true, false, cond, ◌⊎◌, inl, inr, List, [], ◌∷◌, ◌++◌, length, Option, Some, None, Result, Ok, Err, refl, ap, sym, ◌∙◌, subst, append_assoc, length-append, arith, codes}
+use Rattle.std.proofs.Common.{◌≡◌, ℕ, ◌<◌, false, List, [], ◌∷◌, ◌++◌, length, Option, Some, None, Ok, refl, ap, sym, ◌∙◌, append_assoc, length-append, arith, codes}
 use Rattle.std.proofs.lemmas.List.{append-nil}
 use Rattle.wdl_base.specs.declared.span.Span.{Span}
 use Rattle.wdl_ast.specs.declared.token.Mark.TheVariants as mark
-use Rattle.wdl_ast.specs.declared.token.Kind.{Kind}
 use Rattle.wdl_ast.specs.declared.token.Kind.TheVariants as kind
-use Rattle.wdl_ast.specs.declared.token.Token.{Token}
-use Rattle.wdl_ast.specs.declared.leaf.Ident.{Ident}
-use Rattle.wdl_ast.specs.declared.leaf.PlainString.{PlainString}
-use Rattle.wdl_ast.specs.declared.workflow.Renaming.{Renaming}
 use Rattle.wdl_ast.specs.declared.document.Alias.{Alias}
 use Rattle.wdl_ast.specs.declared.document.Import.{Import}
 use Rattle.wdl_ast.specs.declared.document.StructMember.{StructMember}
 use Rattle.wdl_ast.specs.declared.document.StructSection.{StructSection}
 use Rattle.wdl_ast.specs.declared.document.Section.{Section}
 use Rattle.wdl_ast.specs.declared.document.Section.TheVariants as section
-use Rattle.wdl_ast.specs.Words.{Words, at, marked, keyword, ident, plain_words, type_words}
+use Rattle.wdl_ast.specs.Words.{Words, marked, keyword, ident, plain_words, type_words}
 use Rattle.wdl_ast.specs.DocumentWords.{each, maybe, renaming_words, alias_words, import_words, struct_member_words, struct_words, section_words}
-use Rattle.token_reading.specs.Outcome.{Outcome, Parser, then_, found, sees, eat, eat_word}
-use Rattle.token_reading.proofs.Steps.{ate_word, then_is, found_some, found_none, cond_false, same, done}
+use Rattle.token_reading.specs.Outcome.{then_, found, sees, eat_word}
+use Rattle.token_reading.proofs.Steps.{ate_word, then_is, found_some, found_none}
 use Rattle.token_reading.proofs.Says.{Says, Takes, says_then, says_found}
 use Rattle.wdl_parse_doc.specs.declared.part_list.Braced.{Braced}
 use Rattle.wdl_parse_doc.specs.Context as ctx
 use Rattle.wdl_parse_doc.specs.Context.{Stands}
-use Rattle.wdl_parse_parts.specs.Grammar.{Each, IfThere, IsIdent}
+use Rattle.wdl_parse_parts.specs.Grammar.{Each, IfThere}
 use Rattle.wdl_parse_doc.specs.Grammar.{IsAlias, IsImport, IsStructMember, IsStruct, IsSection}
-use Rattle.wdl_parse_parts.specs.Reading.Parts.{many, until}
 use Rattle.wdl_parse_doc.specs.Reading.Documents as r
-use Rattle.wdl_parse_doc.proofs.Formats.{Doc, SoundAt, Format, Worded, Parts, starts_some, next, at_once, behind_both, goes, says_worded, listed, parts_until, until_ends}
-use Rattle.wdl_parse_doc.proofs.Leaves.{Any, a_mark, a_word, a_name, a_type, a_string}
+use Rattle.wdl_parse_doc.proofs.Formats.{Doc, SoundAt, Format, Worded, Parts, next, at_once, behind_both, goes, says_worded, listed, parts_until, until_ends}
+use Rattle.wdl_parse_doc.proofs.Leaves.{Any, a_word, a_name, a_type, a_string}
 use Rattle.wdl_parse_doc.proofs.Follows.{type_apart, type_some}
 use Rattle.wdl_parse_doc.proofs.SectionLaws.{in_braces}
 use Rattle.wdl_parse_doc.proofs.CallLaws.{a_renaming}

@@ -1,5 +1,5 @@
 -- What may stand behind a part: the next one, or the end of the list.
-use Rattle.std.proofs.Common.{◌≡◌, ℕ, ◌<◌, Bool, true, false, cond, ◌||◌, List, [], ◌∷◌, ◌++◌, length, Option, Some, None, Ok, refl, ap, sym, ◌∙◌, subst, append_assoc, length-append, arith, codes}
+use Rattle.std.proofs.Common.{◌≡◌, ℕ, ◌<◌, Bool, true, false, ◌||◌, List, [], ◌∷◌, ◌++◌, length, Option, Some, None, refl, ap, sym, ◌∙◌, codes}
 use Rattle.std.specs.Str.{bytes_eq}
 use Rattle.std.proofs.lemmas.Slice.Eq.{bytes_eq-Decides}
 use Rattle.wdl_base.specs.declared.span.Span.{Span}
@@ -8,16 +8,14 @@ use Rattle.wdl_ast.specs.declared.token.Mark.{Mark}
 use Rattle.wdl_ast.specs.declared.token.Mark.TheVariants as mark
 use Rattle.wdl_ast.specs.declared.token.Kind.{Kind}
 use Rattle.wdl_ast.specs.declared.token.Kind.TheVariants as kind
-use Rattle.wdl_ast.specs.declared.token.Token.{Token}
-use Rattle.wdl_ast.specs.declared.leaf.Ident.{Ident}
 use Rattle.wdl_ast.specs.declared.type_tree.BaseType.{BaseType}
 use Rattle.wdl_ast.specs.declared.type_tree.TypeTree.{TypeTree}
-use Rattle.wdl_ast.specs.Words.{Words, at, marked, keyword, ident, comma, base_words, questions_words, type_words}
+use Rattle.wdl_ast.specs.Words.{Words, at, keyword, comma, base_words, questions_words, type_words}
 use Rattle.wdl_ast.proofs.WordLaws.{words_type}
-use Rattle.token_reading.specs.Outcome.{is_mark, is_word, sees, eat, eat_word}
+use Rattle.token_reading.specs.Outcome.{is_mark, sees, eat, eat_word}
 use Rattle.token_reading.specs.TypeGrammar as types
-use Rattle.token_reading.specs.TypeGrammar.{type_tree, IsBase, IsTypeOver, TypeWithin, IsType}
-use Rattle.wdl_parse_expr.specs.Contract.{expr_continues, type_continues}
+use Rattle.token_reading.specs.TypeGrammar.{IsBase, IsTypeOver, TypeWithin, IsType}
+use Rattle.wdl_parse_expr.specs.Contract.{expr_continues}
 use Rattle.token_reading.proofs.Steps.{cond_false, marks}
 use Rattle.wdl_parse_doc.proofs.Formats.{starts_some}
 

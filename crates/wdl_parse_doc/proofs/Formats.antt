@@ -5,12 +5,12 @@ use Rattle.wdl_base.specs.declared.span.Span.{Span}
 use Rattle.wdl_ast.specs.declared.token.Mark.{Mark}
 use Rattle.wdl_ast.specs.declared.token.Mark.TheVariants as mark
 use Rattle.wdl_ast.specs.declared.token.Token.{Token}
-use Rattle.wdl_ast.specs.Words.{Words, marked, keyword}
+use Rattle.wdl_ast.specs.Words.{Words, keyword}
 use Rattle.wdl_ast.specs.DocumentWords.{each, maybe}
 use Rattle.token_reading.specs.declared.fault.Fault.{Fault}
 use Rattle.wdl_parse_expr.specs.Context.{Points}
-use Rattle.token_reading.specs.Outcome.{Outcome, Parser, then_, found, is_mark, sees, eat, eat_word, one_more}
-use Rattle.token_reading.proofs.Steps.{ate_word, then_is, found_some, found_none, cond_true, cond_false}
+use Rattle.token_reading.specs.Outcome.{Outcome, Parser, then_, found, sees, eat_word, one_more}
+use Rattle.token_reading.proofs.Steps.{ate_word, then_is, cond_true, cond_false}
 use Rattle.token_reading.proofs.Says.{Says, Takes, carry, says_then, says_found, says_cond}
 use Rattle.wdl_parse_doc.specs.Context.{Cause}
 use Rattle.wdl_parse_parts.specs.Grammar.{Each, IfThere}

@@ -1,15 +1,13 @@
 -- Marks, words, names and the parts that expressions and types are, as formats.
-use Rattle.std.proofs.Common.{◌≡◌, inl, inr, ℕ, Bool, true, false, cond, ◌||◌, List, [], ◌∷◌, ◌++◌, Option, Some, None, Ok, refl, ap, sym, ◌∙◌, subst, append_assoc}
+use Rattle.std.proofs.Common.{◌≡◌, inl, inr, ℕ, true, false, List, [], ◌∷◌, ◌++◌, Option, Some, None, Ok, refl, ap, sym, ◌∙◌, subst, append_assoc}
 use Rattle.std.specs.Str.{bytes_eq}
 use Rattle.std.proofs.lemmas.Slice.Eq.{bytes_eq-Decides}
 use Rattle.wdl_base.specs.declared.span.Span.{Span}
-use Rattle.wdl_base.specs.Names.{is_name}
 use Rattle.wdl_ast.specs.declared.token.Mark.{Mark}
 use Rattle.wdl_ast.specs.declared.token.Mark.TheVariants as mark
 use Rattle.wdl_ast.specs.declared.token.Fence.{Fence}
 use Rattle.wdl_ast.specs.declared.token.Kind.{Kind}
 use Rattle.wdl_ast.specs.declared.token.Kind.TheVariants as kind
-use Rattle.wdl_ast.specs.declared.token.Token.{Token}
 use Rattle.wdl_ast.specs.declared.leaf.Ident.{Ident}
 use Rattle.wdl_ast.specs.declared.leaf.Word.{Word}
 use Rattle.wdl_ast.specs.declared.leaf.PlainString.{PlainString}
@@ -21,12 +19,12 @@ use Rattle.wdl_ast.specs.declared.type_tree.TypeTree.{TypeTree}
 use Rattle.wdl_ast.specs.Words.{Words, at, marked, keyword, ident, word, comma, plain_words, parts_words, words, type_words}
 use Rattle.token_reading.specs.declared.fault.Fault.{Fault}
 use Rattle.wdl_parse_expr.specs.Context.{Points, ExprCause, TypeCause}
-use Rattle.token_reading.specs.Outcome.{Outcome, Parser, then_, found, is_mark, eat, eat_word, ident_at}
+use Rattle.token_reading.specs.Outcome.{is_mark, eat, eat_word, ident_at}
 use Rattle.wdl_parse_expr.specs.Grammar.{max_depth, IsExpr, AreParts}
 use Rattle.token_reading.specs.TypeGrammar.{IsType}
 use Rattle.token_reading.specs.Strings.{plain}
 use Rattle.wdl_parse_expr.specs.Contract.{expr_continues, type_continues, read_expr, read_type, read_parts}
-use Rattle.token_reading.proofs.Steps.{ate, ate_word, ate_ident, sees_ident, then_is, found_some, found_none, cond_true}
+use Rattle.token_reading.proofs.Steps.{ate, ate_word, ate_ident, sees_ident, found_some, found_none, cond_true}
 use Rattle.token_reading.proofs.Says.{Says, Takes, says_found}
 use Rattle.token_reading.proofs.Strings.{Quiet, plain_sound, plain_full}
 use Rattle.wdl_parse_expr.proofs.Readers.{expr_reads, expr_read, type_reads, type_read, parts_reads, parts_read}

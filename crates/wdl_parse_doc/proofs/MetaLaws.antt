@@ -1,5 +1,5 @@
 -- Metadata, read and written.
-use Rattle.std.proofs.Common.{◌≡◌, ℕ, zero, suc, ◌+◌, ◌<◌, ◌≤◌, Bool, true, false, cond, inl, inr, List, [], ◌∷◌, ◌++◌, length, Option, Some, None, Ok, refl, ap, sym, ◌∙◌, subst, append_assoc, length-append, arith, codes}
+use Rattle.std.proofs.Common.{◌≡◌, ℕ, zero, suc, ◌+◌, ◌<◌, Bool, true, false, inr, List, [], ◌∷◌, ◌++◌, length, Option, Some, None, Ok, refl, ap, sym, ◌∙◌, subst, append_assoc, arith, codes}
 use Rattle.wdl_base.specs.declared.span.Span.{Span}
 use Rattle.wdl_ast.specs.declared.token.Mark.{Mark}
 use Rattle.wdl_ast.specs.declared.token.Mark.TheVariants as mark
@@ -16,15 +16,14 @@ use Rattle.wdl_ast.specs.declared.meta.MetaValue.TheVariants as meta
 use Rattle.wdl_ast.specs.Words.{Words, at, marked, keyword, comma, mark_words, plain_words, items_words, attributes_words, number_words, meta_words}
 use Rattle.wdl_ast.specs.DocumentWords.{each}
 use Rattle.wdl_ast.proofs.WordLaws.{meta_null, meta_true, meta_false, meta_number, meta_str, meta_object, meta_list}
-use Rattle.token_reading.specs.Outcome.{Outcome, Parser, then_, found, too_deep, is_mark, sees, eat, eat_word}
-use Rattle.token_reading.specs.Strings.{plain}
-use Rattle.token_reading.proofs.Steps.{ate, ate_word, then_is, found_some, found_none, cond_true, cond_false}
+use Rattle.token_reading.specs.Outcome.{Parser, found, too_deep, is_mark, sees, eat, eat_word}
+use Rattle.token_reading.proofs.Steps.{ate, ate_word, then_is, cond_true, cond_false}
 use Rattle.token_reading.proofs.Says.{Says, Takes, says_then, says_found, says_cond}
 use Rattle.wdl_parse_doc.specs.Context as ctx
 use Rattle.wdl_parse_doc.specs.Context.{MetaPlace, an_entry, a_value, OpenMeta}
 use Rattle.wdl_parse_parts.specs.Grammar as g
 use Rattle.wdl_parse_parts.specs.Grammar.{Each, commas_fit, IsMetaOver, MetaWithin, max_meta_depth}
-use Rattle.wdl_parse_parts.specs.Reading.Parts.{need, until, item, attribute}
+use Rattle.wdl_parse_parts.specs.Reading.Parts.{need, item, attribute}
 use Rattle.wdl_parse_parts.specs.Reading.Metadata as r
 use Rattle.wdl_parse_parts.specs.Reading.Metadata.{number_of, number_at, meta_at}
 use Rattle.wdl_parse_doc.proofs.Formats.{Doc, SoundAt, Format, Parts, starts_some, next, goes, listed, parts_until, until_ends}

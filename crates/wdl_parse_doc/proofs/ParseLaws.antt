@@ -1,13 +1,10 @@
 -- What the reader of documents answers, by the grammar alone.
-use Rattle.std.proofs.Common.{◌≡◌, ℕ, Bool, true, false, ◌⊎◌, inl, inr, List, [], ◌∷◌, ◌++◌, Result, Ok, Err, refl, ap, sym, ◌∙◌, subst, codes}
+use Rattle.std.proofs.Common.{◌≡◌, true, false, inl, inr, List, [], ◌∷◌, Ok, Err, refl, ap, sym, ◌∙◌, subst, codes}
 use Rattle.wdl_base.specs.declared.span.Span.{Span}
 use Rattle.wdl_ast.specs.declared.token.Kind.TheVariants as kind
-use Rattle.wdl_ast.specs.declared.token.Token.{Token}
 use Rattle.wdl_ast.specs.declared.document.Section.{Section}
 use Rattle.wdl_ast.specs.declared.document.Document.{Document}
 use Rattle.wdl_ast.specs.Words.{Words, at, keyword}
-use Rattle.wdl_ast.specs.DocumentWords.{each, section_words, document_words}
-use Rattle.token_reading.specs.declared.fault.Fault.{Fault}
 use Rattle.token_reading.specs.declared.fault.Refusal.{Refusal}
 use Rattle.token_reading.specs.declared.fault.Refusal.TheVariants.{Missing, Bad}
 use Rattle.token_reading.specs.declared.fault.RuleStop.{RuleStop}
@@ -16,12 +13,10 @@ use Rattle.token_reading.specs.declared.fault.ParseFault.{ParseFault}
 use Rattle.token_reading.specs.declared.fault.ParseFault.TheVariants as fault
 use Rattle.token_reading.specs.Outcome.{Fails}
 use Rattle.wdl_parse_expr.specs.Contract.{IsSpanOf, IsPlaced, IfBad, FaultOf}
-use Rattle.token_reading.proofs.Steps.{same, done}
+use Rattle.token_reading.proofs.Steps.{same}
 use Rattle.token_reading.proofs.Says.{Says, said, blamed}
 use Rattle.wdl_parse_doc.specs.Context.{first}
-use Rattle.wdl_parse_parts.specs.Grammar.{Each}
-use Rattle.wdl_parse_doc.specs.Grammar.{IsSection, IsDocument}
-use Rattle.wdl_parse_doc.specs.Contract.{Written, IsNoDocument, begins_version, version_span, BehindVersion, Because, RefusesDocument, OneDocument}
+use Rattle.wdl_parse_doc.specs.Contract.{Written, IsNoDocument, begins_version, version_span, BehindVersion, RefusesDocument, OneDocument}
 use Rattle.wdl_parse_doc.specs.Reading.Documents.{sections}
 use Rattle.wdl_parse_doc.proofs.Formats.{Doc}
 use Rattle.wdl_parse_doc.proofs.DocumentLaws.{AllOf, sections_sound, sections_full}

@@ -1,9 +1,7 @@
 -- Declarations, and the sections that tasks and workflows have, read and written.
-use Rattle.std.proofs.Common.{◌≡◌, ℕ, zero, suc, ◌<◌, ◌≤◌, Bool, true, false, List, [], ◌∷◌, ◌++◌, length, Option, Some, None, Ok, refl, ap, sym, ◌∙◌, subst, append_assoc, length-append, arith, codes}
+use Rattle.std.proofs.Common.{◌≡◌, ℕ, false, List, [], ◌∷◌, ◌++◌, Option, Some, None, Ok, refl, ap, sym, ◌∙◌, subst, append_assoc, arith, codes}
 use Rattle.wdl_base.specs.declared.span.Span.{Span}
-use Rattle.wdl_ast.specs.declared.token.Mark.{Mark}
 use Rattle.wdl_ast.specs.declared.token.Mark.TheVariants as mark
-use Rattle.wdl_ast.specs.declared.token.Fence.{Fence}
 use Rattle.wdl_ast.specs.declared.token.Kind.TheVariants as kind
 use Rattle.wdl_ast.specs.declared.leaf.Ident.{Ident}
 use Rattle.wdl_ast.specs.declared.leaf.Attribute.{Attribute}
@@ -18,22 +16,22 @@ use Rattle.wdl_ast.specs.declared.section.InputSection.{InputSection}
 use Rattle.wdl_ast.specs.declared.section.OutputSection.{OutputSection}
 use Rattle.wdl_ast.specs.declared.task.RuntimeSection.{RuntimeSection}
 use Rattle.wdl_ast.specs.declared.task.CommandSection.{CommandSection}
-use Rattle.wdl_ast.specs.Words.{Words, at, marked, keyword, ident, comma, words, type_words, parts_words, attributes_words, meta_words}
+use Rattle.wdl_ast.specs.Words.{Words, at, marked, keyword, ident, comma, words, type_words, parts_words, meta_words}
 use Rattle.wdl_ast.specs.DocumentWords.{each, maybe, declaration_words, assigned_words, input_words, inputs_words, outputs_words, metadata_words, runtime_words, command_words}
-use Rattle.token_reading.specs.Outcome.{Outcome, Parser, then_, found, sees, eat, eat_word}
+use Rattle.token_reading.specs.Outcome.{sees, eat}
 use Rattle.wdl_parse_expr.specs.Contract.{expr_continues}
-use Rattle.token_reading.proofs.Steps.{ate, then_is, found_some, found_none}
-use Rattle.token_reading.proofs.Says.{Says, Takes, says_then, says_found}
+use Rattle.token_reading.proofs.Steps.{ate, found_some, found_none}
+use Rattle.token_reading.proofs.Says.{Says, Takes, says_found}
 use Rattle.wdl_parse_doc.specs.declared.part_list.Braced.{Braced}
 use Rattle.wdl_parse_doc.specs.Context as ctx
 use Rattle.wdl_parse_doc.specs.Context.{Place, IsBody, IsMetaWord, Stands, an_expression}
-use Rattle.wdl_parse_parts.specs.Grammar.{Each, IfThere, IsDeclaration, IsAssigned, IsInput, IsRuntimeAttribute, IsCommand}
+use Rattle.wdl_parse_parts.specs.Grammar.{Each, IfThere, IsDeclaration, IsAssigned, IsInput, IsCommand}
 use Rattle.wdl_parse_doc.specs.Grammar.{IsInputs, IsOutputs, IsMetadata, IsRuntime}
 use Rattle.wdl_parse_doc.specs.Reading.Lists.{braced}
 use Rattle.wdl_parse_doc.specs.Reading.Sections.{metadata}
 use Rattle.wdl_parse_doc.specs.Reading.Sections as r
 use Rattle.wdl_parse_parts.specs.Reading.Declarations as decls
-use Rattle.wdl_parse_doc.proofs.Formats.{Doc, SoundAt, Format, Worded, Parts, starts_some, next, at_once, behind_both, goes, listed, parts_until, until_ends}
+use Rattle.wdl_parse_doc.proofs.Formats.{Doc, SoundAt, Format, Worded, Parts, next, at_once, behind_both, goes, listed, parts_until, until_ends}
 use Rattle.wdl_parse_doc.proofs.Leaves.{Any, a_mark, a_name, an_expr, a_type, a_fence, a_fence_end, command_parts, an_attribute}
 use Rattle.wdl_parse_doc.proofs.Follows.{Settled, settled_expr, settled_eat, settled_comma, comma_expr, type_settled, type_apart, type_some}
 use Rattle.wdl_parse_doc.proofs.MetaLaws.{attributes_each, meta_attributes}

@@ -1,8 +1,6 @@
 -- Heads of blocks, and statements without a body, read and written.
-use Rattle.std.proofs.Common.{◌≡◌, ℕ, ◌<◌, ◌≤◌, Bool, true, false, List, [], ◌∷◌, ◌++◌, length, Option, Some, None, Ok, refl, ap, sym, ◌∙◌, subst, append_assoc, length-append, arith, codes}
-use Rattle.std.proofs.lemmas.List.{append-nil}
+use Rattle.std.proofs.Common.{◌≡◌, ℕ, ◌<◌, false, List, [], ◌∷◌, ◌++◌, length, Option, Some, None, Ok, refl, ap, sym, ◌∙◌, subst, append_assoc, codes}
 use Rattle.wdl_base.specs.declared.span.Span.{Span}
-use Rattle.wdl_ast.specs.declared.token.Mark.{Mark}
 use Rattle.wdl_ast.specs.declared.token.Mark.TheVariants as mark
 use Rattle.wdl_ast.specs.declared.token.Kind.TheVariants as kind
 use Rattle.wdl_ast.specs.declared.section.Declaration.{Declaration}
@@ -11,10 +9,10 @@ use Rattle.wdl_ast.specs.declared.workflow.Scatter.{Scatter}
 use Rattle.wdl_ast.specs.declared.workflow.Conditional.{Conditional}
 use Rattle.wdl_ast.specs.declared.workflow.Statement.{Statement}
 use Rattle.wdl_ast.specs.declared.workflow.Statement.TheVariants as st
-use Rattle.wdl_ast.specs.Words.{Words, at, marked, keyword, ident, words, type_words}
-use Rattle.wdl_ast.specs.DocumentWords.{each, maybe, declaration_words, call_words, statement_words}
+use Rattle.wdl_ast.specs.Words.{Words, marked, keyword, ident, words, type_words}
+use Rattle.wdl_ast.specs.DocumentWords.{each, maybe, declaration_words, statement_words}
 use Rattle.wdl_ast.proofs.StatementLaws.{words_declaration, words_call, words_scatter, words_conditional}
-use Rattle.token_reading.specs.Outcome.{Outcome, Parser, then_, found, is_mark, sees, eat, eat_word}
+use Rattle.token_reading.specs.Outcome.{Outcome, is_mark, sees, eat, eat_word}
 use Rattle.token_reading.proofs.Steps.{ate_word, then_is, found_some, found_none, cond_false}
 use Rattle.token_reading.proofs.Says.{Says, Takes, says_then, says_found}
 use Rattle.wdl_parse_parts.specs.declared.heads.ScatterHead.{ScatterHead}
@@ -24,16 +22,16 @@ use Rattle.wdl_parse_parts.specs.declared.heads.BlockHead.TheVariants as head
 use Rattle.wdl_parse_doc.specs.Context as ctx
 use Rattle.wdl_parse_doc.specs.Context.{Stands}
 use Rattle.wdl_parse_doc.specs.Grammar as g
-use Rattle.wdl_parse_parts.specs.Grammar.{Each, IfThere, IsIdent, IsDeclaration}
+use Rattle.wdl_parse_parts.specs.Grammar.{IfThere, IsIdent, IsDeclaration}
 use Rattle.wdl_parse_doc.specs.Grammar.{IsCall, AreStatements, IsStatement}
 use Rattle.wdl_parse_doc.specs.Reading.Blocks as r
 use Rattle.wdl_parse_parts.specs.Reading.Heads as heads
 use Rattle.wdl_parse_parts.specs.Reading.Heads.{closed, there}
 use Rattle.wdl_parse_expr.specs.Grammar.{IsExpr}
-use Rattle.wdl_parse_doc.proofs.Formats.{Doc, SoundAt, Format, Worded, starts_some, next, at_once, goes, says_worded}
-use Rattle.wdl_parse_doc.proofs.Leaves.{Any, a_mark, a_word, a_name, an_expr}
-use Rattle.wdl_parse_doc.proofs.Follows.{Settled, begins_type, no_call, no_scatter, no_if, type_word, type_some}
-use Rattle.wdl_parse_doc.proofs.SectionLaws.{a_declaration, declaration_follows, declaration_apart}
+use Rattle.wdl_parse_doc.proofs.Formats.{Doc, SoundAt, starts_some, next, at_once, goes, says_worded}
+use Rattle.wdl_parse_doc.proofs.Leaves.{a_mark, a_word, a_name, an_expr}
+use Rattle.wdl_parse_doc.proofs.Follows.{begins_type, no_call, no_scatter, no_if, type_word, type_some}
+use Rattle.wdl_parse_doc.proofs.SectionLaws.{a_declaration, declaration_apart}
 use Rattle.wdl_parse_doc.proofs.CallLaws.{Quiet, a_call, declaration_quiet, word_quiet}
 
 -- ---- heads

@@ -1,9 +1,8 @@
 -- Tasks and workflows, read and written.
-use Rattle.std.proofs.Common.{◌≡◌, ℕ, ◌<◌, ◌≤◌, Bool, true, false, List, [], ◌∷◌, ◌++◌, length, Option, Some, None, Ok, refl, ap, sym, ◌∙◌, subst, append_assoc, length-append, arith, codes}
+use Rattle.std.proofs.Common.{◌≡◌, ℕ, ◌<◌, false, List, [], ◌∷◌, ◌++◌, length, None, Ok, refl, ap, sym, ◌∙◌, subst, append_assoc, arith, codes}
 use Rattle.wdl_base.specs.declared.span.Span.{Span}
 use Rattle.wdl_ast.specs.declared.token.Mark.TheVariants as mark
 use Rattle.wdl_ast.specs.declared.token.Kind.TheVariants as kind
-use Rattle.wdl_ast.specs.declared.leaf.Ident.{Ident}
 use Rattle.wdl_ast.specs.declared.section.Declaration.{Declaration}
 use Rattle.wdl_ast.specs.declared.task.TaskElement.{TaskElement}
 use Rattle.wdl_ast.specs.declared.task.TaskElement.TheVariants as task
@@ -15,23 +14,21 @@ use Rattle.wdl_ast.specs.declared.workflow.Statement.TheVariants as st
 use Rattle.wdl_ast.specs.declared.workflow.Workflow.{Workflow}
 use Rattle.wdl_ast.proofs.StatementLaws.{words_declaration, words_call, words_scatter, words_conditional}
 use Rattle.wdl_ast.specs.Words.{Words, marked, keyword, ident, words, type_words}
-use Rattle.wdl_ast.specs.DocumentWords.{each, declaration_words, task_element_words, task_words, statement_words, workflow_element_words, workflow_words}
-use Rattle.token_reading.specs.Outcome.{Outcome, Parser, then_, found, is_word, sees, eat, eat_word}
-use Rattle.token_reading.proofs.Steps.{then_is, found_some, found_none, cond_true, cond_false}
+use Rattle.wdl_ast.specs.DocumentWords.{declaration_words, task_element_words, task_words, statement_words, workflow_element_words, workflow_words}
+use Rattle.token_reading.specs.Outcome.{found, is_word, sees, eat_word}
+use Rattle.token_reading.proofs.Steps.{then_is, found_none, cond_true, cond_false}
 use Rattle.token_reading.proofs.Says.{Says, Takes, says_cond}
 use Rattle.wdl_parse_doc.specs.declared.part_list.Braced.{Braced}
 use Rattle.wdl_parse_doc.specs.Context as ctx
 use Rattle.wdl_parse_doc.specs.Context.{Stands}
 use Rattle.wdl_parse_doc.specs.Grammar as g
-use Rattle.wdl_parse_parts.specs.Grammar.{Each, IsDeclaration}
+use Rattle.wdl_parse_parts.specs.Grammar.{IsDeclaration}
 use Rattle.wdl_parse_doc.specs.Grammar.{IsTaskElement, are_task_sections, IsTask, IsStatement, IsWorkflowElement, are_workflow_sections, IsWorkflow}
-use Rattle.wdl_parse_parts.specs.Reading.Parts.{until}
-use Rattle.wdl_parse_doc.specs.Reading.Lists.{braced}
 use Rattle.wdl_parse_doc.specs.Reading.Sections.{metadata}
 use Rattle.wdl_parse_doc.specs.Reading.Tasks as r
 use Rattle.wdl_parse_doc.proofs.Formats.{Doc, SoundAt, Format, Worded, Parts, starts_some, next, at_once, behind_both, goes, says_worded, parts_until, until_ends}
 use Rattle.wdl_parse_doc.proofs.Leaves.{Any, a_name}
-use Rattle.wdl_parse_doc.proofs.Follows.{Settled, settled_sees, begins_type, no_input, no_output, no_runtime, no_meta, no_parameter_meta, no_command, type_word, type_some}
+use Rattle.wdl_parse_doc.proofs.Follows.{Settled, begins_type, no_input, no_output, no_runtime, no_meta, no_parameter_meta, no_command, type_word, type_some}
 use Rattle.wdl_parse_doc.proofs.SectionLaws.{in_braces, a_declaration, declaration_follows, declaration_apart, an_input_section, an_output_section, a_runtime_section, a_meta_section, a_command_section}
 use Rattle.wdl_parse_doc.proofs.CallLaws.{Quiet, word_quiet, brace_quiet}
 use Rattle.wdl_parse_doc.proofs.StatementLaws.{statement_quiet}

@@ -1,5 +1,5 @@
 -- Where the parts of a document stand: the tokens in front of one, which are those of whole parts and of the parts that are open.
-use Rattle.std.specs.Prelude.{◌≡◌, ◌⊎◌, ℕ, suc, true, List, [], ◌∷◌, ◌++◌, Option, codes}
+use Rattle.std.specs.Prelude.{◌≡◌, ◌⊎◌, ℕ, suc, List, [], ◌∷◌, ◌++◌, Option, codes}
 use Rattle.wdl_base.specs.declared.span.Span.{Span}
 use Rattle.wdl_ast.specs.declared.token.Mark.TheVariants as mark
 use Rattle.wdl_ast.specs.declared.token.Fence.{Fence}
@@ -25,7 +25,7 @@ use Rattle.wdl_ast.specs.declared.document.StructMember.{StructMember}
 use Rattle.wdl_ast.specs.declared.document.Section.{Section}
 use Rattle.wdl_ast.specs.Words.{Words, at, marked, keyword, ident, word, comma, words, type_words, meta_words}
 use Rattle.wdl_ast.specs.DocumentWords.{each, maybe, declaration_words, input_words, task_element_words, workflow_element_words, statement_words, target_words, renaming_words, after_words, argument_words, struct_member_words, section_words}
-use Rattle.wdl_parse_expr.specs.Context.{Part, an_expr, a_part, Points, ExprCause, TypeCause}
+use Rattle.wdl_parse_expr.specs.Context.{Part, an_expr, a_part, ExprCause, TypeCause}
 use Rattle.wdl_parse_expr.specs.Grammar.{max_depth, IsExpr}
 use Rattle.token_reading.specs.TypeGrammar.{IsType}
 use Rattle.wdl_parse_parts.specs.Grammar.{Each, IfThere, MetaWithin, max_meta_depth, IsIdent, IsDeclaration, IsInput}

@@ -1,6 +1,5 @@
 //! The sections of tasks and workflows that are lists in braces.
 
-ghost use Rattle.std.specs.Prelude.{◌≡◌};
 ghost use Rattle.token_reading.specs.Outcome.{Reads};
 ghost use Rattle.wdl_parse_doc.specs.Reading.Sections as spec;
 

@@ -1,6 +1,5 @@
 //! Calls.
 
-ghost use Rattle.std.specs.Prelude.{◌≡◌, codes};
 ghost use Rattle.token_reading.specs.Outcome.{Reads};
 ghost use Rattle.wdl_parse_doc.specs.Reading.Calls as spec;
 ghost use Rattle.wdl_parse_parts.specs.Reading.Parts as parts;

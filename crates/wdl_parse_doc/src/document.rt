@@ -1,6 +1,6 @@
 //! Whole documents.
 
-ghost use Rattle.std.specs.Prelude.{◌≡◌, ◌∷◌, IfOk, MatchResult, false};
+ghost use Rattle.std.specs.Prelude.{◌≡◌, IfOk, MatchResult, false};
 ghost use Rattle.wdl_ast.specs.declared.token.Kind.TheVariants as kind;
 ghost use Rattle.wdl_parse_expr.specs.Contract.{IfBad};
 ghost use Rattle.wdl_parse_doc.specs.Contract as contract;

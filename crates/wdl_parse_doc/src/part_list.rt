@@ -1,6 +1,5 @@
 //! Lists of parts, which all are read by one loop.
 
-ghost use Rattle.std.specs.Prelude.{◌≡◌, [], length};
 ghost use Rattle.token_reading.specs.Outcome.{Reads};
 ghost use Rattle.wdl_parse_doc.specs.Reading.Lists as spec;
 ghost use Rattle.wdl_parse_parts.specs.Reading.Parts as parts;

@@ -1,6 +1,5 @@
 //! Sections of a document.
 
-ghost use Rattle.std.specs.Prelude.{◌≡◌, codes};
 ghost use Rattle.token_reading.specs.Outcome.{Reads};
 ghost use Rattle.wdl_parse_doc.specs.Reading.Documents as spec;
 

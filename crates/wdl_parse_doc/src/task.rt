@@ -1,6 +1,6 @@
 //! Tasks.
 
-ghost use Rattle.std.specs.Prelude.{◌≡◌, ◌==◌, codes};
+ghost use Rattle.std.specs.Prelude.{◌≡◌, ◌==◌};
 ghost use Rattle.std.specs.List.{count_by};
 ghost use Rattle.token_reading.specs.Outcome.{Reads};
 ghost use Rattle.wdl_parse_doc.specs.Grammar as grammar;

@@ -1,6 +1,6 @@
 //! Workflows.
 
-ghost use Rattle.std.specs.Prelude.{◌≡◌, codes};
+ghost use Rattle.std.specs.Prelude.{◌≡◌};
 ghost use Rattle.token_reading.specs.Outcome.{Reads};
 ghost use Rattle.wdl_parse_doc.specs.Grammar as grammar;
 ghost use Rattle.wdl_parse_doc.specs.Reading.Tasks as spec;

@@ -19,12 +19,12 @@ use Rattle.token_reading.specs.declared.tall.Tall.{Tall}
 use Rattle.token_reading.specs.declared.tall.Chain.{Chain}
 use Rattle.token_reading.specs.declared.tall.Rule.{Rule}
 use Rattle.token_reading.specs.declared.tall.Rule.TheVariants as rule
-use Rattle.token_reading.specs.Outcome.{Outcome, Parser, is_mark, is_word, eat, ident_at, tall, bad, linked, one_more}
+use Rattle.token_reading.specs.Outcome.{Outcome, Parser, is_mark, is_word, eat, ident_at, tall, bad, linked}
 use Rattle.wdl_parse_expr.specs.Grammar as g
-use Rattle.token_reading.specs.Operators.{looseness, binary_at, unary_at}
-use Rattle.wdl_parse_expr.specs.Grammar.{IsPrimary, IsPost, IsUnary, IsRule, IsWhole, IsOf, Tree}
+use Rattle.token_reading.specs.Operators.{unary_at}
+use Rattle.wdl_parse_expr.specs.Grammar.{IsPrimary, IsPost, Tree}
 use Rattle.wdl_parse_expr.specs.Reading as r
-use Rattle.wdl_parse_expr.specs.Reading.{chained, Step, step, turns, expr}
+use Rattle.wdl_parse_expr.specs.Reading.{chained, Step, step, turns}
 use Rattle.wdl_parse_expr.specs.Contract.{continues}
 use Rattle.token_reading.proofs.Steps.{ate, ate_ident, sees_ident, cond_true, then_is, then_bad, attempt_is, attempt_bad, attempt_missing, found_some, found_none}
 use Rattle.token_reading.proofs.Says.{AnyFault, Takes, said}

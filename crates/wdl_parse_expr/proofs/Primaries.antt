@@ -25,14 +25,13 @@ use Rattle.token_reading.specs.declared.tall.Tall.{Tall}
 use Rattle.token_reading.specs.declared.tall.Closed.{Closed}
 use Rattle.token_reading.specs.declared.tall.Rule.{Rule}
 use Rattle.token_reading.specs.declared.tall.Rule.TheVariants as rule
-use Rattle.token_reading.specs.Outcome.{Outcome, Parser, is_mark, is_hole_close, is_str_close, eat_if, eat, ident_at, tall, grown, linked, one_more}
+use Rattle.token_reading.specs.Outcome.{Outcome, Parser, is_mark, is_hole_close, is_str_close, eat_if, eat, ident_at, tall, grown}
 use Rattle.token_reading.specs.Forms.{left_out}
 use Rattle.wdl_parse_expr.specs.Grammar as g
-use Rattle.token_reading.specs.Operators.{looseness, binary_of, binary_at, unary_at}
-use Rattle.wdl_parse_expr.specs.Grammar.{ends_bare, Listed, IsEntry, IsMember, Parts, IsPrimary, IsPost, IsUnary, IsRule, IsWhole, IsOf, Tree}
+use Rattle.wdl_parse_expr.specs.Grammar.{ends_bare, Listed, IsEntry, IsMember, Parts, IsPrimary, Tree}
 use Rattle.wdl_parse_expr.specs.Reading as r
-use Rattle.wdl_parse_expr.specs.Reading.{list_of, chained, leaf, Step, step, expr}
-use Rattle.token_reading.specs.Strings.{option_start, options_at}
+use Rattle.wdl_parse_expr.specs.Reading.{list_of, expr}
+use Rattle.token_reading.specs.Strings.{option_start}
 use Rattle.wdl_parse_expr.specs.Contract.{goes_on, continues}
 use Rattle.token_reading.proofs.Steps.{ate, sees_ident, cond_true, cond_false, then_is, attempt_is, attempt_bad, attempt_missing, found_some, found_none, grown_is}
 use Rattle.token_reading.proofs.Says.{AnyFault, said}

@@ -15,7 +15,7 @@ use Rattle.token_reading.specs.declared.tall.Rule.TheVariants as rule
 use Rattle.token_reading.specs.Outcome.{Outcome, Parser, then_, attempt, is_word, eat_word, tall, grown, linked, one_more}
 use Rattle.wdl_parse_expr.specs.Grammar as g
 use Rattle.token_reading.specs.Operators.{looseness, binary_at, unary_at}
-use Rattle.wdl_parse_expr.specs.Grammar.{ends_in_choice, IsPrimary, IsPost, IsUnary, IsRule, IsWhole, IsOf, Tree}
+use Rattle.wdl_parse_expr.specs.Grammar.{ends_in_choice, IsUnary, IsRule, IsWhole, IsOf, Tree}
 use Rattle.wdl_parse_expr.specs.Reading as r
 use Rattle.wdl_parse_expr.specs.Reading.{chained, Step, step, turns, expr}
 use Rattle.wdl_parse_expr.specs.Contract.{continues}

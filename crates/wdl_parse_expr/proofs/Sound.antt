@@ -34,12 +34,12 @@ use Rattle.token_reading.specs.declared.tall.Rule.TheVariants as rule
 use Rattle.token_reading.specs.Outcome.{Parser, too_deep, is_hole_close, is_str_close, eat_if, eat, eat_word, ident_at, tall, bad, linked, one_more}
 use Rattle.token_reading.specs.Forms.{left_out, is_code, is_open_paren, expr_form}
 use Rattle.wdl_parse_expr.specs.Grammar as g
-use Rattle.token_reading.specs.Operators.{looseness, binary_at, unary_at}
+use Rattle.token_reading.specs.Operators.{binary_at, unary_at}
 use Rattle.wdl_parse_expr.specs.Grammar.{ends_bare, ends_in_choice, Listed, IsEntry, IsMember, Parts, IsPrimary, IsPost, IsUnary, IsRule, IsWhole, IsOf, Tree}
 use Rattle.wdl_parse_expr.specs.Context as ctx
 use Rattle.wdl_parse_expr.specs.Context.{Part, a_rule, an_expr, an_operand, an_item, an_entry, a_member, a_part, Open, IsNode, Link, IsTooDeep, Points, ExprCause}
 use Rattle.wdl_parse_expr.specs.Reading as r
-use Rattle.wdl_parse_expr.specs.Reading.{list_of, chained, leaf, Step, step, turns, expr}
+use Rattle.wdl_parse_expr.specs.Reading.{list_of, chained, Step, step, turns, expr}
 use Rattle.token_reading.specs.Strings.{options_at}
 use Rattle.token_reading.proofs.Steps.{ate, ate_word, ate_ident, ate_hole_close, ate_str_close}
 use Rattle.token_reading.proofs.Says.{fault, AnyFault, Says, Takes, Sound, carry, says_then, says_attempt, says_found, says_cond, says_grown}

@@ -1,12 +1,11 @@
 //! The rules take the reader of expressions as a parameter, so that each is proved by itself.
 #![tactic(auto, using(std::proofs::lemmas::Grind::common_steps), unfolding(token_reading::specs::Outcome::then_, token_reading::specs::Outcome::attempt, token_reading::specs::Outcome::found))]
 
-ghost use Rattle.std.specs.Prelude.{◌≡◌, List};
+ghost use Rattle.std.specs.Prelude.{List};
 ghost use Rattle.wdl_ast.specs.declared.token.Token.{Token};
 ghost use Rattle.token_reading.specs.Outcome as outcome;
 ghost use Rattle.token_reading.specs.Outcome.{Reads};
 ghost use Rattle.wdl_parse_expr.specs.Reading as spec;
-ghost use Rattle.wdl_parse_expr.specs.Grammar as grammar;
 ghost use Rattle.wdl_parse_expr.specs.Nests.{Nests};
 
 mod chain;

@@ -1,6 +1,5 @@
 //! Declarations and commands.
 
-ghost use Rattle.std.specs.Prelude.{◌≡◌};
 ghost use Rattle.token_reading.specs.Outcome.{Reads};
 ghost use Rattle.wdl_parse_expr.specs.Contract as expr;
 ghost use Rattle.wdl_parse_parts.specs.Reading.Parts as parts;

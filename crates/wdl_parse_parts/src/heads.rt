@@ -1,6 +1,6 @@
 //! What stands before the body of a block.
 
-ghost use Rattle.std.specs.Prelude.{◌≡◌, codes};
+ghost use Rattle.std.specs.Prelude.{◌≡◌};
 ghost use Rattle.token_reading.specs.Outcome.{Reads};
 ghost use Rattle.wdl_parse_parts.specs.Reading.Heads as spec;
 

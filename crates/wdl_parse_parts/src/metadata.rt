@@ -1,7 +1,7 @@
 //! Values of metadata. The rules take the reader of the values inside as a parameter, so that each
 //! is proved by itself.
 
-ghost use Rattle.std.specs.Prelude.{◌≡◌, [], length, MatchOption, IfOk, Some, None};
+ghost use Rattle.std.specs.Prelude.{◌≡◌, MatchOption, IfOk, Some, None};
 ghost use Rattle.token_reading.specs.Outcome.{Reads};
 ghost use Rattle.wdl_parse_parts.specs.Nests.{Nests};
 ghost use Rattle.wdl_parse_parts.specs.Grammar.{max_meta_depth};

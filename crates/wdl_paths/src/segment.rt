@@ -1,7 +1,6 @@
 //! The segments of a path, which slashes separate.
 
-ghost use Rattle.std.specs.Prelude.{◌≡◌, ◌++◌, ◌∷◌, ◌&&◌, false, IfOk, OnOk};
-ghost use Rattle.wdl_base.specs.Plain.{has_nul};
+ghost use Rattle.std.specs.Prelude.{◌≡◌, ◌&&◌, false, IfOk, OnOk};
 ghost use Rattle.wdl_paths.specs.Resolve as spec;
 ghost use Rattle.wdl_paths.specs.Resolve.{is_up};
 ghost use Rattle.wdl_paths.specs.Keeping.{IsCut, Keeps, KeepsFolder, any_nul, ends_folder, texts};

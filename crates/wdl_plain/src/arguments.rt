@@ -75,14 +75,8 @@ fn argument<L: Ledger>(
 fn arg_bind(alloc: Global, name: &Name, value: Value) -> Result<Bind, NoMemory>
     ensures { IfOk result (λ b. b ≡ flow.arg_bind name.now value) }
 {
-    let first = name.copy(alloc)?;
-    Ok(Bind {
-        key: Key {
-            first,
-            second: None,
-        },
-        value,
-    })
+    let key = Key::plain(alloc, name)?;
+    Ok(Bind { key, value })
 }
 
 /// The arguments in their order; the first fault is the answer.

@@ -107,13 +107,10 @@ pub fn failed_if(
 fn item_known(alloc: Global, name: &Name, item: &Value) -> Result<Known, NoMemory>
     ensures { IfOk result (λ k. k ≡ record { key = record { first = name.now; second = None }; value = Some item.now }) }
 {
-    let first = name.copy(alloc)?;
+    let key = Key::plain(alloc, name)?;
     let value = item.copy(alloc)?;
     Ok(Known {
-        key: Key {
-            first,
-            second: None,
-        },
+        key,
         value: Some(value),
     })
 }

@@ -65,10 +65,7 @@ pub fn value_given(
 ) -> Result<Option<Value>, NoMemory>
     ensures { IfOk result (λ v. v ≡ lookup (env_in given.now) (plain_key name.now)) }
 {
-    let key = Key {
-        first: name.copy(alloc)?,
-        second: None,
-    };
+    let key = Key::plain(alloc, name)?;
     match given.lookup(&key) {
         Some(value) => Ok(Some(value.copy(alloc)?)),
         None => Ok(None),

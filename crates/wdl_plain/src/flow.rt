@@ -31,10 +31,7 @@ pub struct Flow {
 fn bind_of(alloc: Global, output: &TDecl, names: &KnownNames, env: &mut Env) -> Result<(), NoMemory>
     ensures { OnOk result (env.new ≡ env.old ++ flow.bound_by (plain_key output.now.name) (lookup (env_in names.now) (plain_key output.now.name))) }
 {
-    let key = Key {
-        first: output.name.copy(alloc)?,
-        second: None,
-    };
+    let key = Key::plain(alloc, &output.name)?;
     if let Some(value) = names.lookup(&key) {
         let value = value.copy(alloc)?;
         env.push(Bind { key, value })?;

@@ -1,4 +1,4 @@
-ghost use Rattle.std.specs.Prelude.{◌≡◌, IfOk, IsErrOf};
+ghost use Rattle.std.specs.Prelude.{IfOk, IsErrOf};
 ghost use Rattle.wdl_base.specs.declared.answer.Answer.{Answer as Given};
 ghost use Rattle.wdl_base.specs.declared.request.Request.{Request as AskedOf};
 

@@ -8,7 +8,6 @@ ghost use Rattle.std.specs.Prelude.{
   [],
   Some,
   IfOk,
-  OnErr,
   length,
   vec_len,
   vec_capacity,
@@ -16,7 +15,7 @@ ghost use Rattle.std.specs.Prelude.{
 ghost use Rattle.std.specs.Result.{result_ok};
 ghost use Rattle.wdl_port.specs.Causes.{HasCause};
 ghost use Rattle.wdl_port.specs.Memory as spec;
-ghost use Rattle.wdl_port.specs.Told.{grown, taken};
+ghost use Rattle.wdl_port.specs.Told.{taken};
 
 use crate::fault::WriteFault;
 use crate::memory_shelf::is_listed;

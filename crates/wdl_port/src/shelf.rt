@@ -1,4 +1,4 @@
-ghost use Rattle.std.specs.Prelude.{◌≡◌, ◌↔◌, ℕ, List, Option, Bool, IfOk, IsErrOf, OnOk};
+ghost use Rattle.std.specs.Prelude.{◌≡◌, ◌↔◌, ℕ, List, Option, IfOk, IsErrOf, OnOk};
 ghost use Rattle.wdl_port.specs.Causes.{HasCauseOf};
 ghost use Rattle.wdl_port.specs.Files.{IsFile};
 ghost use Rattle.wdl_port.specs.declared.fault.ReadFault.TheVariants as read;

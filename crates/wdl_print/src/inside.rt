@@ -1,5 +1,4 @@
 ghost use Rattle.std.specs.Prelude.{◌≡◌, ◌∷◌, [], OnOk};
-ghost use Rattle.std.specs.Option.{option_copied};
 ghost use Rattle.wdl_print.specs.TokenText as spec;
 
 use std::alloc::{AllocError, Global};

@@ -1,5 +1,5 @@
 -- The names of files.
-use Rattle.std.proofs.Common.{◌≡◌, ℕ, zero, suc, ◌==◌, Bool, true, false, cond, List, [], ◌∷◌, ◌++◌, length, take, map, Option, Some, None, Bor, refl, sym, ap, subst, ◌∙◌, option_and_then, append-nil}
+use Rattle.std.proofs.Common.{◌≡◌, ℕ, zero, suc, ◌==◌, Bool, true, false, cond, List, [], ◌∷◌, ◌++◌, length, take, Option, Some, None, Bor, refl, sym, ap, subst, ◌∙◌, option_and_then, append-nil}
 use Rattle.std.specs.List.{flat_map, join_by, join_with_byte}
 use Rattle.std.proofs.lemmas.Bool.{or_from, or_parts, true≢false}
 use Rattle.std.proofs.lemmas.List.Concat.{flat_map-cons}

@@ -1,6 +1,5 @@
 //! The values of functions, by the number of their arguments.
 
-ghost use Rattle.std.specs.Prelude.{◌≡◌};
 ghost use Rattle.std.specs.Option.{option_copied};
 ghost use Rattle.wdl_value.specs.Apply as spec;
 ghost use Rattle.wdl_value.specs.Files as files;

@@ -1,6 +1,17 @@
 //! The names of the files of a job, by the texts of their paths alone.
 
-ghost use Rattle.std.specs.Prelude.{◌≡◌, ◌++◌, ◌∷◌, [], Some, None, false, option_map, if◌then◌else◌, IfOk};
+ghost use Rattle.std.specs.Prelude.{
+  ◌≡◌,
+  ◌++◌,
+  ◌∷◌,
+  [],
+  Some,
+  None,
+  false,
+  option_map,
+  if◌then◌else◌,
+  IfOk,
+};
 ghost use Rattle.std.specs.Option.{option_copied, unwrap_or};
 ghost use Rattle.wdl_base.specs.Plain.{has_nul};
 ghost use Rattle.wdl_value.specs.Files as spec;

@@ -1,7 +1,6 @@
 //! `cross`, `zip`, `unzip`, `flatten` and `transpose`.
 
-ghost use Rattle.std.specs.Prelude.{◌≡◌, ◌++◌, ◌==◌, IfOk, IfErr, Ok, map, get_or, length};
-ghost use Rattle.std.specs.List.{flat_map};
+ghost use Rattle.std.specs.Prelude.{◌≡◌, ◌++◌, IfOk, IfErr, Ok, map, get_or};
 ghost use Rattle.wdl_value.specs.Functions as spec;
 ghost use Rattle.wdl_value.specs.declared.value.Value.TheVariants as v;
 ghost use Rattle.wdl_value.specs.Parts as parts;

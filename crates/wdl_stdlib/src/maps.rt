@@ -1,6 +1,6 @@
 //! `as_pairs`, `keys`, `as_map` and `collect_by_key`.
 
-ghost use Rattle.std.specs.Prelude.{◌≡◌, IfOk, OnOk, map, string_bytes, List, ℕ};
+ghost use Rattle.std.specs.Prelude.{◌≡◌, IfOk, map, string_bytes, List};
 ghost use Rattle.wdl_value.specs.Functions as spec;
 ghost use Rattle.wdl_value.specs.declared.value.Value.TheVariants as v;
 ghost use Rattle.wdl_stdlib.specs.Gives.{Gives};

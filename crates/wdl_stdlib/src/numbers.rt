@@ -1,6 +1,6 @@
 //! `min`, `max`, `length` and `range`.
 
-ghost use Rattle.std.specs.Prelude.{◌≡◌, IfOk, Ok};
+ghost use Rattle.std.specs.Prelude.{Ok};
 ghost use Rattle.wdl_value.specs.Functions as spec;
 ghost use Rattle.wdl_value.specs.declared.value.Value.TheVariants as v;
 ghost use Rattle.wdl_stdlib.specs.Gives.{Gives, Makes};

@@ -1,9 +1,7 @@
 //! The values of operators (OpenWDL 1.1, "Expressions").
 
-ghost use Rattle.std.specs.Prelude.{◌≡◌, pos, ◌+ℤ◌, ◌-ℤ◌, ◌*ℤ◌, neg_ℤ, Some, None};
+ghost use Rattle.std.specs.Prelude.{◌≡◌, ◌+ℤ◌, ◌-ℤ◌, ◌*ℤ◌, Some, None};
 ghost use Rattle.wdl_value.specs.Operate as spec;
-ghost use Rattle.wdl_value.specs.Outcome.{and_then};
-ghost use Rattle.wdl_value.specs.Limits.{limited as within_limits};
 ghost use Rattle.wdl_stdlib.specs.Gives.{Gives};
 
 use crate::fault::EvalFault;

@@ -1,10 +1,9 @@
 //! The functions that read files (OpenWDL 1.1, "File Parsing"), by the text of the file.
 
-ghost use Rattle.std.specs.Prelude.{◌≡◌, false, Ok, IfOk, map};
+ghost use Rattle.std.specs.Prelude.{◌≡◌, false, Ok};
 ghost use Rattle.std.specs.Option.{option_copied};
 ghost use Rattle.wdl_base.specs.Plain.{has_nul};
 ghost use Rattle.wdl_value.specs.Reads as spec;
-ghost use Rattle.wdl_value.specs.declared.value.Value.TheVariants as v;
 ghost use Rattle.wdl_stdlib.specs.Gives.{Gives};
 ghost use Rattle.wdl_stdlib.specs.Trims.{CutsEnd};
 

@@ -1,7 +1,7 @@
 //! `prefix`, `suffix`, `quote`, `squote` and `sep`.
 
-ghost use Rattle.std.specs.Prelude.{◌≡◌, ◌++◌, ◌∷◌, [], ◌<◌, IfOk, IfErr, Ok, map};
-ghost use Rattle.std.specs.List.{flat_map, join_by};
+ghost use Rattle.std.specs.Prelude.{◌≡◌, ◌++◌, [], ◌<◌, IfOk, IfErr, Ok};
+ghost use Rattle.std.specs.List.{join_by};
 ghost use Rattle.wdl_value.specs.Functions as spec;
 ghost use Rattle.wdl_value.specs.ValueText.{text_of};
 ghost use Rattle.wdl_value.specs.declared.value.Value.TheVariants as v;

@@ -1,6 +1,21 @@
 //! `glob`: which files of a job a pattern matches.
 
-ghost use Rattle.std.specs.Prelude.{◌≡◌, ◌+◌, ◌<◌, ◌∷◌, [], Some, None, length, IfOk, IfSome, MatchOption, false, ◌==◌, if◌then◌else◌};
+ghost use Rattle.std.specs.Prelude.{
+  ◌≡◌,
+  ◌+◌,
+  ◌<◌,
+  ◌∷◌,
+  [],
+  Some,
+  None,
+  length,
+  IfOk,
+  IfSome,
+  MatchOption,
+  false,
+  ◌==◌,
+  if◌then◌else◌,
+};
 ghost use Rattle.std.specs.Option.{option_copied};
 ghost use Rattle.std.specs.Str.{chars as chars_in};
 ghost use Rattle.wdl_value.specs.Paths as spec;

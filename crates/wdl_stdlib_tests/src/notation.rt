@@ -105,13 +105,17 @@ pub fn values(alloc: Global, text: &str) -> Result<Vec<Value>, Fail> {
     Ok(items)
 }
 
+fn is_value(alloc: Global, value: &Value, expected: &str) -> Result<bool, Fail> {
+    match values(alloc, expected)?.as_slice() {
+        [wanted] => Ok(same_value(value, wanted)),
+        _ => Ok(false),
+    }
+}
+
 /// Whether an outcome is the value that is written so, or the code of that name.
 pub fn is(alloc: Global, outcome: Result<Value, EvalFault>, expected: &str) -> Result<bool, Fail> {
     match outcome {
-        Ok(value) => match values(alloc, expected)?.as_slice() {
-            [wanted] => Ok(same_value(&value, wanted)),
-            _ => Ok(false),
-        },
+        Ok(value) => is_value(alloc, &value, expected),
         Err(EvalFault::Code(code)) => Ok(format!(in alloc; "{code:?}")?.as_str() == expected),
         Err(EvalFault::NoMemory) => Ok(false),
     }

@@ -1,10 +1,8 @@
 -- The answer of the call that finds the struct names and the structs.
-use Rattle.std.proofs.Common.{◌≡◌, ◌≢◌, ◌↔◌, ◌⊎◌, ℕ, zero, suc, ◌+◌, ◌<◌, ◌≤◌, Bool, true, false, not, ◌&&◌, ◌||◌, List, [], ◌∷◌, ◌++◌, map, length, get_or, slice_get, Option, Some, None, Result, Ok, Err, refl, sym, ap, ◌∙◌, subst, arith, inl, inr}
+use Rattle.std.proofs.Common.{◌≡◌, ◌≢◌, ◌↔◌, ℕ, zero, suc, ◌+◌, ◌<◌, Bool, true, false, List, [], ◌∷◌, map, length, slice_get, Option, Some, Ok, Err, refl, sym, ap, ◌∙◌, subst, arith, inl, inr}
 use Rattle.std.specs.Prelude.{Contains}
 use Rattle.std.specs.List.{list_all}
-use Rattle.std.specs.Str.{bytes_eq}
-use Rattle.std.proofs.lemmas.Bool.{true≢false, false≢true, and_parts, and_from, or_left, or_right}
-use Rattle.std.proofs.lemmas.Slice.Eq.{bytes_eq-Decides}
+use Rattle.std.proofs.lemmas.Bool.{true≢false, and_parts, and_from}
 use Rattle.std.proofs.lemmas.Option.{same_Some, none-some}
 use Rattle.wdl_base.specs.declared.span.Span.{Span}
 use Rattle.wdl_base.specs.Names.{is_among}
@@ -18,24 +16,23 @@ use Rattle.wdl_library.specs.declared.doc.Link.{Link}
 use Rattle.wdl_library.specs.declared.doc.StructName.{StructName}
 use Rattle.wdl_library.specs.Sections.{imports_of, sections_of}
 use Rattle.wdl_library.specs.Links.{has_links, has_no_circle}
-use Rattle.wdl_library.specs.Names.{own_names, are_known, names_in, structs_of, structs_at, names_at, has_names, knows_aliases}
-use Rattle.wdl_library.specs.Structs.{Labels, agrees, IsSameStruct, stand_in, stand_at, members_of, members_at, AreSections, HaveSections, AreAlike, HasStructs}
+use Rattle.wdl_library.specs.Names.{own_names, are_known, structs_of, structs_at, names_at, has_names, knows_aliases}
+use Rattle.wdl_library.specs.Structs.{Labels, agrees, stand_in, stand_at, members_of, members_at, AreSections, HaveSections, AreAlike}
 use Rattle.wdl_links.specs.declared.fault.LinkFault.{LinkFault}
 use Rattle.wdl_links.specs.declared.fault.LinkFault.TheVariants as fault
 use Rattle.wdl_links.specs.Circles.{AreReached}
 use Rattle.wdl_structs.specs.Ready.{IsFull, HasStructsBy, stood_by}
-use Rattle.wdl_structs.specs.Classes.{Marks, root, IsLow}
-use Rattle.wdl_structs.specs.Faults.{bare, AreSameDocs, AreStood, HasUnknown, ImportUnknown, DocUnknown, IsUnknownAlias, IsSection, AreUnlike, AreNamed, AreUnnamed, IsAnswer}
-use Rattle.wdl_structs.specs.Tables.{Names, NamesAt, names_of, seen_by, AreSeen, knows_by, all_know}
-use Rattle.wdl_structs.specs.Nodes.{start, total, label_by, stands_from, from_by, all_among, AreClasses, all_stands, with_stands, mark_of, LeadFirst}
+use Rattle.wdl_structs.specs.Classes.{Marks, root}
+use Rattle.wdl_structs.specs.Faults.{bare, AreSameDocs, AreStood, HasUnknown, ImportUnknown, DocUnknown, AreUnlike, AreNamed, AreUnnamed, IsAnswer}
+use Rattle.wdl_structs.specs.Tables.{Names, NamesAt, names_of, AreSeen, knows_by, all_know}
+use Rattle.wdl_structs.specs.Nodes.{start, label_by, stands_from, from_by, all_among, AreClasses, all_stands, with_stands, mark_of}
 use Rattle.wdl_structs.specs.Kept.{Kept, Has, LeadsTo, Keeps, KeepsFrom, DiffersIn, DiffersFrom, KeepsAll, AreDefs, AreFull, AreNamedBy}
-use Rattle.wdl_structs.proofs.ClassLaws.{root_low, root_top, root_itself, by_roots}
+use Rattle.wdl_structs.proofs.ClassLaws.{root_top, root_itself, by_roots}
 use Rattle.wdl_structs.proofs.NameLaws.{among_at, among_place}
 use Rattle.wdl_structs.proofs.NodeLaws.{label_at, no_names, room_at}
-use Rattle.wdl_structs.proofs.SeenLaws.{get_within}
 use Rattle.wdl_structs.proofs.StandLaws.{known_is, seen_own, stands_length, with_bare}
-use Rattle.wdl_structs.proofs.IdentityLaws.{tables_distinct, are_given, all_seen, get_get, get_below, one_class, lead_first, named, names_named, stand_named, bare_named, structs_named, named_is, names_with, agrees_named, agreeing, first_named, joined_named, seen_named}
-use Rattle.wdl_structs.proofs.UniqueLaws.{same_get, same_length, one_names, one_stood, distinct_at}
+use Rattle.wdl_structs.proofs.IdentityLaws.{tables_distinct, all_seen, get_get, get_below, one_class, lead_first, named, names_named, stand_named, bare_named, structs_named, named_is, names_with, agrees_named, agreeing, first_named, joined_named, seen_named}
+use Rattle.wdl_structs.proofs.UniqueLaws.{same_get, same_length, one_names, one_stood}
 use Rattle.wdl_structs.proofs.SameLaws.{none_left, heads, same_linked, same_circle, same_reached}
 use Rattle.wdl_structs.proofs.KeptLaws.{has_one}
 use Rattle.wdl_structs.proofs.StructLaws.{is_declared, defs_at, defs_names, have_section}

@@ -1,5 +1,5 @@
 -- Names in one class are one struct.
-use Rattle.std.proofs.Common.{◌≡◌, ◌↔◌, ◌⊎◌, ℕ, zero, suc, ◌+◌, ◌-◌, ◌<◌, ◌≤◌, Bool, true, false, not, ◌&&◌, ◌||◌, List, [], ◌∷◌, ◌++◌, map, length, get_or, slice_get, Option, Some, None, refl, sym, ap, ◌∙◌, subst, arith, inl, inr}
+use Rattle.std.proofs.Common.{◌≡◌, ◌⊎◌, ℕ, zero, suc, ◌+◌, ◌-◌, ◌<◌, ◌≤◌, Bool, true, false, ◌&&◌, ◌||◌, List, [], ◌∷◌, ◌++◌, map, length, get_or, slice_get, Option, Some, refl, sym, ap, ◌∙◌, subst, arith, inl, inr}
 use Rattle.std.specs.Prelude.{if◌then◌else◌, nat_lt, Contains}
 use Rattle.std.specs.List.{list_all}
 use Rattle.std.specs.Str.{bytes_eq}
@@ -12,20 +12,19 @@ use Rattle.wdl_ast.specs.declared.document.Alias.{Alias}
 use Rattle.wdl_ast.specs.declared.document.Import.{Import}
 use Rattle.wdl_library.specs.declared.doc.Doc.{Doc}
 use Rattle.wdl_library.specs.declared.doc.Link.{Link}
-use Rattle.wdl_library.specs.declared.doc.StructName.{StructName}
 use Rattle.wdl_library.specs.Imports.{uri_of, namespace_of}
 use Rattle.wdl_library.specs.Sections.{imports_of}
 use Rattle.wdl_library.specs.Links.{is_at, are_links, has_links, links_in, links_at}
-use Rattle.wdl_library.specs.Names.{names_eq, once, or_itself, aliases_for, given, given_for, own_names, names_in, structs_at, names_at, imported, seen, has_names}
-use Rattle.wdl_library.specs.Structs.{Labels, all_have, agrees_on, agrees_from, agrees, IsSameStruct, stand_in, stand_at, are_first}
+use Rattle.wdl_library.specs.Names.{names_eq, once, or_itself, aliases_for, given, given_for, own_names, names_in, structs_at, names_at, imported, has_names}
+use Rattle.wdl_library.specs.Structs.{Labels, all_have, agrees_on, agrees, IsSameStruct, stand_in, stand_at, are_first}
 use Rattle.wdl_paths.specs.Resolve.{resolve}
-use Rattle.wdl_structs.specs.Classes.{parent, root, Marks, Follows, IsLow}
+use Rattle.wdl_structs.specs.Classes.{root, Marks, Follows}
 use Rattle.wdl_links.specs.Circles.{AreReached}
 use Rattle.wdl_structs.specs.Faults.{bare}
 use Rattle.wdl_structs.specs.Tables.{Names, NamesAt, names_or, names_of, with_name, with_names, imported_by, seen_by, AreSeen}
 use Rattle.wdl_structs.specs.Nodes.{start, total, label_from, label_by, stands_from, import_by, along_by, from_by, all_among, AreClasses, all_stands, with_stands, mark_of, LeadFirst}
 use Rattle.wdl_structs.proofs.ClassLaws.{root_low, root_top, root_itself, root_follows, by_roots}
-use Rattle.wdl_structs.proofs.NameLaws.{among_at, among_place, eq_itself, distinct_with, with_once}
+use Rattle.wdl_structs.proofs.NameLaws.{among_at, among_place, distinct_with, with_once}
 use Rattle.wdl_structs.proofs.NodeLaws.{label_at, all_both, no_names}
 use Rattle.wdl_structs.proofs.SeenLaws.{get_within}
 use Rattle.wdl_structs.proofs.StandLaws.{stands_names, stands_label, stands_length, with_bare, structs_with, bare_along, from_is, imported_is, names_eq-refl, AreGiven, from_same, seen_imported}

@@ -1,5 +1,5 @@
 -- Steps of the loops that keep members.
-use Rattle.std.proofs.Common.{◌≡◌, ◌≢◌, ◌↔◌, ◌⊎◌, ℕ, zero, suc, ◌+◌, ◌<◌, ◌≤◌, Bool, true, false, ◌&&◌, List, [], ◌∷◌, ◌++◌, map, length, get_or, take, drop, slice_get, Option, Some, None, Result, Ok, Err, refl, sym, ap, ◌∙◌, subst, arith, inl, inr}
+use Rattle.std.proofs.Common.{◌≡◌, ◌⊎◌, ℕ, zero, suc, ◌+◌, ◌<◌, ◌≤◌, true, List, [], ◌∷◌, ◌++◌, map, length, get_or, take, drop, slice_get, Option, Some, Result, Ok, Err, refl, sym, ap, ◌∙◌, subst, arith, inl, inr}
 use Rattle.std.proofs.lemmas.Bool.{and_parts}
 use Rattle.std.proofs.lemmas.List.{drop_more, take_more}
 use Rattle.wdl_base.specs.declared.span.Span.{Span}
@@ -13,7 +13,7 @@ use Rattle.wdl_library.specs.declared.doc.Doc.{Doc}
 use Rattle.wdl_library.specs.declared.doc.StructName.{StructName}
 use Rattle.wdl_library.specs.Names.{names_in, names_at, structs_of}
 use Rattle.wdl_library.specs.Sections.{structs_in, sections_of}
-use Rattle.wdl_library.specs.Structs.{members_of, stand_in}
+use Rattle.wdl_library.specs.Structs.{stand_in}
 use Rattle.wdl_links.specs.declared.fault.LinkFault.{LinkFault}
 use Rattle.wdl_structs.specs.declared.table.Entry.{Entry}
 use Rattle.wdl_structs.specs.Classes.{root}

@@ -1,5 +1,5 @@
 -- Members that are kept.
-use Rattle.std.proofs.Common.{◌≡◌, ◌≢◌, ◌↔◌, ◌⊎◌, ℕ, zero, suc, ◌+◌, ◌<◌, ◌≤◌, Bool, true, false, not, ◌&&◌, List, [], ◌∷◌, ◌++◌, map, length, set, slice_get, Option, Some, None, Result, Ok, Err, refl, sym, ap, ◌∙◌, subst, arith, inl, inr}
+use Rattle.std.proofs.Common.{◌≡◌, ◌≢◌, ◌↔◌, ◌⊎◌, ℕ, ◌+◌, ◌<◌, Bool, true, false, List, [], ◌∷◌, length, set, slice_get, Some, Result, Ok, Err, refl, sym, ap, ◌∙◌, subst, inl, inr}
 use Rattle.std.specs.Prelude.{IfOk}
 use Rattle.std.proofs.lemmas.List.{length-set}
 use Rattle.std.specs.Str.{bytes_eq}
@@ -18,7 +18,7 @@ use Rattle.wdl_links.specs.declared.fault.LinkFault.TheVariants as fault
 use Rattle.wdl_structs.specs.Classes.{root}
 use Rattle.wdl_structs.specs.Members.{same_member, same_members}
 use Rattle.wdl_structs.specs.Tables.{Names}
-use Rattle.wdl_structs.specs.Kept.{Kept, Has, IsKept, LeadsTo, Keeps, DiffersIn, KeepsMore}
+use Rattle.wdl_structs.specs.Kept.{Kept, Has, IsKept, Keeps, DiffersIn, KeepsMore}
 use Rattle.wdl_structs.proofs.NameLaws.{one_place}
 use Rattle.wdl_structs.proofs.SeenLaws.{get_set_same, get_set_other}
 

@@ -1,9 +1,8 @@
 -- Classes of names that are joined along imports.
-use Rattle.std.proofs.Common.{◌≡◌, ◌↔◌, ◌⊎◌, ℕ, zero, suc, ◌+◌, ◌<◌, ◌≤◌, Bool, true, false, not, ◌&&◌, List, [], ◌∷◌, ◌++◌, map, length, take, drop, get_or, slice_get, Option, Some, refl, sym, ap, ◌∙◌, subst, arith, inl, inr}
-use Rattle.std.specs.Prelude.{if◌then◌else◌, OnOk, Result, Ok, Err}
-use Rattle.std.specs.List.{list_all}
+use Rattle.std.proofs.Common.{◌≡◌, ◌↔◌, ℕ, zero, suc, ◌+◌, ◌<◌, ◌≤◌, true, false, not, ◌&&◌, List, [], ◌∷◌, ◌++◌, length, take, drop, get_or, slice_get, Some, refl, sym, ap, ◌∙◌, arith}
+use Rattle.std.specs.Prelude.{OnOk, Result, Ok, Err}
 use Rattle.std.specs.Str.{bytes_eq}
-use Rattle.std.proofs.lemmas.Bool.{true≢false, false≢true, and_parts, and_from, not-true, cond-true, cond-false, false_from_ne_true}
+use Rattle.std.proofs.lemmas.Bool.{true≢false, and_parts, and_from, not-true, cond-true, cond-false, false_from_ne_true}
 use Rattle.std.proofs.lemmas.Slice.Eq.{bytes_eq-Decides}
 use Rattle.std.proofs.lemmas.Option.{same_Some, none-some}
 use Rattle.wdl_base.specs.Names.{is_among}
@@ -16,8 +15,8 @@ use Rattle.wdl_library.specs.Sections.{imports_of}
 use Rattle.wdl_library.specs.Names.{given, given_for}
 use Rattle.wdl_library.specs.Structs.{Labels, all_have, agrees_on}
 use Rattle.wdl_structs.specs.Classes.{parent, Marks, Follows, IsLow, IsJoined}
-use Rattle.wdl_structs.specs.Tables.{Names, NamesAt, names_or, names_of, groups}
-use Rattle.wdl_structs.specs.Nodes.{start, starts_from, total, AreNumbered, label_from, label_by, holds_groups, import_by, along_by, from_by, AreClasses, Test, AreJoined, all_among, groups_among, gives_among}
+use Rattle.wdl_structs.specs.Tables.{Names, NamesAt, names_of, groups}
+use Rattle.wdl_structs.specs.Nodes.{start, starts_from, total, AreNumbered, label_from, label_by, holds_groups, import_by, along_by, from_by, AreClasses, Test, AreJoined, all_among, groups_among}
 use Rattle.wdl_structs.proofs.NameLaws.{among_at, same_among}
 
 -- ---- classes that are joined one after another

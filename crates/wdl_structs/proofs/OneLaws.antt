@@ -1,15 +1,12 @@
 -- Documents with their struct names have one list of structs.
-use Rattle.std.proofs.Common.{◌≡◌, ◌⊎◌, ℕ, ◌+◌, ◌<◌, true, List, [], map, length, slice_get, Option, Some, None, refl, sym, ap, ◌∙◌, subst, arith}
-use Rattle.std.specs.List.{list_all}
+use Rattle.std.proofs.Common.{◌≡◌, ℕ, ◌<◌, true, List, [], map, length, Option, Some, sym, ap, ◌∙◌}
 use Rattle.wdl_base.specs.Names.{is_among}
 use Rattle.wdl_typed.specs.Lists.{are_distinct}
-use Rattle.wdl_value.specs.declared.ty.Member.{Member}
 use Rattle.wdl_value.specs.declared.ty.StructDef.{StructDef}
 use Rattle.wdl_library.specs.declared.doc.Doc.{Doc}
 use Rattle.wdl_library.specs.Links.{has_no_circle}
-use Rattle.wdl_library.specs.Names.{names_in, structs_of, structs_at, names_at, has_names}
-use Rattle.wdl_library.specs.Structs.{Labels, agrees, stand_in, stand_at, members_of, members_at, HasStructs}
-use Rattle.wdl_structs.specs.Tables.{Names, NamesAt}
+use Rattle.wdl_library.specs.Names.{names_in, structs_of, structs_at, names_at}
+use Rattle.wdl_library.specs.Structs.{stand_in, stand_at, members_of, members_at, HasStructs}
 use Rattle.wdl_structs.proofs.NameLaws.{among_place}
 use Rattle.wdl_structs.proofs.StandLaws.{from_is}
 use Rattle.wdl_structs.proofs.UniqueLaws.{seen_at, distinct_at, past, stand_at_place}

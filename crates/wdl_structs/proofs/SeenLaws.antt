@@ -1,5 +1,5 @@
 -- The names that documents see, where those that imported documents see are found first.
-use Rattle.std.proofs.Common.{◌≡◌, ◌⊎◌, ℕ, zero, suc, ◌+◌, ◌<◌, ◌≤◌, Bool, true, false, not, ◌&&◌, List, [], ◌∷◌, ◌++◌, map, length, set, slice_get, slice_set, Option, Some, None, refl, sym, ap, ◌∙◌, subst, arith, inl, inr}
+use Rattle.std.proofs.Common.{◌≡◌, ◌⊎◌, ℕ, zero, suc, ◌+◌, ◌<◌, Bool, true, false, not, ◌&&◌, List, [], ◌∷◌, ◌++◌, length, set, slice_get, slice_set, Option, Some, None, refl, sym, ap, ◌∙◌, subst, arith, inl, inr}
 use Rattle.std.specs.List.{list_all}
 use Rattle.std.specs.Str.{bytes_eq}
 use Rattle.std.proofs.lemmas.Bool.{true≢false, false≢true, and_parts, and_from, not-true, cases_eq, cases_Bool}
@@ -13,8 +13,8 @@ use Rattle.wdl_library.specs.Sections.{imports_of}
 use Rattle.wdl_library.specs.Links.{is_at, are_links, has_links, links_in, links_at, ends_within, each_ends, has_no_circle}
 use Rattle.wdl_library.specs.Names.{once, given, own_names}
 use Rattle.wdl_paths.specs.Resolve.{resolve}
-use Rattle.wdl_links.specs.Circles.{is_marked, all_marked, unmarked, is_next, NoneIsNext}
-use Rattle.wdl_links.proofs.CircleLemmas.{unmarked-set, set_keeps as marked_kept, at_some, not_and}
+use Rattle.wdl_links.specs.Circles.{is_marked, all_marked, is_next, NoneIsNext}
+use Rattle.wdl_links.proofs.CircleLemmas.{set_keeps as marked_kept, at_some, not_and}
 use Rattle.wdl_structs.specs.Tables.{Names, NamesAt, names_or, names_of, imported_by, seen_by, AreSeen}
 use Rattle.wdl_base.proofs.Options.{item_there, all_at}
 

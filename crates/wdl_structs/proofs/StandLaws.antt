@@ -1,28 +1,24 @@
 -- The names that stand for structs, by classes.
-use Rattle.std.proofs.Common.{◌≡◌, ◌↔◌, ◌⊎◌, ℕ, zero, suc, ◌+◌, ◌-◌, ◌<◌, ◌≤◌, Bool, true, false, not, ◌&&◌, ◌||◌, List, [], ◌∷◌, ◌++◌, map, length, get_or, slice_get, Option, Some, None, refl, sym, ap, ◌∙◌, subst, arith, inl, inr}
-use Rattle.std.specs.Prelude.{if◌then◌else◌, nat_lt, filter, Contains}
-use Rattle.std.specs.List.{list_all}
+use Rattle.std.proofs.Common.{◌≡◌, ◌⊎◌, ℕ, zero, suc, ◌+◌, ◌-◌, Bool, true, false, not, ◌&&◌, ◌||◌, List, [], ◌∷◌, ◌++◌, map, length, refl, sym, ap, ◌∙◌, arith, inl, inr}
+use Rattle.std.specs.Prelude.{if◌then◌else◌, filter}
 use Rattle.std.specs.Str.{bytes_eq}
-use Rattle.std.proofs.lemmas.Bool.{true≢false, false≢true, and_parts, and_from, or_left, or_right, or_cases, not-true, cond-true, cond-false, false_from_ne_true, cases_lt, lt-ltb, le-ltb, cases_Bool}
+use Rattle.std.proofs.lemmas.Bool.{true≢false, false≢true, and_parts, and_from, or_left, or_right, or_cases, cases_Bool}
 use Rattle.std.proofs.lemmas.Slice.Eq.{bytes_eq-Decides}
-use Rattle.std.proofs.lemmas.Option.{same_Some, none-some}
 use Rattle.wdl_base.specs.Names.{is_among}
-use Rattle.wdl_typed.specs.Lists.{has_name, are_distinct}
 use Rattle.wdl_ast.specs.declared.document.Alias.{Alias}
 use Rattle.wdl_ast.specs.declared.document.Import.{Import}
 use Rattle.wdl_library.specs.declared.doc.Doc.{Doc}
 use Rattle.wdl_library.specs.declared.doc.Link.{Link}
 use Rattle.wdl_library.specs.declared.doc.StructName.{StructName}
 use Rattle.wdl_library.specs.Sections.{imports_of}
-use Rattle.wdl_library.specs.Names.{names_eq, once, given, given_for, own_names, names_in, structs_of, structs_at, names_at, imported, seen, has_names, are_known, knows_aliases, imports_are_known}
-use Rattle.wdl_library.specs.Structs.{Labels, all_have, agrees_on, agrees_along, agrees_from, agrees, IsSameStruct, stand_in, stand_at, are_first}
-use Rattle.wdl_structs.specs.Classes.{parent, root, Marks, Follows, IsLow}
+use Rattle.wdl_library.specs.Names.{names_eq, once, given, given_for, own_names, names_in, structs_at, names_at, imported, are_known, imports_are_known}
+use Rattle.wdl_library.specs.Structs.{Labels, all_have, agrees_on, agrees_along, agrees_from, stand_in}
+use Rattle.wdl_structs.specs.Classes.{Marks}
 use Rattle.wdl_structs.specs.Faults.{bare, AreSameDocs}
-use Rattle.wdl_structs.specs.Tables.{Names, NamesAt, names_or, names_of, imported_by, seen_by, AreSeen, knows_by}
-use Rattle.wdl_structs.specs.Nodes.{start, total, label_from, label_by, stands_from, import_by, along_by, from_by, all_among, AreClasses, all_stands, with_stands, mark_of, LeadFirst}
-use Rattle.wdl_structs.proofs.ClassLaws.{root_low, root_follows, by_roots}
-use Rattle.wdl_structs.proofs.NameLaws.{among_at, among_place, eq_itself, among_append}
-use Rattle.wdl_structs.proofs.NodeLaws.{label_at, all_both, no_names}
+use Rattle.wdl_structs.specs.Tables.{Names, NamesAt, names_of, imported_by, seen_by, knows_by}
+use Rattle.wdl_structs.specs.Nodes.{start, label_from, stands_from, import_by, along_by, from_by, all_among, all_stands, with_stands}
+use Rattle.wdl_structs.proofs.NameLaws.{eq_itself, among_append}
+use Rattle.wdl_structs.proofs.NodeLaws.{all_both}
 
 -- ---- names with those that stand for them
 

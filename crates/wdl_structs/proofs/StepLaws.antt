@@ -1,6 +1,6 @@
 -- Steps of the loops over the sections of a document.
-use Rattle.std.proofs.Common.{rules, ◌≡◌, ℕ, suc, ◌+◌, ◌-◌, ◌<◌, ◌≤◌, Bool, true, false, ◌&&◌, ◌⊎◌, List, [], ◌∷◌, ◌++◌, map, length, get_or, set, take, drop, refl, sym, ap, ◌∙◌, subst, arith, inl, inr}
-use Rattle.std.proofs.lemmas.List.{take_more, drop_more}
+use Rattle.std.proofs.Common.{◌≡◌, ℕ, suc, ◌+◌, ◌-◌, ◌<◌, ◌≤◌, true, ◌&&◌, List, [], ◌∷◌, ◌++◌, map, length, get_or, take, drop, refl, sym, ap, ◌∙◌, subst, arith, inl, inr}
+use Rattle.std.proofs.lemmas.List.{drop_more}
 use Rattle.wdl_base.specs.declared.span.Span.{Span}
 use Rattle.wdl_base.specs.Names.{is_among}
 use Rattle.wdl_ast.specs.declared.document.Alias.{Alias}
@@ -9,7 +9,7 @@ use Rattle.wdl_ast.specs.declared.document.Section.{Section}
 use Rattle.wdl_ast.specs.declared.document.Section.TheVariants as section
 use Rattle.wdl_library.specs.declared.doc.Doc.{Doc}
 use Rattle.wdl_library.specs.declared.doc.Link.{Link}
-use Rattle.wdl_library.specs.Sections.{imports_in, structs_in, imports_of, sections_of}
+use Rattle.wdl_library.specs.Sections.{imports_in, structs_in, imports_of}
 use Rattle.wdl_library.specs.Names.{given, once, own_names, are_known}
 use Rattle.wdl_links.proofs.WantLemmas.{next_section}
 use Rattle.wdl_structs.specs.Faults.{HasUnknown, ImportUnknown}

@@ -1,12 +1,11 @@
 -- The structs of documents.
-use Rattle.std.proofs.Common.{◌≡◌, ◌≢◌, ◌↔◌, ◌⊎◌, ℕ, zero, suc, ◌+◌, ◌<◌, ◌≤◌, Bool, true, false, not, ◌&&◌, ◌||◌, List, [], ◌∷◌, ◌++◌, map, length, get_or, slice_get, Option, Some, None, refl, sym, ap, ◌∙◌, subst, arith, inl, inr}
-use Rattle.std.specs.Prelude.{if◌then◌else◌, filter, Contains}
+use Rattle.std.proofs.Common.{◌≡◌, ◌≢◌, ℕ, zero, suc, ◌+◌, ◌<◌, Bool, true, false, not, List, [], ◌∷◌, ◌++◌, map, length, slice_get, Option, Some, refl, sym, ap, ◌∙◌, subst, arith, inl, inr}
+use Rattle.std.specs.Prelude.{if◌then◌else◌, filter}
 use Rattle.std.specs.List.{list_all}
 use Rattle.std.specs.Str.{bytes_eq}
-use Rattle.std.proofs.lemmas.Bool.{true≢false, false≢true, and_parts, and_from, or_left, or_right, or_cases, not-true, cond-true, cond-false, false_from_ne_true, cases_Bool}
+use Rattle.std.proofs.lemmas.Bool.{true≢false, false≢true, and_parts, or_left, or_right, or_cases, not-true, cond-true, cond-false, false_from_ne_true}
 use Rattle.std.proofs.lemmas.Slice.Eq.{bytes_eq-Decides}
 use Rattle.std.proofs.lemmas.Option.{same_Some, none-some}
-use Rattle.wdl_base.specs.declared.span.Span.{Span}
 use Rattle.wdl_base.specs.Names.{is_among}
 use Rattle.wdl_typed.specs.Lists.{has_name, are_distinct}
 use Rattle.wdl_value.specs.declared.ty.Member.{Member}
@@ -18,20 +17,16 @@ use Rattle.wdl_library.specs.declared.doc.Doc.{Doc}
 use Rattle.wdl_library.specs.declared.doc.Link.{Link}
 use Rattle.wdl_library.specs.declared.doc.StructName.{StructName}
 use Rattle.wdl_library.specs.Sections.{imports_of, sections_of}
-use Rattle.wdl_library.specs.Links.{has_links, links_in, links_at, ends_within, has_no_circle}
-use Rattle.wdl_library.specs.Names.{once, given, given_for, own_names, names_in, structs_of, structs_at, names_at, has_names}
-use Rattle.wdl_library.specs.Structs.{Labels, all_have, agrees_on, agrees, IsSameStruct, stand_in, stand_at, members_of, members_at, AreSections, HaveSections, AreAlike, HasStructs}
+use Rattle.wdl_library.specs.Links.{links_in, ends_within, has_no_circle}
+use Rattle.wdl_library.specs.Names.{once, given, given_for, own_names}
+use Rattle.wdl_library.specs.Structs.{Labels, all_have, stand_in, members_of, members_at, AreSections, HaveSections, AreAlike}
 use Rattle.wdl_structs.specs.Classes.{root}
-use Rattle.wdl_links.specs.Circles.{AreReached}
-use Rattle.wdl_structs.specs.Faults.{AreSameDocs}
 use Rattle.wdl_structs.specs.Tables.{Names, NamesAt, imported_by, seen_by}
-use Rattle.wdl_structs.specs.Nodes.{import_by, along_by, from_by}
-use Rattle.wdl_structs.specs.Kept.{Kept, Has, LeadsTo, AreDefs}
-use Rattle.wdl_structs.proofs.NameLaws.{among_at, among_place, among_append, eq_itself, same_among, one_place}
-use Rattle.wdl_structs.proofs.SeenLaws.{get_within, ends_at}
-use Rattle.wdl_structs.proofs.StandLaws.{from_is}
-use Rattle.wdl_structs.proofs.IdentityLaws.{from_at, along_at, agrees_at, import_there}
-use Rattle.wdl_structs.proofs.KeptLaws.{has_one}
+use Rattle.wdl_structs.specs.Nodes.{along_by, from_by}
+use Rattle.wdl_structs.specs.Kept.{Kept, Has, AreDefs}
+use Rattle.wdl_structs.proofs.NameLaws.{among_at, among_append, eq_itself, same_among}
+use Rattle.wdl_structs.proofs.SeenLaws.{ends_at}
+use Rattle.wdl_structs.proofs.IdentityLaws.{from_at, along_at, agrees_at}
 use Rattle.wdl_base.proofs.Options.{item_there, all_at}
 
 -- ---- each name is that of a section

@@ -1,5 +1,5 @@
 -- Names in tables.
-use Rattle.std.proofs.Common.{◌≡◌, ◌⊎◌, ℕ, zero, suc, ◌+◌, ◌<◌, Bool, true, false, not, ◌&&◌, ◌||◌, List, [], ◌∷◌, ◌++◌, map, length, get_or, set, slice_get, take, Option, Some, None, option_and_then, refl, sym, ap, ◌∙◌, subst, arith, inl, inr}
+use Rattle.std.proofs.Common.{◌≡◌, ℕ, zero, suc, ◌+◌, ◌<◌, Bool, true, false, not, ◌||◌, List, [], ◌∷◌, ◌++◌, map, length, get_or, set, slice_get, take, Option, Some, None, option_and_then, refl, sym, ap, ◌∙◌, arith}
 use Rattle.std.specs.Prelude.{if◌then◌else◌, IfSome, IfNone, OnOk, Result, Ok, Err}
 use Rattle.std.specs.Result.{is_err}
 use Rattle.std.specs.Option.{is_some}
@@ -12,7 +12,7 @@ use Rattle.std.proofs.lemmas.Option.{none-some, same_Some}
 use Rattle.wdl_base.specs.Names.{is_among}
 use Rattle.wdl_typed.specs.Lists.{has_name, are_distinct}
 use Rattle.wdl_ast.specs.declared.document.Alias.{Alias}
-use Rattle.wdl_library.specs.Names.{aliases_for, or_itself}
+use Rattle.wdl_library.specs.Names.{aliases_for}
 use Rattle.wdl_structs.specs.declared.table.Entry.{Entry}
 use Rattle.wdl_structs.specs.Tables.{Names, named}
 use Rattle.wdl_structs.proofs.NameLaws.{among_at, same_among, distinct_push}

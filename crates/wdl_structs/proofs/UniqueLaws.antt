@@ -1,35 +1,29 @@
 -- Documents have their struct names and their structs in one way.
-use Rattle.std.proofs.Common.{◌≡◌, ◌↔◌, ◌⊎◌, ℕ, zero, suc, ◌+◌, ◌-◌, ◌<◌, ◌≤◌, Bool, true, false, not, ◌&&◌, ◌||◌, List, [], ◌∷◌, ◌++◌, map, length, get_or, slice_get, Option, Some, None, refl, sym, ap, ◌∙◌, subst, arith, inl, inr}
-use Rattle.std.specs.Prelude.{if◌then◌else◌, filter, Contains}
+use Rattle.std.proofs.Common.{◌≡◌, ◌⊎◌, ℕ, zero, suc, ◌+◌, ◌-◌, ◌<◌, ◌≤◌, Bool, true, false, not, ◌||◌, List, [], ◌∷◌, ◌++◌, map, length, get_or, slice_get, Option, Some, None, refl, sym, ap, ◌∙◌, subst, arith, inl, inr}
+use Rattle.std.specs.Prelude.{if◌then◌else◌}
 use Rattle.std.specs.List.{list_all}
 use Rattle.std.specs.Str.{bytes_eq}
-use Rattle.std.proofs.lemmas.Bool.{true≢false, false≢true, and_parts, and_from, or_left, or_right, or_cases, not-true, cond-true, cond-false, false_from_ne_true, cases_Bool, cases_eq}
+use Rattle.std.proofs.lemmas.Bool.{true≢false, false≢true, and_parts, or_left, or_right, or_cases, not-true, cond-true, cond-false, false_from_ne_true}
 use Rattle.std.proofs.lemmas.Slice.Eq.{bytes_eq-Decides}
 use Rattle.std.proofs.lemmas.Option.{same_Some, none-some}
-use Rattle.wdl_base.specs.declared.span.Span.{Span}
 use Rattle.wdl_base.specs.Names.{is_among}
 use Rattle.wdl_typed.specs.Lists.{has_name, are_distinct}
-use Rattle.wdl_value.specs.declared.ty.Member.{Member}
-use Rattle.wdl_value.specs.declared.ty.StructDef.{StructDef}
-use Rattle.wdl_ast.specs.declared.document.Alias.{Alias}
 use Rattle.wdl_ast.specs.declared.document.Import.{Import}
-use Rattle.wdl_ast.specs.declared.document.StructSection.{StructSection}
 use Rattle.wdl_library.specs.declared.doc.Doc.{Doc}
 use Rattle.wdl_library.specs.declared.doc.Link.{Link}
 use Rattle.wdl_library.specs.declared.doc.StructName.{StructName}
-use Rattle.wdl_library.specs.Sections.{imports_of, sections_of}
-use Rattle.wdl_library.specs.Links.{has_links, links_in, links_at, ends_within, each_ends, has_no_circle}
-use Rattle.wdl_library.specs.Names.{names_eq, once, given, given_for, own_names, names_in, structs_of, structs_at, names_at, imported, seen, has_names}
-use Rattle.wdl_library.specs.Structs.{Labels, all_have, agrees_on, agrees_from, agrees, IsSameStruct, stand_in, stand_at, are_first, members_of, members_at, AreSections, HaveSections, AreAlike, HasStructs}
+use Rattle.wdl_library.specs.Sections.{imports_of}
+use Rattle.wdl_library.specs.Links.{has_links, links_in, ends_within, has_no_circle}
+use Rattle.wdl_library.specs.Names.{names_eq, once, given, own_names, names_in, structs_of, structs_at, names_at, seen, has_names}
+use Rattle.wdl_library.specs.Structs.{Labels, agrees, stand_in, stand_at, are_first}
 use Rattle.wdl_structs.specs.Faults.{bare, AreSameDocs, AreStood}
 use Rattle.wdl_links.specs.Circles.{AreReached}
 use Rattle.wdl_structs.specs.Tables.{Names, NamesAt, imported_by, seen_by}
-use Rattle.wdl_structs.specs.Nodes.{import_by, along_by, from_by, all_among}
-use Rattle.wdl_structs.proofs.NameLaws.{among_at, among_place, among_append, eq_itself, same_among, one_place}
-use Rattle.wdl_structs.proofs.NodeLaws.{no_names}
-use Rattle.wdl_structs.proofs.SeenLaws.{get_within, ends_at}
-use Rattle.wdl_structs.proofs.StandLaws.{bare_along, from_is, imported_is, names_eq-true, AreGiven, seen_imported}
-use Rattle.wdl_structs.proofs.IdentityLaws.{distinct_once, is_first, IsFirst, from_at, along_at, agrees_at, given_from, get_below, some_or as within_or}
+use Rattle.wdl_structs.specs.Nodes.{from_by}
+use Rattle.wdl_structs.proofs.NameLaws.{among_at, among_place, eq_itself, same_among, one_place}
+use Rattle.wdl_structs.proofs.SeenLaws.{ends_at}
+use Rattle.wdl_structs.proofs.StandLaws.{bare_along, from_is, imported_is, names_eq-true, AreGiven}
+use Rattle.wdl_structs.proofs.IdentityLaws.{distinct_once, is_first, given_from, some_or as within_or}
 use Rattle.wdl_base.proofs.Options.{item_there, all_at}
 
 -- ---- documents that differ in their names alone

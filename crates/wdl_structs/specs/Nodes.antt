@@ -1,5 +1,5 @@
 -- A number for each name of each document, and which names are one struct.
-use Rattle.std.specs.Prelude.{◌≡◌, ◌↔◌, ℕ, zero, suc, ◌+◌, ◌<◌, ◌≤◌, Bool, true, ◌&&◌, List, [], ◌∷◌, length, slice_index_or, if◌then◌else◌}
+use Rattle.std.specs.Prelude.{◌≡◌, ◌↔◌, ℕ, zero, suc, ◌+◌, ◌<◌, Bool, true, ◌&&◌, List, [], ◌∷◌, length, slice_index_or, if◌then◌else◌}
 use Rattle.std.specs.List.{list_all}
 use Rattle.std.specs.Str.{bytes_eq}
 use Rattle.wdl_base.specs.Names.{is_among}
@@ -12,7 +12,7 @@ use Rattle.wdl_library.specs.Sections.{imports_of}
 use Rattle.wdl_library.specs.Names.{given}
 use Rattle.wdl_library.specs.Structs.{Labels, all_have, agrees_on}
 use Rattle.wdl_structs.specs.Classes.{Marks, Follows, IsLow, parent, root}
-use Rattle.wdl_structs.specs.Tables.{Names, NamesAt, names_of, imported_by}
+use Rattle.wdl_structs.specs.Tables.{Names, NamesAt, names_of}
 
 -- ---- numbers of names
 

@@ -1,9 +1,8 @@
 //! Whether aliases are those of structs that imported documents see.
 
 ghost use Rattle.std.specs.Prelude.{◌≡◌, true, IfSome, IfNone, IfOk};
-ghost use Rattle.std.specs.List.{list_all};
 ghost use Rattle.wdl_library.specs.Names.{are_known};
-ghost use Rattle.wdl_library.specs.Sections.{imports_in, imports_of};
+ghost use Rattle.wdl_library.specs.Sections.{imports_in};
 ghost use Rattle.wdl_structs.specs.Faults as fault;
 ghost use Rattle.wdl_structs.specs.Tables as spec;
 

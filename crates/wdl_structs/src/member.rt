@@ -1,6 +1,6 @@
 //! The members of struct sections.
 
-ghost use Rattle.std.specs.Prelude.{◌≡◌, true, false, map, length, IfOk};
+ghost use Rattle.std.specs.Prelude.{◌≡◌, true, false, map, IfOk};
 ghost use Rattle.wdl_typed.specs.Lists.{are_distinct};
 ghost use Rattle.wdl_value.specs.declared.ty.Ty.TheVariants as ty;
 ghost use Rattle.wdl_library.specs.Names.{names_in};
@@ -31,33 +31,6 @@ fn standing(
         Some(at) => names[at].stands_for.copy(alloc),
         None => name.copy(alloc),
     }
-}
-
-fn array(alloc: Global, item: Ty, some: bool) -> Result<Ty, NoMemory>
-    ensures { IfOk result (λ t. t ≡ ty.Array item some) }
-{
-    Ok(Ty::Array {
-        item: Boxed::new(alloc, item)?,
-        some,
-    })
-}
-
-fn map(alloc: Global, key: Ty, value: Ty) -> Result<Ty, NoMemory>
-    ensures { IfOk result (λ t. t ≡ ty.Map key value) }
-{
-    Ok(Ty::Map {
-        key: Boxed::new(alloc, key)?,
-        value: Boxed::new(alloc, value)?,
-    })
-}
-
-fn pair(alloc: Global, left: Ty, right: Ty) -> Result<Ty, NoMemory>
-    ensures { IfOk result (λ t. t ≡ ty.Pair left right) }
-{
-    Ok(Ty::Pair {
-        left: Boxed::new(alloc, left)?,
-        right: Boxed::new(alloc, right)?,
-    })
 }
 
 /// The type with its `?`.
@@ -96,7 +69,7 @@ fn after_key(
     ensures { IfOk result (λ t. t ≡ ty.Map key (spec.written_type (spec.stand_in names.now) value.now)) }
 {
     let value = written(alloc, index, names, value)?;
-    map(alloc, key, value)
+    Ty::map_of(alloc, key, value)
 }
 
 #[cycle(written)]
@@ -112,7 +85,7 @@ fn after_left(
     ensures { IfOk result (λ t. t ≡ ty.Pair left (spec.written_type (spec.stand_in names.now) right.now)) }
 {
     let right = written(alloc, index, names, right)?;
-    pair(alloc, left, right)
+    Ty::pair_of(alloc, left, right)
 }
 
 #[cycle(written)]
@@ -134,7 +107,7 @@ fn base(
         BaseType::Struct(ident) => struct_type(alloc, index, names, &ident.name),
         BaseType::Array { item, plus, .. } => {
             let item = written(alloc, index, names, item.get())?;
-            array(alloc, item, plus.is_some())
+            Ty::array_of(alloc, item, plus.is_some())
         }
         BaseType::Map { key, value, .. } => {
             let key = written(alloc, index, names, key.get())?;

@@ -2,7 +2,7 @@
 
 ghost use Rattle.std.specs.Prelude.{◌≡◌, ◌+◌, ◌≤◌, ◌<◌, length, IfOk};
 ghost use Rattle.wdl_structs.specs.Classes as class;
-ghost use Rattle.wdl_structs.specs.Tables.{named, names_of};
+ghost use Rattle.wdl_structs.specs.Tables.{named};
 ghost use Rattle.wdl_structs.specs.Nodes as spec;
 
 use crate::class::least;

@@ -6,7 +6,6 @@ ghost use Rattle.std.specs.Prelude.{
   true,
   length,
   OnOk,
-  IfOk,
   IfSome,
   IfNone,
   Some,

@@ -1,24 +1,12 @@
 //! Statements of a body with other expressions in them.
 
 ghost use Rattle.std.specs.Prelude.{◌≡◌, ◌∷◌, [], IfOk};
-ghost use Rattle.wdl_typed.specs.Declarations as declarations;
 ghost use Rattle.wdl_typed.specs.declared.expr.TExpr.{TExpr};
 ghost use Rattle.wdl_typed.specs.declared.flow.Statement.TheVariants as statement;
 
 use std::alloc::Global;
 use wdl_typed::{Statement, TCall, TDecl, TExpr, TField, TIf, TScatter};
-use wdl_value::{Boxed, Items, Key, Name, NoMemory};
-
-/// The reference of a name.
-pub fn plain_key(alloc: Global, name: &Name) -> Result<Key, NoMemory>
-    ensures { IfOk result (λ k. k ≡ declarations.plain_key name.now) }
-{
-    let first = name.copy(alloc)?;
-    Ok(Key {
-        first,
-        second: None,
-    })
-}
+use wdl_value::{Boxed, Items, Name, NoMemory};
 
 fn copy_names(alloc: Global, names: &[Name]) -> Result<Items<Name>, NoMemory>
     ensures { IfOk result (λ ns. ns ≡ names.now) }

@@ -10,7 +10,7 @@ mod swap;
 mod swapping;
 
 pub use chain::{Chain, Hop, chain_of, copy_chain, expr_of};
-pub use copies::{kept_call, kept_decl, kept_if, kept_scatter, plain_key};
+pub use copies::{kept_call, kept_decl, kept_if, kept_scatter};
 pub use laws::{names_agree, values_agree};
 pub use strays::flow_strays;
 pub use swap::{Swap, swap_at};

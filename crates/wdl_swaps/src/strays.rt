@@ -1,6 +1,6 @@
 //! The names that are used outside the bodies that declare them.
 
-ghost use Rattle.std.specs.Prelude.{◌≡◌, ◌++◌, [], map, IfOk, OnOk};
+ghost use Rattle.std.specs.Prelude.{◌≡◌, ◌++◌, map, IfOk, OnOk};
 ghost use Rattle.references.specs.Names.{argument_names};
 ghost use Rattle.wdl_swaps.specs.Strays as spec;
 

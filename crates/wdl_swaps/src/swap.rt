@@ -1,6 +1,6 @@
 //! What stands in the places of references, and of members behind them.
 
-ghost use Rattle.std.specs.Prelude.{◌≡◌, [], IfOk};
+ghost use Rattle.std.specs.Prelude.{◌≡◌};
 ghost use Rattle.std.specs.Option.{option_copied};
 ghost use Rattle.wdl_swaps.specs.Chains as chain;
 ghost use Rattle.wdl_swaps.specs.Swaps as spec;

@@ -1,6 +1,6 @@
 //! Copies of expressions, with chains in the places of references and of members behind them.
 
-ghost use Rattle.std.specs.Prelude.{◌≡◌, [], IfOk, map, option_map};
+ghost use Rattle.std.specs.Prelude.{◌≡◌, [], IfOk, map};
 ghost use Rattle.wdl_typed.specs.declared.expr.Choice.{Choice};
 ghost use Rattle.wdl_typed.specs.declared.expr.TExpr.TheVariants as form;
 ghost use Rattle.wdl_swaps.specs.Chains as chain;

@@ -1,27 +1,16 @@
 //! Names with their values.
 
 ghost use Rattle.std.specs.Prelude.{◌≡◌, ◌++◌, ◌∷◌, [], IfOk};
-ghost use Rattle.wdl_typed.specs.Declarations.{plain_key as key_of};
 ghost use Rattle.wdl_typed.specs.Requests as spec;
 
 use std::alloc::Global;
 use wdl_value::{Bind, Env, Items, Key, Name, NoMemory, Value};
 
-/// The key of a name that is no output of a call.
-pub fn plain_key(alloc: Global, name: &Name) -> Result<Key, NoMemory>
-    ensures { IfOk result (λ k. k ≡ key_of name.now) }
-{
-    Ok(Key {
-        first: name.copy(alloc)?,
-        second: None,
-    })
-}
-
 /// The names with one more.
 pub fn with_bind(alloc: Global, mut env: Env, name: &Name, value: Value) -> Result<Env, NoMemory>
     ensures { IfOk result (λ e. e ≡ env ++ spec.bind name.now value ∷ []) }
 {
-    let key = plain_key(alloc, name)?;
+    let key = Key::plain(alloc, name)?;
     env.push(Bind { key, value })?;
     Ok(env)
 }

@@ -6,7 +6,7 @@ ghost use Rattle.wdl_task.specs.declared.fault.CallFault.TheVariants.{NoMemory a
 use std::alloc::{AllocError, AllocFailed, Global};
 use thiserror::Error;
 use wdl_eval::EvalFault;
-use wdl_value::{EvalCode, NoMemory, Text, Why};
+use wdl_value::{NoMemory, Text, Why};
 
 /// Why a call gives nothing: the name of the input, declaration or output that has no value (or
 /// `returnCodes`, `maxRetries`, `command` or `status`) with the cause, or want of memory.

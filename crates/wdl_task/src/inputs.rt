@@ -1,21 +1,20 @@
 //! Inputs that a call leaves out.
 
 ghost use Rattle.std.specs.Prelude.{◌≡◌, ◌≤◌, ◌+◌, ◌∷◌, []};
-ghost use Rattle.std.specs.Option.{option_copied};
 ghost use Rattle.wdl_stdlib.specs.Gives.{Gives};
 ghost use Rattle.wdl_typed.specs.Requests as spec;
 ghost use Rattle.wdl_task.specs.Counts.{default_count, default_counts};
 ghost use Rattle.wdl_task.specs.Readiness.{IsDefaultReady, IsInputReady, AreInputsReady};
 ghost use Rattle.wdl_task.specs.Tells.{Tells};
 
-use crate::binding::{plain_key, with_bind};
+use crate::binding::with_bind;
 use crate::fault::{CallFault, named};
 use crate::valued::value_before;
 use std::alloc::Global;
 use std::sync::ledger::Ledger;
 use wdl_eval::{EvalFault, lookup};
 use wdl_typed::TInput;
-use wdl_value::{Env, Steps, Value};
+use wdl_value::{Env, Key, Steps, Value};
 
 /// The default of an input, or undefined.
 fn default_value<L: Ledger>(
@@ -45,7 +44,7 @@ fn with_input<L: Ledger>(
     ensures value { Tells (spec.with_inputs (input.now ∷ []) env) result }
     ensures steps { steps.new ≤ steps.old + default_counts env (input.now ∷ []) }
 {
-    let key = plain_key(alloc, &input.name)?;
+    let key = Key::plain(alloc, &input.name)?;
     if lookup(env.as_slice(), &key).is_some() {
         return Ok(env);
     }

@@ -1,7 +1,6 @@
 //! Functions that write files (OpenWDL 1.1, "File Parsing"): what they lay down, and their value.
 
 ghost use Rattle.std.specs.Prelude.{◌≡◌, ◌+◌, IfOk};
-ghost use Rattle.wdl_value.specs.FunctionTypes as table;
 ghost use Rattle.wdl_stdlib.specs.Gives.{Gives};
 ghost use Rattle.wdl_typed.specs.Evaluation.{value_of};
 ghost use Rattle.wdl_typed.specs.Requests as spec;
@@ -28,12 +27,6 @@ pub struct Laying {
     pub files: Items<Laid>,
 }
 
-fn writes(f: Func) -> bool
-    ensures { result ≡ table.writes f }
-{
-    matches!(f, Func::WriteLines | Func::WriteTsv | Func::WriteMap)
-}
-
 /// The bytes of the names and the bodies, or the greatest number.
 pub fn laid_size(files: &[Laid]) -> u64
     ensures { result ≡ calls.laid_bytes files.now }
@@ -54,7 +47,7 @@ fn call_in(e: &TExpr) -> Option<(Func, &TExpr)>
     ensures { calls.IsCall (calls.call_of e.now) result }
 {
     match e {
-        TExpr::Apply(f, args) if writes(*f) => match args.as_slice() {
+        TExpr::Apply(f, args) if f.writes() => match args.as_slice() {
             [argument, ..] => Some((*f, argument)),
             [] => None,
         },

@@ -1,5 +1,8 @@
+ghost use Rattle.std.specs.Prelude.{◌≡◌};
+ghost use Rattle.wdl_typed.specs.Typing as spec;
+
 use sqlite_items::{Boxed, Items};
-use wdl_value::{Func, Key, Name, Op, Text, Ty, Value};
+use wdl_value::{Func, Key, Name, Op, Text, Ty, Value, bare_type, is_absent, is_bool, is_scalar};
 
 /// A row of a map literal.
 #[derive(Debug, Drop)]
@@ -24,6 +27,23 @@ pub enum Choice {
     Sep(Text),
     Both { yes: Text, no: Text },
     Default(Text),
+}
+
+impl Choice {
+    /// Whether a placeholder with this option takes a value of the type.
+    pub fn takes(&self, t: &Ty) -> bool
+        ensures { result ≡ spec.hole_takes self.now t.now }
+    {
+        match self {
+            Choice::Plain => is_absent(t) || is_scalar(bare_type(t)),
+            Choice::Sep(_) => match t {
+                Ty::Array { item, .. } => is_scalar(item.get()),
+                _ => false,
+            },
+            Choice::Both { .. } => is_bool(bare_type(t)),
+            Choice::Default(_) => is_scalar(bare_type(t)),
+        }
+    }
 }
 
 /// A placeholder.

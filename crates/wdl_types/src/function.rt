@@ -5,7 +5,7 @@ ghost use Rattle.wdl_value.specs.FunctionTypes as spec;
 ghost use Rattle.wdl_value.specs.declared.ty.Ty.TheVariants as ty;
 
 use crate::coercion::coerces;
-use crate::kind::{
+use crate::inner_types::{
     inner_item_of, item_of, item_parts_of, plain_entries_of, plain_item_of, plain_item_parts_of,
 };
 use sqlite_items::{Boxed, Items};
@@ -15,10 +15,7 @@ use wdl_value::{Func, FuncTyping, NoMemory, Ty};
 fn array(alloc: Global, item: Ty) -> Result<Ty, NoMemory>
     ensures { IfOk result (λ t. t ≡ spec.array item) }
 {
-    Ok(Ty::Array {
-        item: Boxed::new(alloc, item)?,
-        some: false,
-    })
+    Ty::array_of(alloc, item, false)
 }
 
 fn array_of(alloc: Global, item: &Ty) -> Result<Ty, NoMemory>
@@ -33,30 +30,12 @@ fn rows_of(alloc: Global, item: &Ty) -> Result<Ty, NoMemory>
     array(alloc, array_of(alloc, item)?)
 }
 
-fn pair_of(alloc: Global, left: Ty, right: Ty) -> Result<Ty, NoMemory>
-    ensures { IfOk result (λ t. t ≡ ty.Pair left right) }
-{
-    Ok(Ty::Pair {
-        left: Boxed::new(alloc, left)?,
-        right: Boxed::new(alloc, right)?,
-    })
-}
-
-fn map_of(alloc: Global, key: Ty, value: Ty) -> Result<Ty, NoMemory>
-    ensures { IfOk result (λ t. t ≡ ty.Map key value) }
-{
-    Ok(Ty::Map {
-        key: Boxed::new(alloc, key)?,
-        value: Boxed::new(alloc, value)?,
-    })
-}
-
 fn pairs_of(alloc: Global, left: &Ty, right: &Ty) -> Result<Ty, NoMemory>
     ensures { IfOk result (λ t. t ≡ spec.array (ty.Pair left.now right.now)) }
 {
     let left = left.copy(alloc)?;
     let right = right.copy(alloc)?;
-    array(alloc, pair_of(alloc, left, right)?)
+    array(alloc, Ty::pair_of(alloc, left, right)?)
 }
 
 fn entries_of(alloc: Global, key: &Ty, value: &Ty) -> Result<Ty, NoMemory>
@@ -64,7 +43,7 @@ fn entries_of(alloc: Global, key: &Ty, value: &Ty) -> Result<Ty, NoMemory>
 {
     let key = key.copy(alloc)?;
     let value = value.copy(alloc)?;
-    map_of(alloc, key, value)
+    Ty::map_of(alloc, key, value)
 }
 
 /// The inner type of an optional, and Empty for that of `None`.
@@ -173,7 +152,7 @@ fn unzip_type(alloc: Global, t: &Ty) -> Result<Option<FuncTyping>, NoMemory>
             let arg = pairs_of(alloc, x, y)?;
             let left = array_of(alloc, x)?;
             let right = array_of(alloc, y)?;
-            unary(alloc, arg, pair_of(alloc, left, right)?)
+            unary(alloc, arg, Ty::pair_of(alloc, left, right)?)
         }
         None => Ok(None),
     }
@@ -223,7 +202,7 @@ fn collect_by_key_type(alloc: Global, t: &Ty) -> Result<Option<FuncTyping>, NoMe
             let arg = pairs_of(alloc, p, y)?;
             let key = p.copy(alloc)?;
             let values = array_of(alloc, y)?;
-            unary(alloc, arg, map_of(alloc, key, values)?)
+            unary(alloc, arg, Ty::map_of(alloc, key, values)?)
         }
         None => Ok(None),
     }
@@ -281,10 +260,10 @@ fn simple_type(alloc: Global, f: Func, t: &Ty) -> Result<Option<FuncTyping>, NoM
         Func::ReadInt => taking(alloc, t, Ty::File, Ty::Int),
         Func::ReadBoolean => taking(alloc, t, Ty::File, Ty::Bool),
         Func::ReadTsv => taking(alloc, t, Ty::File, rows_of(alloc, &Ty::Str)?),
-        Func::ReadMap => taking(alloc, t, Ty::File, map_of(alloc, Ty::Str, Ty::Str)?),
+        Func::ReadMap => taking(alloc, t, Ty::File, Ty::map_of(alloc, Ty::Str, Ty::Str)?),
         Func::WriteLines => taking(alloc, t, array(alloc, Ty::Str)?, Ty::File),
         Func::WriteTsv => taking(alloc, t, rows_of(alloc, &Ty::Str)?, Ty::File),
-        Func::WriteMap => taking(alloc, t, map_of(alloc, Ty::Str, Ty::Str)?, Ty::File),
+        Func::WriteMap => taking(alloc, t, Ty::map_of(alloc, Ty::Str, Ty::Str)?, Ty::File),
         _ => Ok(None),
     }
 }

@@ -5,10 +5,9 @@ ghost use Rattle.wdl_value.specs.Join as spec;
 ghost use Rattle.wdl_value.specs.declared.ty.Ty.{out-Ty, map-Ty};
 ghost use Rattle.wdl_value.specs.declared.ty.Ty.TheVariants as ty;
 
-use crate::kind::{is_absent, is_empty, is_text};
 use sqlite_items::Boxed;
 use std::alloc::Global;
-use wdl_value::{NoMemory, Ty, bare_type};
+use wdl_value::{NoMemory, Ty, bare_type, is_absent, is_empty, is_text};
 
 /// The type to which values of two types are both cast, as the items of one list are (OpenWDL 1.1,
 /// "Array[X]"). None where they have none.
@@ -131,10 +130,7 @@ fn array_of(alloc: Global, item: Option<Ty>, some: bool) -> Result<Option<Ty>, N
     ensures { IfOk result (λ j. j ≡ spec.array_of item some) }
 {
     match item {
-        Some(t) => Ok(Some(Ty::Array {
-            item: Boxed::new(alloc, t)?,
-            some,
-        })),
+        Some(t) => Ok(Some(Ty::array_of(alloc, t, some)?)),
         None => Ok(None),
     }
 }
@@ -143,10 +139,7 @@ fn map_of(alloc: Global, key: Option<Ty>, value: Option<Ty>) -> Result<Option<Ty
     ensures { IfOk result (λ j. j ≡ spec.map_of key value) }
 {
     match (key, value) {
-        (Some(key), Some(value)) => Ok(Some(Ty::Map {
-            key: Boxed::new(alloc, key)?,
-            value: Boxed::new(alloc, value)?,
-        })),
+        (Some(key), Some(value)) => Ok(Some(Ty::map_of(alloc, key, value)?)),
         _ => Ok(None),
     }
 }
@@ -155,10 +148,7 @@ fn pair_of(alloc: Global, left: Option<Ty>, right: Option<Ty>) -> Result<Option<
     ensures { IfOk result (λ j. j ≡ spec.pair_of left right) }
 {
     match (left, right) {
-        (Some(left), Some(right)) => Ok(Some(Ty::Pair {
-            left: Boxed::new(alloc, left)?,
-            right: Boxed::new(alloc, right)?,
-        })),
+        (Some(left), Some(right)) => Ok(Some(Ty::pair_of(alloc, left, right)?)),
         _ => Ok(None),
     }
 }

@@ -4,8 +4,8 @@
 
 mod coercion;
 mod function;
+mod inner_types;
 mod joining;
-mod kind;
 mod operator;
 
 pub use coercion::coerces;

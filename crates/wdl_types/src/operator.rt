@@ -4,10 +4,12 @@ ghost use Rattle.std.specs.Prelude.{◌≡◌, IfOk};
 ghost use Rattle.wdl_value.specs.OperatorTypes as spec;
 
 use crate::joining::join;
-use crate::kind::{is_absent, is_bool, is_empty, is_int, is_scalar, is_str, is_text};
 use sqlite_items::Boxed;
 use std::alloc::Global;
-use wdl_value::{NoMemory, Op, OpTyping, Ty, bare_type, is_optional};
+use wdl_value::{
+    NoMemory, Op, OpTyping, Ty, bare_type, is_absent, is_bool, is_empty, is_int, is_optional,
+    is_scalar, is_str, is_text,
+};
 
 fn row(alloc: Global, left: &Ty, right: &Ty, gives: Ty) -> Result<Option<OpTyping>, NoMemory>
     ensures { IfOk result (λ r. r ≡ spec.row left.now right.now gives) }

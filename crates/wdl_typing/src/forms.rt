@@ -1,6 +1,6 @@
 //! The type of each form of expression, by the types of its parts.
 
-ghost use Rattle.std.specs.Prelude.{◌≡◌, ◌&&◌, ◌||◌, not, Option, IfOk, option_and_then};
+ghost use Rattle.std.specs.Prelude.{◌≡◌, ◌&&◌, ◌||◌, Option, IfOk, option_and_then};
 ghost use Rattle.std.specs.Option.{option_copied};
 ghost use Rattle.wdl_value.specs.Coerces.{coerces as coerces_to};
 ghost use Rattle.wdl_value.specs.Fits.{is_int as in_range};
@@ -11,11 +11,10 @@ ghost use Rattle.wdl_value.specs.declared.ty.Ty.{Ty};
 ghost use Rattle.wdl_value.specs.declared.ty.Ty.TheVariants as ty;
 ghost use Rattle.wdl_typed.specs.Typing as spec;
 
-use crate::kind::{is_bool, is_int, is_plain, reads, writes};
-use sqlite_items::{Boxed, Items};
+use sqlite_items::Items;
 use std::alloc::Global;
 use wdl_types::{FuncTyping, OpTyping, coerces, function_type, operator_type};
-use wdl_value::{Func, NoMemory, Op, Ty, Value};
+use wdl_value::{Func, NoMemory, Op, Ty, Value, is_bool, is_int, is_plain};
 
 /// The type of a number, which has 64 bits.
 fn int_type(n: i64) -> Option<Ty>
@@ -145,19 +144,13 @@ fn list_type(alloc: Global, types: &[Ty]) -> Result<Option<Ty>, NoMemory>
     ensures { IfOk result (λ t. t ≡ spec.list_type types.now) }
 {
     match types {
-        [] => Ok(Some(Ty::Array {
-            item: Boxed::new(alloc, Ty::Empty)?,
-            some: false,
-        })),
+        [] => Ok(Some(Ty::array_of(alloc, Ty::Empty, false)?)),
         [t, rest @ ..] => {
             if !all_same(t, rest) {
                 return Ok(None);
             }
             let item = t.copy(alloc)?;
-            Ok(Some(Ty::Array {
-                item: Boxed::new(alloc, item)?,
-                some: true,
-            }))
+            Ok(Some(Ty::array_of(alloc, item, true)?))
         }
     }
 }
@@ -172,26 +165,17 @@ pub fn list(alloc: Global, types: Option<Items<Ty>>) -> Result<Option<Ty>, NoMem
     }
 }
 
-fn map_of(alloc: Global, key: Ty, value: Ty) -> Result<Option<Ty>, NoMemory>
-    ensures { IfOk result (λ t. t ≡ Option.Some (ty.Map key value)) }
-{
-    Ok(Some(Ty::Map {
-        key: Boxed::new(alloc, key)?,
-        value: Boxed::new(alloc, value)?,
-    }))
-}
-
 fn map_type(alloc: Global, keys: &[Ty], values: &[Ty]) -> Result<Option<Ty>, NoMemory>
     ensures { IfOk result (λ t. t ≡ spec.map_type keys.now values.now) }
 {
     match (keys, values) {
-        ([], []) => map_of(alloc, Ty::Empty, Ty::Empty),
+        ([], []) => Ok(Some(Ty::map_of(alloc, Ty::Empty, Ty::Empty)?)),
         ([k, keys @ ..], [t, values @ ..]) => {
             if !(is_plain(k) && all_same(k, keys) && all_same(t, values)) {
                 return Ok(None);
             }
             let key = k.copy(alloc)?;
-            map_of(alloc, key, t.copy(alloc)?)
+            Ok(Some(Ty::map_of(alloc, key, t.copy(alloc)?)?))
         }
         _ => Ok(None),
     }
@@ -216,10 +200,7 @@ pub fn pair(alloc: Global, t: Option<Ty>, u: Option<Ty>) -> Result<Option<Ty>, N
     ensures { IfOk result (λ r. r ≡ spec.both (λ t u. Option.Some (ty.Pair t u)) t u) }
 {
     match (t, u) {
-        (Some(t), Some(u)) => Ok(Some(Ty::Pair {
-            left: Boxed::new(alloc, t)?,
-            right: Boxed::new(alloc, u)?,
-        })),
+        (Some(t), Some(u)) => Ok(Some(Ty::pair_of(alloc, t, u)?)),
         _ => Ok(None),
     }
 }
@@ -276,7 +257,7 @@ pub fn apply_type(
     let Some(types) = types else {
         return Ok(None);
     };
-    if writes(f) || reads(f) && !outputs {
+    if f.writes() || f.reads() && !outputs {
         return Ok(None);
     }
     row_type(alloc, f, types.as_slice())

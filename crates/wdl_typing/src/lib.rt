@@ -3,7 +3,6 @@
 
 mod declarations;
 mod forms;
-mod kind;
 mod member;
 mod placeholder;
 mod structs;
@@ -14,7 +13,6 @@ pub use declarations::{
     Standing, body_type, decl_is_typed, decls_are_typed, enter, inputs_are_typed,
 };
 pub use forms::is_type;
-pub use kind::is_bool;
 pub use placeholder::takes_some;
 pub use structs::are_structs;
 pub use typing::{Context, type_in_place, type_of};

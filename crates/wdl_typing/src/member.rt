@@ -3,11 +3,10 @@
 ghost use Rattle.std.specs.Prelude.{◌≡◌, IfOk, option_and_then};
 ghost use Rattle.wdl_typed.specs.Typing as spec;
 
-use crate::kind::is_int;
 use std::alloc::Global;
 use struct_members::member_type;
 use wdl_names::Indexed;
-use wdl_value::{Name, NoMemory, StructDef, Ty};
+use wdl_value::{Name, NoMemory, StructDef, Ty, is_int};
 
 /// The type of a member of an expression of that type.
 pub fn member(

@@ -9,7 +9,6 @@ use crate::forms::{
     apply_type, binary_type, cast_type, choose_type, copied, is_type, list, literal_type, map,
     neg_type, not_type, pair, row_type,
 };
-use crate::kind::writes;
 use crate::member::{at, member};
 use crate::placeholder::takes_some;
 use sqlite_items::Items;
@@ -232,7 +231,7 @@ fn write_call(
 ) -> Result<Option<Ty>, NoMemory>
     ensures { IfOk result (λ t. t ≡ spec.write_call (spec.context_of seen.now) f es.now placeholder) }
 {
-    if !writes(f) {
+    if !f.writes() {
         return Ok(None);
     }
     match types_of(alloc, es, seen, placeholder)? {

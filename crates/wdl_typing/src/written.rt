@@ -4,10 +4,9 @@ ghost use Rattle.std.specs.Prelude.{◌≡◌};
 ghost use Rattle.wdl_value.specs.Fits.{members_of as members_of_name};
 ghost use Rattle.wdl_typed.specs.KnownTypes as spec;
 
-use crate::kind::is_scalar;
 use struct_members::members_of;
 use wdl_names::Indexed;
-use wdl_value::{Member, Name, StructDef, Ty, is_optional};
+use wdl_value::{Member, Name, StructDef, Ty, is_optional, is_scalar};
 
 /// Whether there is a struct of that name.
 fn is_known(structs: &Indexed<StructDef>, name: &Name) -> bool

@@ -1,3 +1,6 @@
+ghost use Rattle.std.specs.Prelude.{◌≡◌};
+ghost use Rattle.wdl_value.specs.FunctionTypes as table;
+
 /// A binary operator (OpenWDL 1.1, "Expressions"). `AddMaybe` is `+` in a placeholder, where an
 /// operand may be undefined.
 #[derive(Clone, Copy, Debug, PartialEq, Eq)]
@@ -55,4 +58,31 @@ pub enum Func {
     WriteLines,
     WriteTsv,
     WriteMap,
+}
+
+impl Func {
+    /// Whether the function writes a file.
+    pub fn writes(self) -> bool
+        ensures { result ≡ table.writes self }
+    {
+        matches!(self, Func::WriteLines | Func::WriteTsv | Func::WriteMap)
+    }
+
+    /// Whether the function sees what the command of a task left.
+    pub fn reads(self) -> bool
+        ensures { result ≡ table.reads self }
+    {
+        matches!(
+            self,
+            Func::Stdout
+                | Func::Stderr
+                | Func::Glob
+                | Func::ReadString
+                | Func::ReadLines
+                | Func::ReadInt
+                | Func::ReadBoolean
+                | Func::ReadTsv
+                | Func::ReadMap
+        )
+    }
 }

@@ -1,6 +1,10 @@
-ghost use Rattle.std.specs.Prelude.{◌≡◌, IfOk};
+ghost use Rattle.std.specs.Prelude.{◌≡◌, if◌then◌else◌, IfOk};
+ghost use Rattle.wdl_value.specs.Bare.{is_optional as is_optional_at};
 ghost use Rattle.wdl_value.specs.SameType as spec;
+ghost use Rattle.wdl_value.specs.declared.ty.Ty.{out-Ty};
+ghost use Rattle.wdl_value.specs.declared.ty.Ty.TheVariants as ty;
 
+use crate::bare::is_optional;
 use sqlite_items::{Boxed, Items};
 use std::alloc::Global;
 use wdl_base::{Name, NoMemory};
@@ -25,6 +29,46 @@ pub enum Ty {
 }
 
 impl Ty {
+    /// `Array[item]`, or `Array[item]+` where `some` is true.
+    pub fn array_of(alloc: Global, item: Ty, some: bool) -> Result<Ty, NoMemory>
+        ensures { IfOk result (λ t. t ≡ ty.Array item some) }
+    {
+        Ok(Ty::Array {
+            item: Boxed::new(alloc, item)?,
+            some,
+        })
+    }
+
+    /// The type with a question mark; the type itself where it has one.
+    pub fn optional_of(alloc: Global, t: Ty) -> Result<Ty, NoMemory>
+        ensures { IfOk result (λ u. u ≡ (if is_optional_at (out-Ty t) then t else ty.Opt t)) }
+    {
+        if is_optional(&t) {
+            return Ok(t);
+        }
+        Ok(Ty::Opt(Boxed::new(alloc, t)?))
+    }
+
+    /// `Map[key, value]`.
+    pub fn map_of(alloc: Global, key: Ty, value: Ty) -> Result<Ty, NoMemory>
+        ensures { IfOk result (λ t. t ≡ ty.Map key value) }
+    {
+        Ok(Ty::Map {
+            key: Boxed::new(alloc, key)?,
+            value: Boxed::new(alloc, value)?,
+        })
+    }
+
+    /// `Pair[left, right]`.
+    pub fn pair_of(alloc: Global, left: Ty, right: Ty) -> Result<Ty, NoMemory>
+        ensures { IfOk result (λ t. t ≡ ty.Pair left right) }
+    {
+        Ok(Ty::Pair {
+            left: Boxed::new(alloc, left)?,
+            right: Boxed::new(alloc, right)?,
+        })
+    }
+
     /// Whether the types are equal.
     pub fn same(&self, other: &Ty) -> bool
         ensures { result ≡ spec.same_type self.now other.now }
@@ -62,28 +106,16 @@ impl Ty {
             Ty::Int => Ok(Ty::Int),
             Ty::Str => Ok(Ty::Str),
             Ty::File => Ok(Ty::File),
-            Ty::Array { item, some } => {
-                let item = item.get().copy(alloc)?;
-                Ok(Ty::Array {
-                    item: Boxed::new(alloc, item)?,
-                    some: *some,
-                })
-            }
+            Ty::Array { item, some } => { Ty::array_of(alloc, item.get().copy(alloc)?, *some) }
             Ty::Map { key, value } => {
                 let key = key.get().copy(alloc)?;
                 let value = value.get().copy(alloc)?;
-                Ok(Ty::Map {
-                    key: Boxed::new(alloc, key)?,
-                    value: Boxed::new(alloc, value)?,
-                })
+                Ty::map_of(alloc, key, value)
             }
             Ty::Pair { left, right } => {
                 let left = left.get().copy(alloc)?;
                 let right = right.get().copy(alloc)?;
-                Ok(Ty::Pair {
-                    left: Boxed::new(alloc, left)?,
-                    right: Boxed::new(alloc, right)?,
-                })
+                Ty::pair_of(alloc, left, right)
             }
             Ty::Struct(name) => Ok(Ty::Struct(name.copy(alloc)?)),
             Ty::Opt(t) => {

@@ -1,8 +1,7 @@
 use std::alloc::Global;
 use std::test::Fail;
 use wdl_value::{
-    Boxed, CastFault, Items, MapRow, NoMemory, Text, Ty, Value, cast, fits, same_value, size,
-    text_of,
+    Boxed, CastFault, Items, MapRow, NoMemory, Ty, Value, cast, fits, same_value, size, text_of,
 };
 
 /// A map of two keys to Absent.

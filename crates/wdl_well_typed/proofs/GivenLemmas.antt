@@ -3,7 +3,6 @@ use Rattle.std.proofs.Common.{◌≡◌, ℕ, List, ◌∷◌, ◌++◌, Option,
 use Rattle.wdl_typed.specs.declared.flow.Statement.{Statement}
 use Rattle.wdl_typed.specs.declared.scope.Bound.{Bound}
 use Rattle.wdl_typed.specs.Bodies.{Library, Seen, body_gives, gives, joined}
-use Rattle.wdl_well_typed.specs.Given.{first}
 
 abbrev pub seen_of : List Bound → List (List ℕ) → Seen
 seen_of names calls = record { names = names; calls = calls }

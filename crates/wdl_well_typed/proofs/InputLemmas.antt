@@ -1,8 +1,7 @@
 -- What the first input of a name gives.
-use Rattle.std.proofs.Common.{◌≡◌, ℕ, Bool, true, false, cond, List, [], ◌∷◌, Option, Some, None, option_map, refl}
+use Rattle.std.proofs.Common.{◌≡◌, ℕ, Bool, true, false, cond, List, [], ◌∷◌, Some, option_map, refl}
 use Rattle.std.specs.List.{find}
 use Rattle.std.specs.Str.{bytes_eq}
-use Rattle.wdl_value.specs.declared.ty.Ty.{Ty}
 use Rattle.wdl_typed.specs.declared.task.TInput.{TInput}
 use Rattle.wdl_typed.specs.Bodies.{input_type}
 

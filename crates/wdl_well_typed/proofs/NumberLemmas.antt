@@ -3,7 +3,7 @@ use Rattle.std.proofs.Common.{◌≡◌, ℕ, suc, ◌+◌, ◌<◌, ◌≤◌, 
 use Rattle.std.proofs.lemmas.Bool.Decides.{Decides-eqb, Decides-like, same_from_decides}
 use Rattle.wdl_typed.specs.Lists.{has_number, numbers_differ}
 use Rattle.wdl_names.specs.Marks.{first_place}
-use Rattle.wdl_names.proofs.FreshLemmas.{Reads, new-distinct}
+use Rattle.wdl_names.proofs.FreshLemmas.{new-distinct}
 use Rattle.wdl_well_typed.specs.Numbers.{fresh_numbers}
 
 eqb-sym : (m n : ℕ) → (m == n) ≡ (n == m)

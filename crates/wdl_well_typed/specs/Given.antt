@@ -1,5 +1,5 @@
 -- What statements see and give out, as the code keeps it.
-use Rattle.std.specs.Prelude.{ℕ, List, [], take}
+use Rattle.std.specs.Prelude.{ℕ, [], take}
 use Rattle.wdl_typed.specs.Bodies.{Seen}
 use Rattle.wdl_well_typed.specs.declared.given.YieldedTypes.{YieldedTypes}
 use Rattle.wdl_well_typed.specs.declared.given.BodyScope.{BodyScope}

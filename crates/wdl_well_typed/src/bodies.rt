@@ -8,28 +8,18 @@ ghost use Rattle.wdl_well_typed.specs.Given as state;
 
 use crate::calls::{Library, call_gives};
 use crate::given::{BodyScope, YieldedTypes, arrays, optionals};
-use sqlite_items::{Boxed, Items};
+use sqlite_items::Items;
 use std::alloc::Global;
-use wdl_typed::{Bound, Statement, TDecl, TExpr};
-use wdl_typing::{Standing, body_type, decl_is_typed, enter, is_bool};
-use wdl_value::{Key, Name, NoMemory, Ty};
+use wdl_typed::{Statement, TDecl, TExpr};
+use wdl_typing::{Standing, body_type, decl_is_typed, enter};
+use wdl_value::{Name, NoMemory, Ty, is_bool};
 
 /// The name of a declaration.
 fn declared(alloc: Global, d: &TDecl) -> Result<YieldedTypes, NoMemory>
     ensures { IfOk result (λ g. state.given g ≡ spec.declared d.now) }
 {
-    let first = d.name.copy(alloc)?;
-    let ty = d.ty.copy(alloc)?;
-    let mut names = Items::new(alloc);
-    names.push(Bound {
-        key: Key {
-            first,
-            second: None,
-        },
-        ty,
-    })?;
     Ok(YieldedTypes {
-        names,
+        names: given_types::declared(alloc, d)?,
         calls: Items::new(alloc),
     })
 }

@@ -6,7 +6,6 @@ ghost use Rattle.wdl_typed.specs.Lists as lists;
 ghost use Rattle.wdl_typed.specs.Typing.{is_type as is_type_of};
 ghost use Rattle.wdl_well_typed.specs.Tasks.{lists_typed};
 
-use sqlite_items::Boxed;
 use std::alloc::Global;
 use wdl_names::{Indexed, NameStack, TypedNames, add_all};
 use wdl_typed::{Choice, TCodes, TExpr, THole, TPart, TaskDef};
@@ -60,10 +59,7 @@ fn codes_are_typed(
         TCodes::Zero | TCodes::Any => Ok(true),
         TCodes::One(e) => has_type(alloc, e, &Ty::Int, structs, names),
         TCodes::Many(e) => {
-            let numbers = Ty::Array {
-                item: Boxed::new(alloc, Ty::Int)?,
-                some: false,
-            };
+            let numbers = Ty::array_of(alloc, Ty::Int, false)?;
             has_type(alloc, e, &numbers, structs, names)
         }
     }

@@ -1,13 +1,4 @@
-ghost use Rattle.std.specs.Prelude.{
-  ◌≡◌,
-  true,
-  false,
-  map,
-  option_map,
-  option_and_then,
-  string_bytes,
-  IfOk,
-};
+ghost use Rattle.std.specs.Prelude.{◌≡◌, true, false, map, option_map, string_bytes, IfOk};
 ghost use Rattle.clap.specs.Words.{
   app_of,
   first_of,
@@ -18,7 +9,6 @@ ghost use Rattle.clap.specs.Words.{
 };
 ghost use Rattle.wdl_words.specs.Commands.{
   cwl_app,
-  found_in,
   operand_app,
   operand_rule,
   option_rule,

@@ -1,7 +1,6 @@
 //! The words that ask for help or for the version.
 
 ghost use Rattle.std.specs.Prelude.{◌≡◌, map, string_bytes};
-ghost use Rattle.std.specs.Option.{option_copied};
 ghost use Rattle.wdl_words.specs.Help as spec;
 
 use crate::wants::{Command, Wants};

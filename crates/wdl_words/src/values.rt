@@ -5,7 +5,7 @@ ghost use Rattle.wdl_words.specs.Faults.{Reads};
 
 use crate::error::WordFault;
 use std::alloc::Global;
-use wdl_value::{NoMemory, Text, holds_nul};
+use wdl_value::{Text, holds_nul};
 
 /// The directory below which jobs run, where `--root` is left out.
 const DEFAULT_ROOT: &str = "/tmp/wdl-run";

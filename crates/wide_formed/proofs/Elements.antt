@@ -6,7 +6,6 @@ use Rattle.std.proofs.lemmas.Bool.{false≢true, lt-ltb, ltb-true, or_left, or_r
 use Rattle.std.proofs.lemmas.Slice.Eq.{bytes_eq-Decides}
 use Rattle.wdl_typed.specs.Lists.{has_name}
 use Rattle.cwl_model.proofs.Rounds.{first_is, first_or_later, later_is, none_is}
-use Rattle.cwl_laws.proofs.Blocks.{all_from as each}
 use Rattle.wdl_stdlib.proofs.Keys.{bytes_eq-refl as bytes_same}
 
 pub same_bytes : (s t : List ℕ) → bytes_eq s t ≡ true → s ≡ t

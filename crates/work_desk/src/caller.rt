@@ -1,4 +1,4 @@
-ghost use Rattle.std.specs.Prelude.{◌≡◌, ◌<◌, ◌≤◌, true, None, Some, IsSome, length};
+ghost use Rattle.std.specs.Prelude.{◌≡◌, ◌<◌, true, None, Some, IsSome, length};
 ghost use Rattle.std.specs.Bool.{OnFalse};
 ghost use Rattle.wdl_base.specs.declared.entry.Source.TheVariants.{Launched};
 ghost use Rattle.ready_core.specs.Cores.{AreHeld, idle_at, started};

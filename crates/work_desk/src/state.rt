@@ -1,18 +1,4 @@
-ghost use Rattle.std.specs.Prelude.{
-  ◌≡◌,
-  ◌<◌,
-  ◌≤◌,
-  ◌+◌,
-  ◌++◌,
-  ◌∷◌,
-  [],
-  ℕ,
-  true,
-  length,
-  OnOk,
-  MatchOption,
-  MatchResult,
-};
+ghost use Rattle.std.specs.Prelude.{◌≡◌, ◌<◌, ◌+◌, ◌++◌, ◌∷◌, [], true, MatchOption, MatchResult};
 ghost use Rattle.work_desk.specs.Held.{held};
 ghost use Rattle.work_desk.specs.Views.{DeskView, IsDesk, out_of, Good, counts};
 

@@ -1,4 +1,4 @@
-ghost use Rattle.std.specs.Prelude.{◌≡◌, [], ⊤, Some, None};
+ghost use Rattle.std.specs.Prelude.{◌≡◌, [], Some, None};
 
 use sqlite_items::Items;
 use std::alloc::Global;

@@ -1,4 +1,3 @@
-ghost use Rattle.std.specs.Prelude.{◌≡◌};
 ghost use Rattle.work_desk.specs.Run.{Tells};
 
 use crate::desk::Desk;

@@ -1,6 +1,5 @@
 -- A bundle has the main workflow of its documents.
-use Rattle.std.proofs.Common.{◌≡◌, true, ℕ, List, Some, ap, sym, subst, ◌∙◌}
-use Rattle.std.specs.List.{slice_get}
+use Rattle.std.proofs.Common.{ℕ, List, ap, sym, ◌∙◌}
 use Rattle.wdl_typed.specs.declared.checked.Checked.{Checked}
 use Rattle.wdl_typed.specs.declared.flow.FlowDef.{FlowDef}
 use Rattle.wdl_json.specs.Inputs.{main_of}

@@ -23,7 +23,7 @@ use Rattle.workflow_cli.specs.declared.asking.Command.{Command}
 use Rattle.workflow_cli.specs.declared.asking.Command.TheVariants as command
 use Rattle.workflow_cli.specs.declared.asking.Page.{Page}
 use Rattle.workflow_cli.specs.declared.asking.RunOptions.{RunOptions}
-use Rattle.workflow_cli.specs.Asking.{IsBundleOf, IsCheckOf, IsCommand, IsCwlOf, IsForFlow, IsForInputs, IsForMain, IsPrintOf, IsRunOf, Words, asked}
+use Rattle.workflow_cli.specs.Asking.{IsBundleOf, IsCommand, IsCwlOf, IsForFlow, IsForInputs, IsForMain, IsPrintOf, IsRunOf, Words, asked}
 use Rattle.workflow_cli.specs.Texts.{IsBundled, IsFormed, IsOutside, IsRuledOut, IsTranslated, IsUnbundled}
 use Rattle.workflow_cli.specs.Causes.{CauseOf, IsFinished, Names}
 use Rattle.workflow_cli.specs.Complete.{BundleIsComplete, CheckIsComplete, CwlIsComplete, DocumentIsComplete, FormIsComplete, InputsIsComplete, IsOr, IsSomeDocument, IsSomeExclusion, MainIsComplete, MustGive, MustHave, MustLack, PrintIsComplete, RunIsComplete, UsageIsComplete}

@@ -1,5 +1,5 @@
 -- The documents that are written mean what the flow gives.
-use Rattle.std.proofs.Common.{◌≡◌, ℕ, true, false, List, Some, Ok, sym, ap, ◌∙◌}
+use Rattle.std.proofs.Common.{◌≡◌, ℕ, true, List, Some, Ok, sym, ap, ◌∙◌}
 use Rattle.std.specs.List.{slice_get}
 use Rattle.wdl_typed.specs.declared.checked.Checked.{Checked}
 use Rattle.wdl_typed.specs.declared.flow.FlowDef.{FlowDef}

@@ -1,4 +1,4 @@
-ghost use Rattle.report_text.specs.Lines.{HasPath, line_of as line};
+ghost use Rattle.report_text.specs.Lines.{HasPath};
 ghost use Rattle.wdl_port.specs.Causes.{Rose};
 ghost use Rattle.workflow_stages.specs.Paths.{HasPaths};
 ghost use Rattle.workflow_cli.specs.Writing.{TellsLine, Reports, Finishes};

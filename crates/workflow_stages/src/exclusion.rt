@@ -1,6 +1,6 @@
 //! The stop of a workflow that has no CWL document, or no bundle.
 
-ghost use Rattle.std.specs.Prelude.{◌≡◌, IfOk};
+ghost use Rattle.std.specs.Prelude.{IfOk};
 ghost use Rattle.report_text.specs.Lines.{HasPath};
 ghost use Rattle.workflow_stages.specs.Paths as spec;
 

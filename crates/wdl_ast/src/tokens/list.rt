@@ -1,4 +1,4 @@
-ghost use Rattle.std.specs.Prelude.{◌≡◌, ◌++◌, ◌∷◌, [], OnOk, codes, false};
+ghost use Rattle.std.specs.Prelude.{◌≡◌, ◌++◌, ◌∷◌, [], OnOk, false};
 ghost use Rattle.wdl_base.specs.Plain.{has_nul};
 ghost use Rattle.wdl_ast.specs.Words as spec;
 

@@ -1,16 +1,14 @@
 -- Reads documents.
-use Rattle.std.specs.Prelude.{if◌then◌else◌, List, [], ◌∷◌, Option, Some, None, Result, Ok, Err, codes}
+use Rattle.std.specs.Prelude.{List, [], ◌∷◌, Option, Some, None, Ok, codes}
 use Rattle.wdl_base.specs.declared.span.Span.{Span}
 use Rattle.wdl_ast.specs.declared.token.Mark.TheVariants as mark
-use Rattle.wdl_ast.specs.declared.token.Token.{Token}
 use Rattle.wdl_ast.specs.declared.document.Alias.{Alias}
 use Rattle.wdl_ast.specs.declared.document.Import.{Import}
 use Rattle.wdl_ast.specs.declared.document.StructMember.{StructMember}
 use Rattle.wdl_ast.specs.declared.document.StructSection.{StructSection}
 use Rattle.wdl_ast.specs.declared.document.Section.{Section}
 use Rattle.wdl_ast.specs.declared.document.Section.TheVariants as section
-use Rattle.wdl_ast.specs.Words.{Words}
-use Rattle.token_reading.specs.Outcome.{Outcome, Parser, missing, then_, found, eat_word}
+use Rattle.token_reading.specs.Outcome.{Parser, missing, then_, found, eat_word}
 use Rattle.token_reading.specs.Strings.{plain}
 use Rattle.wdl_parse_expr.specs.Contract.{read_type}
 use Rattle.wdl_parse_parts.specs.Reading.Parts.{name_at, word_at, many, until}

@@ -1,5 +1,5 @@
 -- Reads tasks and workflows.
-use Rattle.std.specs.Prelude.{if◌then◌else◌, List, Ok, codes}
+use Rattle.std.specs.Prelude.{if◌then◌else◌, Ok, codes}
 use Rattle.wdl_base.specs.declared.span.Span.{Span}
 use Rattle.wdl_ast.specs.declared.token.Mark.TheVariants as mark
 use Rattle.wdl_ast.specs.declared.leaf.Ident.{Ident}
@@ -9,7 +9,6 @@ use Rattle.wdl_ast.specs.declared.task.TaskSection.{TaskSection}
 use Rattle.wdl_ast.specs.declared.workflow.WorkflowElement.{WorkflowElement}
 use Rattle.wdl_ast.specs.declared.workflow.WorkflowElement.TheVariants as flow
 use Rattle.wdl_ast.specs.declared.workflow.Workflow.{Workflow}
-use Rattle.wdl_ast.specs.Words.{Words}
 use Rattle.token_reading.specs.Outcome.{Outcome, Parser, missing, then_, found, eat_word}
 use Rattle.wdl_parse_doc.specs.declared.part_list.Braced.{Braced}
 use Rattle.wdl_parse_doc.specs.Grammar.{are_task_sections, are_workflow_sections}

@@ -1,4 +1,4 @@
-ghost use Rattle.std.specs.Prelude.{◌≡◌, IfOk, List, codes};
+ghost use Rattle.std.specs.Prelude.{◌≡◌, IfOk, List};
 ghost use Rattle.wdl_ast.specs.declared.token.Token.{Token};
 ghost use Rattle.token_reading.specs.Outcome as outcome;
 ghost use Rattle.token_reading.specs.Outcome.{Reads};

@@ -1,4 +1,3 @@
-ghost use Rattle.std.specs.Prelude.{◌≡◌, [], length};
 ghost use Rattle.token_reading.specs.Outcome.{Reads};
 ghost use Rattle.wdl_parse_expr.specs.Reading as spec;
 ghost use Rattle.wdl_parse_expr.specs.Nests.{Nests};

@@ -5,7 +5,6 @@ use Rattle.wdl_ast.specs.declared.token.Mark.TheVariants as mark
 use Rattle.wdl_ast.specs.declared.token.Fence.{Fence}
 use Rattle.wdl_ast.specs.declared.token.Kind.{Kind}
 use Rattle.wdl_ast.specs.declared.token.Kind.TheVariants as kind
-use Rattle.wdl_ast.specs.declared.token.Token.{Token}
 use Rattle.wdl_ast.specs.declared.section.Declaration.{Declaration}
 use Rattle.wdl_ast.specs.declared.section.Assigned.{Assigned}
 use Rattle.wdl_ast.specs.declared.section.InputDeclaration.{InputDeclaration}

@@ -1,4 +1,4 @@
-use Rattle.std.proofs.Common.{◌≡◌, [], ◌∷◌, ◌++◌, ◌+◌, drop, Ok, inl, sym, subst, ap, ◌∙◌, arith}
+use Rattle.std.proofs.Common.{[], ◌∷◌, ◌++◌, ◌+◌, drop, Ok, inl, sym, subst, ap, ◌∙◌, arith}
 use Rattle.run_keeper.specs.Ahead.{IsAhead}
 use Rattle.run_keeper.specs.Entries.{IsLaid}
 use Rattle.run_keeper.specs.RowText.{laid_data}

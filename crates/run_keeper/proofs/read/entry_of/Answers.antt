@@ -1,4 +1,4 @@
-use Rattle.std.proofs.Common.{◌≡◌, ◌⊎◌, inl, inr, arith}
+use Rattle.std.proofs.Common.{◌≡◌, inl, inr, arith}
 use Rattle.serde_json.specs.View.{view}
 use Rattle.run_keeper.specs.RowText.{row_data, old_data}
 use Rattle.run_keeper.proofs.RowLemmas.{new_text_read, old_text_read, readable, no_row}

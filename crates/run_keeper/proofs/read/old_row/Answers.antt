@@ -1,4 +1,4 @@
-use Rattle.std.proofs.Common.{◌≡◌, Ok, inl, sym, ap, subst, ◌∙◌}
+use Rattle.std.proofs.Common.{Ok, inl, sym, ap, subst, ◌∙◌}
 use Rattle.wdl_port.specs.Rows.{kept_row}
 use Rattle.run_keeper.specs.Members.{HasAnswer, HasRequest}
 use Rattle.run_keeper.specs.RowText.{old_text}

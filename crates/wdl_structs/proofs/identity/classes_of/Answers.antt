@@ -1,5 +1,5 @@
 use Rattle.std.proofs.Common.{◌≡◌, List, ℕ, ap, sym, subst, ◌∙◌, length, arith}
-use Rattle.wdl_structs.specs.Classes.{Marks, IsLow}
+use Rattle.wdl_structs.specs.Classes.{IsLow}
 use Rattle.wdl_structs.specs.Tables.{names_of}
 use Rattle.wdl_structs.specs.Nodes.{label_by, from_by, AreJoined, AreClasses}
 use Rattle.wdl_structs.proofs.NodeLaws.{classes_are, alone_low, put_back}

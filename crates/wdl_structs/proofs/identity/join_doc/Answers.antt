@@ -1,4 +1,4 @@
-use Rattle.std.proofs.Common.{◌≡◌, List, true, ap, sym, ◌∙◌}
+use Rattle.std.proofs.Common.{List, ap, ◌∙◌}
 use Rattle.wdl_ast.specs.declared.document.Section.{Section}
 use Rattle.wdl_library.specs.declared.doc.Link.{Link}
 use Rattle.wdl_library.specs.Sections.{imports_in, imports_of}

@@ -1,4 +1,4 @@
-use Rattle.std.proofs.Common.{◌+◌, List, ℕ, ap, drop, ◌∙◌, sym}
+use Rattle.std.proofs.Common.{◌+◌, List, ap, drop, ◌∙◌, sym}
 use Rattle.std.proofs.lemmas.Bool.{and_parts}
 use Rattle.std.proofs.lemmas.List.{drop_all}
 use Rattle.wdl_library.specs.Structs.{all_have}

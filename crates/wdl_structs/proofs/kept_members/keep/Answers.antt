@@ -1,8 +1,7 @@
-use Rattle.std.proofs.Common.{◌≡◌, List, ap, sym, subst, ◌∙◌, Some, set, length}
-use Rattle.std.specs.Prelude.{Option}
+use Rattle.std.proofs.Common.{List, ap, sym, subst, ◌∙◌, Some, set}
 use Rattle.wdl_value.specs.declared.ty.Member.{Member}
 use Rattle.wdl_structs.specs.Members.{same_members}
-use Rattle.wdl_structs.specs.Kept.{Kept, Has, IsKept}
+use Rattle.wdl_structs.specs.Kept.{Kept, Has}
 use Rattle.wdl_structs.proofs.KeptLaws.{kept_found, kept_new}
 use Rattle.wdl_structs.proofs.kept_members.keep.Goals as goal
 

@@ -1,4 +1,4 @@
-use Rattle.std.proofs.Common.{◌≡◌, ℕ, ◌+◌, ◌<◌, List, Err, Ok, ap, sym, subst, ◌∙◌, length, drop, arith}
+use Rattle.std.proofs.Common.{◌≡◌, ℕ, ◌<◌, List, Err, Ok, ap, sym, subst, ◌∙◌, length, drop, arith}
 use Rattle.std.proofs.lemmas.List.{drop_all}
 use Rattle.wdl_value.specs.declared.ty.Member.{Member}
 use Rattle.wdl_library.specs.declared.doc.Doc.{Doc}
@@ -7,7 +7,7 @@ use Rattle.wdl_typed.specs.Lists.{are_distinct}
 use Rattle.wdl_links.proofs.CircleLemmas.{at_index}
 use Rattle.wdl_structs.specs.Classes.{root}
 use Rattle.wdl_structs.specs.Tables.{names_of}
-use Rattle.wdl_structs.specs.Nodes.{start, total, all_among}
+use Rattle.wdl_structs.specs.Nodes.{start, all_among}
 use Rattle.wdl_structs.specs.Kept.{KeepsFrom, DiffersFrom}
 use Rattle.wdl_structs.proofs.KeptLaws.{keeping_none, keeping_done}
 use Rattle.wdl_structs.proofs.KeepSteps.{docs_more, docs_fault, keeps_doc, start_next, all_done, all_fault, names_doc, names_length}

@@ -1,7 +1,6 @@
 use Rattle.std.proofs.Common.{◌≡◌, ◌+◌, ◌<◌, ◌≤◌, ◌++◌, ◌∷◌, [], List, ℕ, sym, ap, subst, ◌∙◌, length, take, arith}
 use Rattle.std.proofs.lemmas.Option.{slice_get_within}
-use Rattle.std.specs.Prelude.{Option, Some}
-use Rattle.wdl_value.specs.declared.ty.Member.{Member}
+use Rattle.std.specs.Prelude.{Some}
 use Rattle.wdl_value.specs.declared.ty.StructDef.{StructDef}
 use Rattle.wdl_structs.specs.Classes.{root}
 use Rattle.wdl_structs.specs.Tables.{Names, named}

@@ -1,4 +1,4 @@
-use Rattle.std.proofs.Common.{◌≡◌, take}
+use Rattle.std.proofs.Common.{take}
 use Rattle.wdl_structs.specs.Tables.{named}
 use Rattle.wdl_structs.specs.Kept.{AreDefs}
 use Rattle.wdl_structs.proofs.kept_members.structs_of.Given as goal

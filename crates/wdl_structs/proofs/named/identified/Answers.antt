@@ -1,5 +1,4 @@
 use Rattle.std.proofs.Common.{◌≡◌, ℕ, List, Err, Ok, ap, sym, subst, ◌∙◌, length, arith}
-use Rattle.wdl_value.specs.declared.ty.StructDef.{StructDef}
 use Rattle.wdl_library.specs.declared.doc.Doc.{Doc}
 use Rattle.wdl_structs.specs.Classes.{IsLow}
 use Rattle.wdl_structs.specs.Faults.{AreNamed}

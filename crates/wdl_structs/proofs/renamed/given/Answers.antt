@@ -1,4 +1,4 @@
-use Rattle.std.proofs.Common.{[], sym, ap, ◌∙◌, List, get_or}
+use Rattle.std.proofs.Common.{ap, ◌∙◌, List, get_or}
 use Rattle.wdl_library.specs.Names.{aliases_for, or_itself, given_for}
 use Rattle.wdl_structs.specs.Tables.{Names}
 use Rattle.wdl_structs.proofs.TableLaws.{named_more, group_at}

@@ -5,7 +5,7 @@ use Rattle.wdl_library.specs.Links.{links_at}
 use Rattle.wdl_links.specs.Circles.{is_next, is_marked, all_marked, unmarked, NoneIsNext}
 use Rattle.wdl_links.proofs.CircleLemmas.{unmarked-set, at_index}
 use Rattle.wdl_structs.specs.Tables.{Names, names_of, seen_by}
-use Rattle.wdl_structs.proofs.SeenLaws.{AreFound, none_found, found_more, all_found}
+use Rattle.wdl_structs.proofs.SeenLaws.{AreFound, found_more, all_found}
 use Rattle.wdl_structs.proofs.seen.tables_of.Goals as goal
 
 pub loop-k-smaller : goal.loop-k-smaller

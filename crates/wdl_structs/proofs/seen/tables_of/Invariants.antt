@@ -1,4 +1,3 @@
-use Rattle.std.proofs.Common.{length}
 use Rattle.wdl_links.specs.Circles.{unmarked}
 use Rattle.wdl_structs.proofs.SeenLaws.{AreFound}
 use Rattle.wdl_structs.proofs.seen.tables_of.Given as goal

@@ -1,4 +1,4 @@
-use Rattle.std.proofs.Common.{◌≡◌, Bool, ◌++◌, IfOk, ap, subst, sym, ◌∙◌}
+use Rattle.std.proofs.Common.{◌≡◌, Bool, ◌++◌, IfOk, ap, subst, ◌∙◌}
 use Rattle.wdl_typed.specs.Declarations.{decl_names, input_names}
 use Rattle.wdl_names.specs.Fresh.{fresh}
 use Rattle.wdl_well_typed.proofs.DistinctLemmas.{first_stop, second_stop, third_is}

@@ -1,4 +1,4 @@
-use Rattle.workflow_texts.proofs.Bundles.{changed, no_checked_text}
+use Rattle.workflow_texts.proofs.Bundles.{no_checked_text}
 use Rattle.workflow_texts.proofs.bundling.checked_text.Goals as goal
 
 pub returns-in-Err : goal.returns-in-Err

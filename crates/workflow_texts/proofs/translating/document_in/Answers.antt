@@ -1,4 +1,4 @@
-use Rattle.workflow_texts.proofs.Excluded.{document_work, unlowered}
+use Rattle.workflow_texts.proofs.Excluded.{document_work}
 use Rattle.workflow_texts.proofs.translating.document_in.Goals as goal
 
 pub returns-in-Ok-clause-value : goal.returns-in-Ok-clause-value

@@ -1,4 +1,4 @@
-use Rattle.std.proofs.Common.{◌++◌, true, ap, ◌∙◌, sym, codes}
+use Rattle.std.proofs.Common.{◌++◌, ap, ◌∙◌, sym, codes}
 use Rattle.serde_json.specs.Written.{compact_text}
 use Rattle.wdl_typed.specs.declared.checked.Checked.{Checked}
 use Rattle.cwl_formed.specs.Plain.{texts_are_plain}

@@ -1,67 +1,10 @@
-//! Tests of types, and the types inside a type. None takes memory.
+//! The types inside a type. None takes memory.
 
 ghost use Rattle.std.specs.Prelude.{◌≡◌, option_map, option_and_then};
 ghost use Rattle.std.specs.Option.{option_copied};
-ghost use Rattle.wdl_value.specs.Kinds as spec;
 ghost use Rattle.wdl_value.specs.FunctionTypes as table;
 
-use wdl_value::Ty;
-
-/// Boolean.
-pub fn is_bool(t: &Ty) -> bool
-    ensures { result ≡ spec.is_bool t.now }
-{
-    matches!(t, Ty::Bool)
-}
-
-/// Int.
-pub fn is_int(t: &Ty) -> bool
-    ensures { result ≡ spec.is_int t.now }
-{
-    matches!(t, Ty::Int)
-}
-
-/// String.
-pub fn is_str(t: &Ty) -> bool
-    ensures { result ≡ spec.is_str t.now }
-{
-    matches!(t, Ty::Str)
-}
-
-/// The type of `None` alone.
-pub fn is_absent(t: &Ty) -> bool
-    ensures { result ≡ spec.is_absent t.now }
-{
-    matches!(t, Ty::Absent)
-}
-
-/// The type of the items of `[]`.
-pub fn is_empty(t: &Ty) -> bool
-    ensures { result ≡ spec.is_empty t.now }
-{
-    matches!(t, Ty::Empty)
-}
-
-/// String or File.
-pub fn is_text(t: &Ty) -> bool
-    ensures { result ≡ spec.is_text t.now }
-{
-    matches!(t, Ty::Str | Ty::File)
-}
-
-/// Boolean, Int, String or File.
-pub fn is_scalar(t: &Ty) -> bool
-    ensures { result ≡ spec.is_scalar t.now }
-{
-    matches!(t, Ty::Bool | Ty::Int | Ty::Str | Ty::File)
-}
-
-/// Boolean, Int, String, File, or no type at all.
-pub fn is_plain(t: &Ty) -> bool
-    ensures { result ≡ table.is_plain t.now }
-{
-    is_scalar(t) || is_empty(t)
-}
+use wdl_value::{Ty, is_plain};
 
 /// The type of an array's items.
 pub fn item_of(t: &Ty) -> Option<&Ty>
