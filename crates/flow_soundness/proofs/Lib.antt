@@ -9,4 +9,5 @@ pub mod Newness
 pub mod Ready
 pub mod Shapes
 pub mod Sound
+pub mod Taken
 pub mod WholeFlow

@@ -5,13 +5,17 @@ ghost use Rattle.wdl_port.specs.declared.fault.LaunchFault.TheVariants.{NoMemory
 
 use std::alloc::{AllocError, AllocFailed};
 use std::io;
-use std::io::{Error, ErrorKind};
+use std::io::ErrorKind;
+use thiserror::Error;
 use wdl_port::LaunchFault;
 use wdl_value::{NoMemory, TextFault};
 
 /// Why a step of a launch failed.
+#[derive(Debug, Drop, Error)]
 pub(crate) enum Trouble {
+    #[error("the system refused a step of the launch")]
     Refused,
+    #[error("out of memory")]
     NoMemory,
 }
 
@@ -24,8 +28,8 @@ pub(crate) fn if_there<T>(given: io::Result<T>) -> Result<Option<T>, Trouble> {
     }
 }
 
-impl From<Error> for Trouble {
-    fn from(e: Error) -> Trouble {
+impl From<io::Error> for Trouble {
+    fn from(e: io::Error) -> Trouble {
         if e.kind() == ErrorKind::OutOfMemory {
             Trouble::NoMemory
         } else {

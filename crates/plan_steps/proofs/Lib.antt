@@ -4,4 +4,3 @@ pub mod Lists
 mod OutputRuns
 mod Setting
 mod Standing
-mod Taken

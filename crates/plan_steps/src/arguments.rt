@@ -1,6 +1,6 @@
 //! The arguments of calls.
 
-ghost use Rattle.std.specs.Prelude.{◌≡◌, ◌≤◌, ◌+◌, length, IfOk};
+ghost use Rattle.std.specs.Prelude.{◌≤◌, ◌+◌, length};
 ghost use Rattle.wdl_typed.specs.Evaluation.{value_of};
 ghost use Rattle.wdl_typed.specs.Flow as flow;
 ghost use Rattle.wdl_typed.specs.Requests.{before};
@@ -10,11 +10,11 @@ ghost use Rattle.flow_soundness.specs.Readiness.{AreArgsReady};
 
 use std::alloc::Global;
 use std::sync::ledger::Ledger;
-use wdl_eval::{EvalFault, LentBind, eval_lent};
+use wdl_eval::{LentBind, eval_lent};
 use wdl_names::Index;
-use wdl_task::CallFault;
+use wdl_task::{CallFault, named};
 use wdl_typed::{TExpr, TField};
-use wdl_value::{Bind, Env, Items, Key, Name, NoMemory, Steps, Value, Why};
+use wdl_value::{Bind, Env, Items, Steps, Value};
 
 /// The value of an argument.
 fn argument<'a, L: Ledger>(
@@ -27,21 +27,8 @@ fn argument<'a, L: Ledger>(
     ensures value { Tells (flow.named_arg arg.now.name (value_of (before env.now) arg.now.value)) result }
     ensures steps { steps.new ≤ steps.old + 1 }
 {
-    match eval_lent(alloc, &arg.value, env, steps) {
-        Ok(value) => Ok(value),
-        Err(EvalFault::Code(code)) => Err(CallFault::Bad {
-            name: arg.name.to_text(alloc)?,
-            why: Why::Code(code),
-        }),
-        Err(EvalFault::NoMemory) => Err(CallFault::NoMemory),
-    }
-}
-
-fn arg_bind(alloc: Global, name: &Name, value: Value) -> Result<Bind, NoMemory>
-    ensures { IfOk result (λ b. b ≡ flow.arg_bind name.now value) }
-{
-    let key = Key::plain(alloc, name)?;
-    Ok(Bind { key, value })
+    let outcome = eval_lent(alloc, &arg.value, env, steps);
+    named(alloc, arg.name.as_str(), outcome)
 }
 
 /// The arguments in their order; the first fault is the answer.
@@ -58,7 +45,7 @@ pub fn args_met<'a, L: Ledger>(
     let mut met = Items::new(alloc);
     for arg in args {
         let value = argument(alloc, arg, env, steps)?;
-        met.push(arg_bind(alloc, &arg.name, value)?)?;
+        met.push(Bind::plain(alloc, &arg.name, value)?)?;
     }
     Ok(met)
 }

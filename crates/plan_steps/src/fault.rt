@@ -3,7 +3,7 @@
 ghost use Rattle.std.specs.Prelude.{◌≡◌};
 ghost use Rattle.plan_steps.specs.declared.fault.PlanFault.TheVariants.{NoMemory as OutOfMemory};
 
-use std::alloc::{AllocError, AllocFailed};
+use std::alloc::AllocError;
 use thiserror::Error;
 use wdl_value::NoMemory;
 
@@ -29,14 +29,6 @@ impl From<AllocError> for PlanFault {
     ghost from_gives = { λ _ e. e ≡ OutOfMemory };
 
     fn from(_e: AllocError) -> PlanFault {
-        PlanFault::NoMemory
-    }
-}
-
-impl<T: Drop> From<AllocFailed<T>> for PlanFault {
-    ghost from_gives = { λ _ e. e ≡ OutOfMemory };
-
-    fn from(_e: AllocFailed<T>) -> PlanFault {
         PlanFault::NoMemory
     }
 }

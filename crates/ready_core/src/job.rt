@@ -144,12 +144,6 @@ pub fn is_usable_for(row: &Entry, job: &Job) -> bool
 }
 
 impl Answered {
-    pub(crate) fn new(entry: Entry) -> Answered
-        ensures answered { result ≡ entry }
-    {
-        Answered { entry }
-    }
-
     /// The entry. It takes no memory.
     pub fn entry(&self) -> &Entry
         ensures entry { result.now ≡ self.now }

@@ -11,7 +11,7 @@ use std::alloc::Global;
 use std::collections::VecDeque;
 use wdl_flow::Terms;
 use wdl_task::Prepared;
-use wdl_value::{Bind, Env, Fault, Items, NoMemory};
+use wdl_value::{Env, Fault, NoMemory, copy_env};
 
 /// The first of the faults.
 fn first_of(alloc: Global, faults: &[Fault]) -> Result<Option<Fault>, NoMemory>
@@ -65,24 +65,6 @@ fn copy_outputs(alloc: Global, plan: &Plan) -> Result<Option<Env>, NoMemory>
         Some(outputs) => Ok(Some(copy_env(alloc, outputs.as_slice())?)),
         None => Ok(None),
     }
-}
-
-fn copy_env(alloc: Global, binds: &[Bind]) -> Result<Env, NoMemory>
-    ensures binds { IfOk result (λ e. e ≡ binds.now) }
-{
-    let mut env = Items::new(alloc);
-    for bind in binds {
-        env.push(copy_bind(alloc, bind)?)?;
-    }
-    Ok(env)
-}
-
-fn copy_bind(alloc: Global, bind: &Bind) -> Result<Bind, NoMemory>
-    ensures bind { IfOk result (λ b. b ≡ bind.now) }
-{
-    let key = bind.key.copy(alloc)?;
-    let value = bind.value.copy(alloc)?;
-    Ok(Bind { key, value })
 }
 
 /// What a plan shows: the jobs that wait, from a number on, a fault, and the outputs.

@@ -14,7 +14,7 @@ use plan_bodies::Net;
 use plan_steps::{Asking, Ground, Growth};
 use std::alloc::Global;
 use wdl_typed::TDecl;
-use wdl_value::{Bind, Env, Items, Key, NoMemory};
+use wdl_value::{Bind, Env, Items, NoMemory};
 
 /// Adds an output with the value of its cell, where it is set.
 fn push_output(
@@ -30,8 +30,7 @@ fn push_output(
         return Ok(());
     };
     let value = value.get().copy(alloc)?;
-    let key = Key::plain(alloc, &output.name)?;
-    env.push(Bind { key, value })?;
+    env.push(Bind::plain(alloc, &output.name, value)?)?;
     Ok(())
 }
 

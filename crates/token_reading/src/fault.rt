@@ -36,9 +36,11 @@ pub enum Refusal {
 }
 
 /// Why a rule stopped.
-#[derive(Clone, Copy, Debug, PartialEq, Eq)]
+#[derive(Clone, Copy, Debug, PartialEq, Eq, Error)]
 pub enum RuleStop {
+    #[error("out of memory")]
     NoMemory,
+    #[error("the text does not fit the rule")]
     Refused(Refusal),
 }
 

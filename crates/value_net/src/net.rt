@@ -44,13 +44,6 @@ impl<V: Drop, R: Drop> ValueNet<V, R> {
         }
     }
 
-    /// How many cells there are.
-    pub fn len(&self) -> usize
-        ensures { result ≡ length (view self.now).values }
-    {
-        self.values.len()
-    }
-
     /// Makes a cell, which is not set.
     fn add_cell(&mut self, alloc: Global) -> Result<(), AllocError>
         requires { IsSound self.old }

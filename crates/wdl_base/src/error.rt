@@ -40,14 +40,6 @@ impl From<AllocError> for TextFault {
     }
 }
 
-impl From<NoMemory> for TextFault {
-    ghost from_gives = { λ _ e. e ≡ TextNoMemory };
-
-    fn from(_e: NoMemory) -> TextFault {
-        TextFault::NoMemory
-    }
-}
-
 /// Why a string is no `Name`.
 #[derive(Clone, Copy, Debug, PartialEq, Eq, Error)]
 pub enum NameFault {
@@ -62,14 +54,6 @@ impl From<AllocError> for NameFault {
     ghost from_gives = { λ _ e. e ≡ NameNoMemory };
 
     fn from(_e: AllocError) -> NameFault {
-        NameFault::NoMemory
-    }
-}
-
-impl From<NoMemory> for NameFault {
-    ghost from_gives = { λ _ e. e ≡ NameNoMemory };
-
-    fn from(_e: NoMemory) -> NameFault {
         NameFault::NoMemory
     }
 }

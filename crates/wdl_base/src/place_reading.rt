@@ -7,7 +7,7 @@ ghost use Rattle.wdl_base.specs.declared.place_reading.PlaceFault.TheVariants.{
   NoMemory as OutOfMemory,
 };
 
-use crate::error::{NameFault, NoMemory};
+use crate::error::NameFault;
 use crate::name::Name;
 use crate::place::{Place, Segment};
 use sqlite_items::Items;
@@ -22,14 +22,6 @@ pub enum PlaceFault {
     NotAPlace,
     #[error("out of memory")]
     NoMemory,
-}
-
-impl From<NoMemory> for PlaceFault {
-    ghost from_gives = { λ _ e. e ≡ OutOfMemory };
-
-    fn from(_e: NoMemory) -> PlaceFault {
-        PlaceFault::NoMemory
-    }
 }
 
 impl From<AllocError> for PlaceFault {

@@ -1,7 +1,6 @@
 ghost use Rattle.std.specs.Prelude.{◌≡◌};
 ghost use Rattle.wdl_bundle.specs.declared.fault.BundleFault.TheVariants.{NoMemory as OutOfMemory};
 
-use std::alloc::AllocError;
 use thiserror::Error;
 use wdl_value::{NoMemory, Span};
 
@@ -18,14 +17,6 @@ impl From<NoMemory> for BundleFault {
     ghost from_gives = { λ _ e. e ≡ OutOfMemory };
 
     fn from(_fault: NoMemory) -> BundleFault {
-        BundleFault::NoMemory
-    }
-}
-
-impl From<AllocError> for BundleFault {
-    ghost from_gives = { λ _ e. e ≡ OutOfMemory };
-
-    fn from(_fault: AllocError) -> BundleFault {
         BundleFault::NoMemory
     }
 }

@@ -1,5 +1,5 @@
 -- What is written is read as the value.
-use Rattle.std.proofs.Common.{◌≡◌, ℕ, ◌+◌, Bool, true, false, cond, not, ◌&&◌, List, [], ◌∷◌, ◌++◌, map, Ok, Err, refl, sym, ap, ◌∙◌, append_assoc, append-nil}
+use Rattle.std.proofs.Common.{◌≡◌, ℕ, Bool, true, false, cond, not, ◌&&◌, List, [], ◌∷◌, ◌++◌, map, Ok, Err, refl, sym, ap, ◌∙◌, append_assoc, append-nil}
 use Rattle.std.proofs.lemmas.Bool.{false≢true, and_parts, and_from, or_parts, or_from, not-true}
 use Rattle.std.proofs.lemmas.Slice.Eq.{bytes_eq-Decides}
 use Rattle.std.specs.List.{list_all, flat_map, join_by}
@@ -9,7 +9,6 @@ use Rattle.wdl_value.specs.declared.ty.Ty.TheVariants as ty
 use Rattle.wdl_value.specs.declared.value.MapRow.{MapRow}
 use Rattle.wdl_value.specs.declared.value.Value.{Value, Value-F}
 use Rattle.wdl_value.specs.declared.value.Value.TheVariants as v
-use Rattle.wdl_value.specs.declared.value.Value.TheOpen as layer
 use Rattle.wdl_base.specs.declared.fault.EvalCode.TheVariants.{RepeatedKey}
 use Rattle.wdl_value.specs.Fits.{Structs, fits}
 use Rattle.wdl_value.specs.Functions.{pair_of, row_of, key_text, has_key_text, repeat_a_key, as_map_of}

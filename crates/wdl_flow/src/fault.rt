@@ -1,7 +1,7 @@
 ghost use Rattle.std.specs.Prelude.{◌≡◌};
 ghost use Rattle.wdl_flow.specs.declared.fault.PlainFault.TheVariants.{NoMemory as OutOfMemory};
 
-use std::alloc::{AllocError, AllocFailed};
+use std::alloc::AllocError;
 use thiserror::Error;
 use wdl_value::NoMemory;
 
@@ -27,14 +27,6 @@ impl From<AllocError> for PlainFault {
     ghost from_gives = { λ _ e. e ≡ OutOfMemory };
 
     fn from(_e: AllocError) -> PlainFault {
-        PlainFault::NoMemory
-    }
-}
-
-impl<T: Drop> From<AllocFailed<T>> for PlainFault {
-    ghost from_gives = { λ _ e. e ≡ OutOfMemory };
-
-    fn from(_e: AllocFailed<T>) -> PlainFault {
         PlainFault::NoMemory
     }
 }

@@ -1,7 +1,6 @@
 ghost use Rattle.std.specs.Prelude.{◌≡◌};
 ghost use Rattle.wdl_json.specs.declared.fault.InputFault.TheVariants.{NoMemory as OutOfMemory};
 
-use std::alloc::AllocError;
 use thiserror::Error;
 use wdl_base::{NoMemory, Text};
 
@@ -29,14 +28,6 @@ impl From<NoMemory> for InputFault {
     ghost from_gives = { λ _ e. e ≡ OutOfMemory };
 
     fn from(_e: NoMemory) -> InputFault {
-        InputFault::NoMemory
-    }
-}
-
-impl From<AllocError> for InputFault {
-    ghost from_gives = { λ _ e. e ≡ OutOfMemory };
-
-    fn from(_e: AllocError) -> InputFault {
         InputFault::NoMemory
     }
 }

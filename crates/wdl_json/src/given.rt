@@ -1,14 +1,13 @@
 ghost use Rattle.std.specs.Prelude.{◌≡◌, ◌++◌, OnOk, IfOk, option_map};
 ghost use Rattle.std.specs.Option.{option_copied};
 ghost use Rattle.serde_json.specs.View.{view};
-ghost use Rattle.wdl_typed.specs.Declarations.{plain_key};
 ghost use Rattle.wdl_json.specs.Inputs as spec;
 
 use json_values::read_value;
 use serde_json::Value as Json;
 use sqlite_items::Items;
 use std::alloc::Global;
-use wdl_base::{Key, Name, NoMemory};
+use wdl_base::NoMemory;
 use wdl_names::Indexed;
 use wdl_typed::TInput;
 use wdl_value::{Bind, StructDef, Ty, Value, is_within_limits};
@@ -56,13 +55,6 @@ pub(crate) fn is_misfit(given: &GivenInput) -> bool
     matches!(given, GivenInput::Misfit)
 }
 
-fn bind(alloc: Global, name: &Name, value: Value) -> Result<Bind, NoMemory>
-    ensures { IfOk result (λ b. b ≡ record { key = plain_key name.now; value = value }) }
-{
-    let key = Key::plain(alloc, name)?;
-    Ok(Bind { key, value })
-}
-
 /// Binds the input to a value that fits.
 pub(crate) fn push_given(
     alloc: Global,
@@ -73,7 +65,7 @@ pub(crate) fn push_given(
     ensures { OnOk result (binds.new ≡ binds.old ++ spec.bind_of input.now given) }
 {
     if let GivenInput::Fitting(value) = given {
-        binds.push(bind(alloc, &input.name, value)?)?;
+        binds.push(Bind::plain(alloc, &input.name, value)?)?;
     }
     Ok(())
 }

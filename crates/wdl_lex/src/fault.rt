@@ -3,7 +3,7 @@ ghost use Rattle.wdl_lex.specs.Reading.Code as reading;
 
 use std::alloc::{AllocError, AllocFailed};
 use thiserror::Error;
-use wdl_value::{NoMemory, Span};
+use wdl_value::Span;
 
 /// Why a text has no tokens.
 ///
@@ -18,17 +18,6 @@ pub enum LexFault {
     NoMemory,
     #[error("error {code}")]
     Bad { code: u16, span: Span },
-}
-
-impl From<NoMemory> for LexFault {
-    ghost use Rattle.std.specs.Prelude.{◌≡◌};
-    ghost use Rattle.wdl_lex.specs.declared.fault.LexFault.TheVariants.{NoMemory as OutOfMemory};
-
-    ghost from_gives = { λ _ e. e ≡ OutOfMemory };
-
-    fn from(_error: NoMemory) -> LexFault {
-        LexFault::NoMemory
-    }
 }
 
 impl From<AllocError> for LexFault {
@@ -52,9 +41,11 @@ pub struct Flaw {
 }
 
 /// Why no token was read.
-#[derive(Clone, Copy, Debug, PartialEq, Eq)]
+#[derive(Clone, Copy, Debug, PartialEq, Eq, Error)]
 pub enum NoToken {
+    #[error("out of memory")]
     NoMemory,
+    #[error("no token stands there")]
     Flaw(Flaw),
 }
 

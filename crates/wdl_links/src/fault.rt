@@ -1,7 +1,7 @@
 ghost use Rattle.std.specs.Prelude.{◌≡◌};
 ghost use Rattle.wdl_links.specs.declared.fault.LinkFault.TheVariants.{NoMemory as OutOfMemory};
 
-use std::alloc::{AllocError, AllocFailed};
+use std::alloc::AllocError;
 use thiserror::Error;
 use wdl_value::{NoMemory, Span};
 
@@ -26,14 +26,6 @@ impl From<AllocError> for LinkFault {
     ghost from_gives = { λ _ e. e ≡ OutOfMemory };
 
     fn from(_e: AllocError) -> LinkFault {
-        LinkFault::NoMemory
-    }
-}
-
-impl<T: Drop> From<AllocFailed<T>> for LinkFault {
-    ghost from_gives = { λ _ e. e ≡ OutOfMemory };
-
-    fn from(_e: AllocFailed<T>) -> LinkFault {
         LinkFault::NoMemory
     }
 }

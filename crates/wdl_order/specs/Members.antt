@@ -1,17 +1,8 @@
--- What a declaration gives and refers to, and where a statement stands.
-use Rattle.std.specs.Prelude.{[], ◌∷◌}
+-- Where a statement and an input stand.
 use Rattle.wdl_base.specs.declared.span.Span.{Span}
 use Rattle.wdl_typed.specs.declared.flow.Statement.{Statement, Statement-F, fold-Statement}
 use Rattle.wdl_typed.specs.declared.flow.Statement.TheOpen as layer
-use Rattle.wdl_typed.specs.declared.task.TDecl.{TDecl}
 use Rattle.wdl_typed.specs.declared.task.TInput.{TInput}
-use Rattle.wdl_typed.specs.Order.{Needing, referred}
-
-abbrev pub declaration_needing : TDecl → Needing
-declaration_needing d = record { gives = d.name ∷ []; refers = referred d.value }
-
-abbrev pub declaration_span : TDecl → Span
-declaration_span d = d.span
 
 abbrev pub input_span : TInput → Span
 input_span i = i.span

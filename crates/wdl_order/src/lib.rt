@@ -1,5 +1,5 @@
-//! The dependency order of statements, inputs and declarations: each stands after those that it
-//! needs, and otherwise in the order of the text.
+//! The dependency order of statements and inputs: each stands after those that it needs, and
+//! otherwise in the order of the text.
 #![tactic(auto)]
 
 mod fault;
@@ -18,6 +18,6 @@ mod working;
 pub use fault::OrderFault;
 pub use laws::orders_are_least;
 pub use least::Found;
-pub use ordering::{order, order_declarations, order_inputs};
+pub use ordering::{order, order_inputs};
 pub use positions::positions_of;
 pub use uses::Uses;

@@ -1,18 +1,13 @@
 ghost use Rattle.std.specs.Prelude.{◌≡◌, IfOk};
 ghost use Rattle.wdl_typed.specs.Order.{Needing, statement_needing, input_needing};
 ghost use Rattle.wdl_base.specs.declared.span.Span.{Span};
-ghost use Rattle.wdl_order.specs.Members.{
-  declaration_needing,
-  declaration_span,
-  input_span,
-  statement_span,
-};
+ghost use Rattle.wdl_order.specs.Members.{input_span, statement_span};
 ghost use Rattle.wdl_order.specs.Names.{as_needing};
 
-use crate::needing::{declaration_uses, input_uses, statement_uses};
+use crate::needing::{input_uses, statement_uses};
 use crate::uses::Uses;
 use std::alloc::Global;
-use wdl_typed::{Statement, TDecl, TInput};
+use wdl_typed::{Statement, TInput};
 use wdl_value::{NoMemory, Span};
 
 /// What stands in a list that is ordered.
@@ -56,20 +51,6 @@ impl Member for TInput {
 
     fn uses(&self, alloc: Global) -> Result<Uses, NoMemory> {
         input_uses(alloc, self)
-    }
-
-    fn span(&self) -> Span {
-        self.span
-    }
-}
-
-impl Member for TDecl {
-    ghost needing = { declaration_needing };
-
-    ghost span_of = { declaration_span };
-
-    fn uses(&self, alloc: Global) -> Result<Uses, NoMemory> {
-        declaration_uses(alloc, self)
     }
 
     fn span(&self) -> Span {

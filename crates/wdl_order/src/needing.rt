@@ -10,7 +10,6 @@ ghost use Rattle.wdl_typed.specs.Order.{
   statement_needing,
   without,
 };
-ghost use Rattle.wdl_order.specs.Members.{declaration_needing};
 ghost use Rattle.wdl_order.specs.Names.{as_needing};
 
 use crate::uses::Uses;
@@ -55,9 +54,8 @@ fn referred(alloc: Global, e: &TExpr) -> Result<Items<Name>, NoMemory>
     first_words(alloc, keys.as_slice())
 }
 
-/// What a declaration or an output gives and refers to.
-pub fn declaration_uses(alloc: Global, decl: &TDecl) -> Result<Uses, NoMemory>
-    ensures { IfOk result (λ u. as_needing u ≡ declaration_needing decl.now) }
+fn declaration_uses(alloc: Global, decl: &TDecl) -> Result<Uses, NoMemory>
+    ensures { IfOk result (λ u. as_needing u ≡ record { gives = decl.now.name ∷ []; refers = orders.referred decl.now.value }) }
 {
     let gives = one_name(alloc, &decl.name)?;
     let refers = referred(alloc, &decl.value)?;

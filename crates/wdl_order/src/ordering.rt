@@ -1,11 +1,6 @@
 ghost use Rattle.std.specs.Prelude.{◌≡◌, map, IfOk, IfErr};
 ghost use Rattle.wdl_typed.specs.Order.{IsOrdered, input_needing, statement_needing};
-ghost use Rattle.wdl_order.specs.Members.{
-  declaration_needing,
-  declaration_span,
-  input_span,
-  statement_span,
-};
+ghost use Rattle.wdl_order.specs.Members.{input_span, statement_span};
 ghost use Rattle.wdl_order.specs.Names.{as_needing};
 ghost use Rattle.wdl_order.specs.Outcome.{IsFault};
 
@@ -16,7 +11,7 @@ use crate::picking::picked;
 use crate::positions::positions_of;
 use crate::uses::Uses;
 use std::alloc::Global;
-use wdl_typed::{Statement, TDecl, TInput};
+use wdl_typed::{Statement, TInput};
 use wdl_value::{Items, NoMemory};
 
 fn uses_of<M: Member>(alloc: Global, list: &[M]) -> Result<Vec<Uses>, NoMemory>
@@ -63,15 +58,4 @@ pub fn order_inputs(alloc: Global, inputs: Items<TInput>) -> Result<Items<TInput
     ensures fault { IfErr result (IsFault input_needing input_span inputs) }
 {
     ordered(alloc, inputs)
-}
-
-/// Private declarations or outputs in dependency order, as `order` has it for statements.
-pub fn order_declarations(
-    alloc: Global,
-    declarations: Items<TDecl>,
-) -> Result<Items<TDecl>, OrderFault>
-    ensures ordered { IfOk result (IsOrdered declaration_needing declarations) }
-    ensures fault { IfErr result (IsFault declaration_needing declaration_span declarations) }
-{
-    ordered(alloc, declarations)
 }

@@ -1,8 +1,8 @@
 use crate::notation::{declaration, input, statements};
 use std::alloc::Global;
 use std::test::Fail;
-use wdl_order::{OrderFault, order, order_declarations, order_inputs};
-use wdl_typed::{Statement, TDecl};
+use wdl_order::{OrderFault, order, order_inputs};
+use wdl_typed::Statement;
 use wdl_value::Items;
 
 /// The number of a statement.
@@ -110,29 +110,14 @@ fn inputs_stand_after_what_their_defaults_need(rt: HostRuntime) -> Result<(), Fa
     Ok(())
 }
 
-#[test]
-fn declarations_stand_after_what_they_need(rt: HostRuntime) -> Result<(), Fail> {
-    let alloc = rt.alloc();
-    let mut list = Items::new(alloc);
-    list.push(declaration(alloc, "b=a", 0)?)?;
-    list.push(declaration(alloc, "a=", 1)?)?;
-    let ordered = order_declarations(alloc, list).map_err(|_| "circular")?;
-    let is_ordered = match ordered.as_slice() {
-        [a, b] => a.span.start == 1 && b.span.start == 0,
-        _ => false,
-    };
-    assert!(rt; is_ordered);
-    Ok(())
-}
-
 /// That many declarations, of which each needs the next.
-fn chain(alloc: Global, length: usize) -> Result<Items<TDecl>, Fail> {
+fn chain(alloc: Global, length: usize) -> Result<Items<Statement>, Fail> {
     let mut list = Items::new(alloc);
     for at in 0..length {
         let left = length - at;
         let needed = left - 1;
         let word = format!(in alloc; "a{left}=a{needed}")?;
-        list.push(declaration(alloc, word.as_str(), at)?)?;
+        list.push(Statement::Decl(declaration(alloc, word.as_str(), at)?))?;
     }
     Ok(list)
 }
@@ -140,12 +125,12 @@ fn chain(alloc: Global, length: usize) -> Result<Items<TDecl>, Fail> {
 #[test]
 fn a_long_chain_is_turned_round(rt: HostRuntime) -> Result<(), Fail> {
     let alloc = rt.alloc();
-    let ordered = order_declarations(alloc, chain(alloc, 20_000)?).map_err(|_| "circular")?;
+    let ordered = order(alloc, chain(alloc, 20_000)?).map_err(|_| "circular")?;
     assert_eq!(rt; ordered.len(), 20_000);
     let mut next = 20_000u32;
-    for declaration in ordered.as_slice() {
+    for statement in ordered.as_slice() {
         next = next.saturating_sub(1);
-        assert_eq!(rt; declaration.span.start, next);
+        assert_eq!(rt; number_of(statement), next);
     }
     Ok(())
 }

@@ -10,7 +10,6 @@ use Rattle.token_reading.specs.declared.fault.Refusal.TheVariants.{Missing, Bad}
 use Rattle.token_reading.specs.declared.fault.RuleStop.{RuleStop}
 use Rattle.token_reading.specs.declared.fault.RuleStop.TheVariants as stop
 use Rattle.token_reading.specs.declared.fault.ParseFault.{ParseFault}
-use Rattle.token_reading.specs.declared.fault.ParseFault.TheVariants as fault
 use Rattle.token_reading.specs.Outcome.{Fails}
 use Rattle.wdl_parse_expr.specs.Contract.{IsSpanOf, IsPlaced, IfBad, FaultOf}
 use Rattle.token_reading.proofs.Steps.{same}

@@ -2,11 +2,8 @@
 use Rattle.std.proofs.Common.{◌≡◌, ℕ, ◌<◌, false, List, [], ◌∷◌, ◌++◌, length, Option, Some, None, Ok, refl, ap, sym, ◌∙◌, subst, append_assoc, codes}
 use Rattle.wdl_base.specs.declared.span.Span.{Span}
 use Rattle.wdl_ast.specs.declared.token.Mark.TheVariants as mark
-use Rattle.wdl_ast.specs.declared.token.Kind.TheVariants as kind
 use Rattle.wdl_ast.specs.declared.section.Declaration.{Declaration}
 use Rattle.wdl_ast.specs.declared.workflow.Call.{Call}
-use Rattle.wdl_ast.specs.declared.workflow.Scatter.{Scatter}
-use Rattle.wdl_ast.specs.declared.workflow.Conditional.{Conditional}
 use Rattle.wdl_ast.specs.declared.workflow.Statement.{Statement}
 use Rattle.wdl_ast.specs.declared.workflow.Statement.TheVariants as st
 use Rattle.wdl_ast.specs.Words.{Words, marked, keyword, ident, words, type_words}

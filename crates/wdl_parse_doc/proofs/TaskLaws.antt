@@ -10,7 +10,6 @@ use Rattle.wdl_ast.specs.declared.task.TaskSection.{TaskSection}
 use Rattle.wdl_ast.specs.declared.workflow.WorkflowElement.{WorkflowElement}
 use Rattle.wdl_ast.specs.declared.workflow.WorkflowElement.TheVariants as flow
 use Rattle.wdl_ast.specs.declared.workflow.Statement.{Statement}
-use Rattle.wdl_ast.specs.declared.workflow.Statement.TheVariants as st
 use Rattle.wdl_ast.specs.declared.workflow.Workflow.{Workflow}
 use Rattle.wdl_ast.proofs.StatementLaws.{words_declaration, words_call, words_scatter, words_conditional}
 use Rattle.wdl_ast.specs.Words.{Words, marked, keyword, ident, words, type_words}

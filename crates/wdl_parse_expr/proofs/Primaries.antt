@@ -30,7 +30,7 @@ use Rattle.token_reading.specs.Forms.{left_out}
 use Rattle.wdl_parse_expr.specs.Grammar as g
 use Rattle.wdl_parse_expr.specs.Grammar.{ends_bare, Listed, IsEntry, IsMember, Parts, IsPrimary, Tree}
 use Rattle.wdl_parse_expr.specs.Reading as r
-use Rattle.wdl_parse_expr.specs.Reading.{list_of, expr}
+use Rattle.wdl_parse_expr.specs.Reading.{list_of}
 use Rattle.token_reading.specs.Strings.{option_start}
 use Rattle.wdl_parse_expr.specs.Contract.{goes_on, continues}
 use Rattle.token_reading.proofs.Steps.{ate, sees_ident, cond_true, cond_false, then_is, attempt_is, attempt_bad, attempt_missing, found_some, found_none, grown_is}

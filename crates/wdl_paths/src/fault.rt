@@ -1,7 +1,6 @@
 ghost use Rattle.std.specs.Prelude.{◌≡◌};
 ghost use Rattle.wdl_paths.specs.declared.fault.ResolveFault.TheVariants.{NoMemory as OutOfMemory};
 
-use std::alloc::{AllocError, AllocFailed};
 use thiserror::Error;
 use wdl_base::NoMemory;
 
@@ -19,22 +18,6 @@ impl From<NoMemory> for ResolveFault {
     ghost from_gives = { λ _ e. e ≡ OutOfMemory };
 
     fn from(_e: NoMemory) -> ResolveFault {
-        ResolveFault::NoMemory
-    }
-}
-
-impl From<AllocError> for ResolveFault {
-    ghost from_gives = { λ _ e. e ≡ OutOfMemory };
-
-    fn from(_e: AllocError) -> ResolveFault {
-        ResolveFault::NoMemory
-    }
-}
-
-impl<T: Drop> From<AllocFailed<T>> for ResolveFault {
-    ghost from_gives = { λ _ e. e ≡ OutOfMemory };
-
-    fn from(_e: AllocFailed<T>) -> ResolveFault {
         ResolveFault::NoMemory
     }
 }

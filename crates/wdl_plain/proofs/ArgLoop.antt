@@ -1,70 +1,39 @@
--- Arguments, one after the other.
-use Rattle.std.proofs.Common.{◌≡◌, ℕ, ◌+◌, ◌<◌, ◌≤◌, true, List, [], ◌∷◌, ◌++◌, drop, length, get_or, Ok, Err, append_assoc, append-nil, sym, ap, ◌∙◌, subst, refl}
+-- Arguments of which all names are known, one after the other.
+use Rattle.std.proofs.Common.{◌≡◌, ℕ, ◌+◌, ◌<◌, true, List, [], ◌∷◌, ◌++◌, drop, length, get_or, Ok, sym, ap, ◌∙◌}
 use Rattle.std.proofs.lemmas.Bool.{and_parts}
-use Rattle.std.proofs.lemmas.List.{drop_all}
 use Rattle.wdl_value.specs.declared.env.Bind.{Bind}
 use Rattle.wdl_value.specs.declared.value.Value.{Value}
 use Rattle.wdl_typed.specs.declared.expr.TExpr.{TExpr}
 use Rattle.wdl_typed.specs.declared.expr.TField.{TField}
 use Rattle.wdl_typed.specs.Evaluation.{value_of}
-use Rattle.wdl_typed.specs.Flow.{Known, all_known, arg_bind, args_known, args_met, env_of, named_arg}
-use Rattle.wdl_typed.specs.Requests.{Tried, before, tried}
+use Rattle.wdl_typed.specs.Flow.{Known, all_known, arg_bind, args_known, env_of, named_arg}
+use Rattle.wdl_typed.specs.Requests.{before}
 use Rattle.wdl_eval.specs.Ready.{IsReady}
 use Rattle.wdl_task.proofs.Loops.{cut}
 use Rattle.flow_soundness.specs.Readiness.{AreArgsReady}
-
-none_before : (o : Tried (List Bind)) → tried o (λ more. Ok ([] ++ more)) ≡ o
-none_before (Ok more) = refl
-none_before (Err e) = refl
-
-pushed : (o : Tried (List Bind)) (done : List Bind) (b : Bind) → tried o (λ more. Ok ((done ++ b ∷ []) ++ more)) ≡ tried (tried o (λ more. Ok (b ∷ more))) (λ more. Ok (done ++ more))
-pushed (Ok more) done b = ap (λ z. Ok z) (append_assoc done (b ∷ []) more)
-pushed (Err e) done b = refl
+use Rattle.flow_soundness.proofs.Taken.{Taking, taken_ready, taking_begins, taking_goes}
 
 module _ (names : List Known) (args : List (TField TExpr)) where
   abbrev env : List Bind
   env = env_of names
 
   -- So many arguments are taken, with these binds.
-  pub record Taking (i : ℕ) (done : List Bind) : Type 0 where
-    pub met : tried (args_met env (drop i args)) (λ more. Ok (done ++ more)) ≡ args_met env args
+  pub record Going (i : ℕ) (done : List Bind) : Type 0 where
+    pub taking : Taking env args i done
     pub known : args_known names (drop i args) ≡ true
-    pub ready : AreArgsReady env (drop i args)
 
-  pub taking_begins : args_known names args ≡ true → AreArgsReady env args → Taking 0 []
-  taking_begins known ready = record { met = none_before (args_met env args); known = known; ready = ready }
+  pub going_begins : args_known names args ≡ true → AreArgsReady env args → Going 0 []
+  going_begins known ready = record { taking = taking_begins env args ready; known = known }
 
-  pub taking_ends : (i : ℕ) (done : List Bind) → length args ≤ i → Taking i done → args_met env args ≡ Ok done
-  taking_ends i done end t =
-      sym t.met
-      ∙ ap (λ (as_ : List (TField TExpr)). tried (args_met env as_) (λ more. Ok (done ++ more))) (drop_all i args end)
-      ∙ ap (λ z. Ok z) (append-nil done)
+  module _ (i : ℕ) (a : TField TExpr) (done : List Bind) (at : a ≡ get_or args i a) (below : i < length args) (g : Going i done) where
+    parts : (all_known names a.value ≡ true) × (args_known names (drop (i + 1) args) ≡ true)
+    parts = and_parts (all_known names a.value) (args_known names (drop (i + 1) args)) (sym (ap (args_known names) (cut args i a at below)) ∙ g.known)
 
-  module _ (i : ℕ) (a : TField TExpr) (done : List Bind) (at : a ≡ get_or args i a) (below : i < length args) (t : Taking i done) where
-    abbrev later : List (TField TExpr)
-    later = drop (i + 1) args
+    pub going_known : all_known names a.value ≡ true
+    going_known = parts.0
 
-    parts : (all_known names a.value ≡ true) × (args_known names later ≡ true)
-    parts = and_parts (all_known names a.value) (args_known names later) (sym (ap (args_known names) (cut args i a at below)) ∙ t.known)
+    pub going_ready : IsReady a.value env
+    going_ready = taken_ready env args i a done at below g.taking
 
-    ready_parts : AreArgsReady env (a ∷ later)
-    ready_parts = subst (λ (as_ : List (TField TExpr)). AreArgsReady env as_) (cut args i a at below) t.ready
-
-    pub taken_known : all_known names a.value ≡ true
-    taken_known = parts.0
-
-    pub taken_ready : IsReady a.value env
-    taken_ready = ready_parts.0
-
-    whole : tried (args_met env (a ∷ later)) (λ more. Ok (done ++ more)) ≡ args_met env args
-    whole = sym (ap (λ (as_ : List (TField TExpr)). tried (args_met env as_) (λ more. Ok (done ++ more))) (cut args i a at below)) ∙ t.met
-
-    pub taking_goes : (x : Value) → named_arg a.name (value_of (before env) a.value) ≡ Ok x → Taking (i + 1) (done ++ arg_bind a.name x ∷ [])
-    taking_goes x h = record {
-      met =
-          pushed (args_met env later) done (arg_bind a.name x)
-          ∙ ap (λ (o : Tried Value). tried (tried o (λ y. tried (args_met env later) (λ more. Ok (arg_bind a.name y ∷ more)))) (λ more. Ok (done ++ more))) (sym h)
-          ∙ whole;
-      known = parts.1;
-      ready = ready_parts.1;
-    }
+    pub going_on : (x : Value) → named_arg a.name (value_of (before env) a.value) ≡ Ok x → Going (i + 1) (done ++ arg_bind a.name x ∷ [])
+    going_on x h = record { taking = taking_goes env args i a done at below g.taking x h; known = parts.1 }

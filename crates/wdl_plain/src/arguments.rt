@@ -14,11 +14,10 @@ use crate::referring::may_evaluate;
 use crate::valued::value_now;
 use std::alloc::Global;
 use std::sync::ledger::Ledger;
-use wdl_eval::EvalFault;
 use wdl_flow::{KnownNames, Sight};
-use wdl_task::CallFault;
+use wdl_task::{CallFault, named};
 use wdl_typed::{TCall, TExpr, TField};
-use wdl_value::{Bind, Env, Items, Key, Name, NoMemory, Steps, Value, Why};
+use wdl_value::{Bind, Env, Items, Name, NoMemory, Steps, Value};
 
 fn args_known(alloc: Global, args: &[TField<TExpr>], names: &KnownNames) -> Result<bool, NoMemory>
     ensures { IfOk result (λ b. b ≡ flow.args_known (knowns_of names.now) args.now) }
@@ -62,21 +61,8 @@ fn argument<L: Ledger>(
     requires ready { IsReady arg.now.value (env_in names.now) }
     ensures { Tells (flow.named_arg arg.now.name (value_of (before (env_in names.now)) arg.now.value)) result }
 {
-    match value_now(alloc, &arg.value, names, steps) {
-        Ok(value) => Ok(value),
-        Err(EvalFault::Code(code)) => Err(CallFault::Bad {
-            name: arg.name.to_text(alloc)?,
-            why: Why::Code(code),
-        }),
-        Err(EvalFault::NoMemory) => Err(CallFault::NoMemory),
-    }
-}
-
-fn arg_bind(alloc: Global, name: &Name, value: Value) -> Result<Bind, NoMemory>
-    ensures { IfOk result (λ b. b ≡ flow.arg_bind name.now value) }
-{
-    let key = Key::plain(alloc, name)?;
-    Ok(Bind { key, value })
+    let outcome = value_now(alloc, &arg.value, names, steps);
+    named(alloc, arg.name.as_str(), outcome)
 }
 
 /// The arguments in their order; the first fault is the answer.
@@ -93,7 +79,7 @@ pub fn args_met<L: Ledger>(
     let mut env = Items::new(alloc);
     for arg in args {
         let value = argument(alloc, arg, names, steps)?;
-        env.push(arg_bind(alloc, &arg.name, value)?)?;
+        env.push(Bind::plain(alloc, &arg.name, value)?)?;
     }
     Ok(env)
 }

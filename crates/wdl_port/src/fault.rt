@@ -3,7 +3,7 @@ ghost use Rattle.wdl_port.specs.declared.fault.ReadFault.TheVariants.{NoMemory a
 ghost use Rattle.wdl_port.specs.declared.fault.LaunchFault.TheVariants.{NoMemory as LaunchNoMemory};
 ghost use Rattle.wdl_port.specs.declared.fault.KeepFault.TheVariants.{NoMemory as KeepNoMemory};
 
-use std::alloc::{AllocError, AllocFailed};
+use std::alloc::AllocError;
 use thiserror::Error;
 use wdl_value::NoMemory;
 
@@ -17,26 +17,10 @@ pub enum ReadFault {
     NoMemory,
 }
 
-impl From<NoMemory> for ReadFault {
-    ghost from_gives = { λ _ e. e ≡ ReadNoMemory };
-
-    fn from(_e: NoMemory) -> ReadFault {
-        ReadFault::NoMemory
-    }
-}
-
 impl From<AllocError> for ReadFault {
     ghost from_gives = { λ _ e. e ≡ ReadNoMemory };
 
     fn from(_e: AllocError) -> ReadFault {
-        ReadFault::NoMemory
-    }
-}
-
-impl<T: Drop> From<AllocFailed<T>> for ReadFault {
-    ghost from_gives = { λ _ e. e ≡ ReadNoMemory };
-
-    fn from(_e: AllocFailed<T>) -> ReadFault {
         ReadFault::NoMemory
     }
 }
@@ -64,22 +48,6 @@ impl From<NoMemory> for LaunchFault {
     }
 }
 
-impl From<AllocError> for LaunchFault {
-    ghost from_gives = { λ _ e. e ≡ LaunchNoMemory };
-
-    fn from(_e: AllocError) -> LaunchFault {
-        LaunchFault::NoMemory
-    }
-}
-
-impl<T: Drop> From<AllocFailed<T>> for LaunchFault {
-    ghost from_gives = { λ _ e. e ≡ LaunchNoMemory };
-
-    fn from(_e: AllocFailed<T>) -> LaunchFault {
-        LaunchFault::NoMemory
-    }
-}
-
 /// Why a call of a keeper failed.
 #[derive(Clone, Copy, Debug, PartialEq, Eq, Error)]
 pub enum KeepFault {
@@ -94,22 +62,6 @@ impl From<NoMemory> for KeepFault {
     ghost from_gives = { λ _ e. e ≡ KeepNoMemory };
 
     fn from(_e: NoMemory) -> KeepFault {
-        KeepFault::NoMemory
-    }
-}
-
-impl From<AllocError> for KeepFault {
-    ghost from_gives = { λ _ e. e ≡ KeepNoMemory };
-
-    fn from(_e: AllocError) -> KeepFault {
-        KeepFault::NoMemory
-    }
-}
-
-impl<T: Drop> From<AllocFailed<T>> for KeepFault {
-    ghost from_gives = { λ _ e. e ≡ KeepNoMemory };
-
-    fn from(_e: AllocFailed<T>) -> KeepFault {
         KeepFault::NoMemory
     }
 }

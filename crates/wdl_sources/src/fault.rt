@@ -1,7 +1,7 @@
 ghost use Rattle.std.specs.Prelude.{◌≡◌};
 ghost use Rattle.wdl_sources.specs.declared.fault.ImportFault.TheVariants.{NoMemory as OutOfMemory};
 
-use std::alloc::{AllocError, AllocFailed};
+use std::alloc::AllocFailed;
 use thiserror::Error;
 use wdl_value::{NoMemory, Span, Text};
 
@@ -27,14 +27,6 @@ impl From<NoMemory> for ImportFault {
     ghost from_gives = { λ _ e. e ≡ OutOfMemory };
 
     fn from(_e: NoMemory) -> ImportFault {
-        ImportFault::NoMemory
-    }
-}
-
-impl From<AllocError> for ImportFault {
-    ghost from_gives = { λ _ e. e ≡ OutOfMemory };
-
-    fn from(_e: AllocError) -> ImportFault {
         ImportFault::NoMemory
     }
 }

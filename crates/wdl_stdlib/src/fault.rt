@@ -1,7 +1,7 @@
 ghost use Rattle.std.specs.Prelude.{◌≡◌};
 ghost use Rattle.wdl_stdlib.specs.declared.fault.EvalFault.TheVariants.{NoMemory as OutOfMemory};
 
-use std::alloc::{AllocError, AllocFailed};
+use std::alloc::AllocError;
 use thiserror::Error;
 use wdl_value::{EvalCode, NoMemory};
 
@@ -26,14 +26,6 @@ impl From<AllocError> for EvalFault {
     ghost from_gives = { λ _ e. e ≡ OutOfMemory };
 
     fn from(_e: AllocError) -> EvalFault {
-        EvalFault::NoMemory
-    }
-}
-
-impl<T: Drop> From<AllocFailed<T>> for EvalFault {
-    ghost from_gives = { λ _ e. e ≡ OutOfMemory };
-
-    fn from(_e: AllocFailed<T>) -> EvalFault {
         EvalFault::NoMemory
     }
 }

@@ -1,5 +1,5 @@
 -- Documents have their struct names and their structs in one way.
-use Rattle.std.proofs.Common.{◌≡◌, ◌⊎◌, ℕ, zero, suc, ◌+◌, ◌-◌, ◌<◌, ◌≤◌, Bool, true, false, not, ◌||◌, List, [], ◌∷◌, ◌++◌, map, length, get_or, slice_get, Option, Some, None, refl, sym, ap, ◌∙◌, subst, arith, inl, inr}
+use Rattle.std.proofs.Common.{◌≡◌, ◌⊎◌, ℕ, zero, suc, ◌+◌, ◌<◌, ◌≤◌, Bool, true, false, not, ◌||◌, List, [], ◌∷◌, ◌++◌, map, length, get_or, slice_get, Option, Some, None, refl, sym, ap, ◌∙◌, subst, arith, inl, inr}
 use Rattle.std.specs.Prelude.{if◌then◌else◌}
 use Rattle.std.specs.List.{list_all}
 use Rattle.std.specs.Str.{bytes_eq}
@@ -14,7 +14,7 @@ use Rattle.wdl_library.specs.declared.doc.Link.{Link}
 use Rattle.wdl_library.specs.declared.doc.StructName.{StructName}
 use Rattle.wdl_library.specs.Sections.{imports_of}
 use Rattle.wdl_library.specs.Links.{has_links, links_in, ends_within, has_no_circle}
-use Rattle.wdl_library.specs.Names.{names_eq, once, given, own_names, names_in, structs_of, structs_at, names_at, seen, has_names}
+use Rattle.wdl_library.specs.Names.{once, given, own_names, names_in, structs_of, structs_at, names_at, seen, has_names}
 use Rattle.wdl_library.specs.Structs.{Labels, agrees, stand_in, stand_at, are_first}
 use Rattle.wdl_structs.specs.Faults.{bare, AreSameDocs, AreStood}
 use Rattle.wdl_links.specs.Circles.{AreReached}

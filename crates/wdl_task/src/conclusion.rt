@@ -8,7 +8,7 @@ ghost use Rattle.wdl_task.specs.Readiness.{AreOutputsReady, IsTold};
 ghost use Rattle.wdl_task.specs.Tells.{Tells};
 ghost use Rattle.wdl_task.specs.Views.{asked_of};
 
-use crate::binding::{copy_binds, with_bind};
+use crate::binding::with_bind;
 use crate::fault::{CallFault, bad, named};
 use crate::landing::{Shore, landed};
 use crate::request::Prepared;
@@ -16,7 +16,7 @@ use std::alloc::Global;
 use std::sync::ledger::Ledger;
 use wdl_eval::{EvalFault, eval};
 use wdl_typed::{TDecl, TaskDef};
-use wdl_value::{Answer, Env, Items, Steps, Structs, Value, Why};
+use wdl_value::{Answer, Env, Items, Steps, Structs, Value, Why, copy_env};
 
 /// The value of an output, landed.
 fn output<L: Ledger>(
@@ -80,7 +80,7 @@ pub fn conclude<L: Ledger>(
     if !prepared.codes.holds(answer.status) {
         return Err(bad(alloc, "status", Why::Status(answer.status)));
     }
-    let env = copy_binds(alloc, prepared.env.as_slice())?;
+    let env = copy_env(alloc, prepared.env.as_slice())?;
     let shore = Shore {
         structs: structs.as_slice(),
         dir: &prepared.request.dir,

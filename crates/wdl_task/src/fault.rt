@@ -3,7 +3,7 @@ ghost use Rattle.wdl_base.specs.Plain.{has_nul};
 ghost use Rattle.wdl_task.specs.Tells.{Failed, IsNamed};
 ghost use Rattle.wdl_task.specs.declared.fault.CallFault.TheVariants.{NoMemory as OutOfMemory};
 
-use std::alloc::{AllocError, AllocFailed, Global};
+use std::alloc::{AllocError, Global};
 use thiserror::Error;
 use wdl_eval::EvalFault;
 use wdl_value::{NoMemory, Text, Why};
@@ -30,14 +30,6 @@ impl From<AllocError> for CallFault {
     ghost from_gives = { λ _ e. e ≡ OutOfMemory };
 
     fn from(_e: AllocError) -> CallFault {
-        CallFault::NoMemory
-    }
-}
-
-impl<T: Drop> From<AllocFailed<T>> for CallFault {
-    ghost from_gives = { λ _ e. e ≡ OutOfMemory };
-
-    fn from(_e: AllocFailed<T>) -> CallFault {
         CallFault::NoMemory
     }
 }

@@ -15,7 +15,7 @@ mod valued;
 mod writes;
 
 pub use conclusion::conclude;
-pub use fault::CallFault;
+pub use fault::{CallFault, named};
 pub use laws::{asked_fit, told_fit};
 pub use request::{Prepared, prepare, retry};
 pub use wdl_typed::Success;

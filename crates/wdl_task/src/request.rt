@@ -8,7 +8,6 @@ ghost use Rattle.wdl_task.specs.Readiness.{AreNamesReady, Kept};
 ghost use Rattle.wdl_task.specs.Views.{made_of, next_of, Prepares};
 
 use crate::attributes::{codes_of, retries_of};
-use crate::binding::copy_binds;
 use crate::command::{Filled, command_of};
 use crate::fault::{CallFault, named};
 use crate::inputs::with_inputs;
@@ -16,7 +15,9 @@ use crate::privates::{Made, with_privates};
 use std::alloc::Global;
 use std::sync::ledger::Ledger;
 use wdl_typed::{Success, TaskDef};
-use wdl_value::{Env, Items, NoMemory, Place, Request, Steps, Text, copy_place, place_text};
+use wdl_value::{
+    Env, Items, NoMemory, Place, Request, Steps, Text, copy_env, copy_place, place_text,
+};
 
 /// A request, with what its answer is told by: the values of the inputs and the private
 /// declarations, the statuses of success, and how often the task is tried again.
@@ -111,7 +112,7 @@ pub fn prepare<L: Ledger>(
     ensures value { Prepares (spec.asks task.now given.now) site.now place.now attempt result }
     ensures steps { steps.new ≤ steps.old + prepare_count task.now given.now }
 {
-    let env = copy_binds(alloc, given.as_slice())?;
+    let env = copy_env(alloc, given.as_slice())?;
     let env = with_inputs(alloc, task.inputs.as_slice(), env, steps)?;
     let files = Items::new(alloc);
     let made = with_privates(alloc, task.privates.as_slice(), Made { env, files }, steps)?;
@@ -141,7 +142,7 @@ pub fn retry(alloc: Global, prepared: &Prepared, site: &Text) -> Result<Prepared
             command,
             files,
         },
-        env: copy_binds(alloc, prepared.env.as_slice())?,
+        env: copy_env(alloc, prepared.env.as_slice())?,
         codes: prepared.codes.copy(alloc)?,
         retries,
     })

@@ -20,7 +20,7 @@ mod value_text;
 
 pub use bare::{bare_type, is_optional};
 pub use casting::{CastFault, cast};
-pub use env::{Bind, Env};
+pub use env::{Bind, Env, copy_env};
 pub use equality::same_value;
 pub use fitting::fits;
 pub use keyed::{distinct_keys, has_key};

@@ -1,6 +1,6 @@
 use Rattle.std.proofs.Common.{rules, List, ◌∷◌, [], ◌++◌, ◌+◌, ◌≤◌, length, sym, ap, ◌∙◌, subst, arith}
 use Rattle.wdl_value.specs.declared.env.Bind.{Bind}
-use Rattle.plan_steps.proofs.Taken.{Taking, taken_ready, taking_begins, taking_ends, taking_goes}
+use Rattle.flow_soundness.proofs.Taken.{Taking, taken_ready, taking_begins, taking_ends, taking_goes}
 use Rattle.plan_steps.proofs.arguments.args_met.Goals as goal
 
 pub loop-arg-init : goal.loop-arg-init
@@ -13,7 +13,7 @@ argument-requires g c = record { ready = taken_ready c.args.env.now c.args.args.
 pub loop-arg-preserved : goal.loop-arg-preserved
 loop-arg-preserved g c = (
   subst (λ (met : List Bind). Taking c.args.env.now c.args.args.now (c.loop-arg.arg-index + 1) met)
-      (sym (c.in_ok-push.ensures.ok ∙ ap (λ (b : Bind). c.loop-arg.met ++ b ∷ []) c.in_ok-arg_bind.ensures))
+      (sym (c.in_ok-push.ensures.ok ∙ ap (λ (b : Bind). c.loop-arg.met ++ b ∷ []) c.in_ok-plain.ensures))
       (taking_goes c.args.env.now c.args.args.now c.loop-arg.arg-index c.arg-item.result c.loop-arg.met c.arg-item.is c.loop-arg-test.true c.loop-arg.invariant.0 c.in_ok-value.value c.in_ok-value.ensures.value),
   omega (arith, c.in_ok-value.ensures.steps, c.loop-arg.invariant.1),
 )

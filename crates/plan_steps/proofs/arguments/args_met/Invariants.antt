@@ -1,4 +1,4 @@
-use Rattle.plan_steps.proofs.Taken.{Taking}
+use Rattle.flow_soundness.proofs.Taken.{Taking}
 use Rattle.std.proofs.Common.{◌≤◌, ◌+◌}
 use Rattle.plan_steps.proofs.arguments.args_met.Given as goal
 

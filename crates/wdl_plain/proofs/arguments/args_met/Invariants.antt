@@ -1,6 +1,6 @@
 use Rattle.wdl_flow.specs.Views.{knowns_of}
-use Rattle.wdl_plain.proofs.ArgLoop.{Taking}
+use Rattle.wdl_plain.proofs.ArgLoop.{Going}
 use Rattle.wdl_plain.proofs.arguments.args_met.Given as goal
 
 abbrev pub invariant-loop-arg : goal.invariant-loop-arg
-invariant-loop-arg g l = Taking (knowns_of l.names) l.args l.arg-index l.env
+invariant-loop-arg g l = Going (knowns_of l.names) l.args l.arg-index l.env

@@ -2,7 +2,7 @@ use Rattle.std.proofs.Common.{◌≡◌, List, ap, sym, ◌∙◌, length, arith
 use Rattle.wdl_ast.specs.declared.document.Alias.{Alias}
 use Rattle.wdl_structs.specs.Classes.{Marks}
 use Rattle.wdl_structs.specs.Tables.{names_of, named, groups}
-use Rattle.wdl_structs.specs.Nodes.{start, label_from, label_by, holds_groups, import_by, groups_among}
+use Rattle.wdl_structs.specs.Nodes.{label_from, label_by, holds_groups, import_by, groups_among}
 use Rattle.wdl_structs.proofs.TableLaws.{named_length}
 use Rattle.wdl_structs.proofs.NodeLaws.{room_at, groups_length, groups_given, joined_as, import_is}
 use Rattle.wdl_structs.proofs.identity.join_import.Goals as goal

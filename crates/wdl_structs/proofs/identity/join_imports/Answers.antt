@@ -1,4 +1,4 @@
-use Rattle.std.proofs.Common.{◌+◌, ◌∷◌, true, List, ap, sym, ◌∙◌, drop, refl}
+use Rattle.std.proofs.Common.{◌+◌, ◌∷◌, List, ap, sym, ◌∙◌, drop, refl}
 use Rattle.std.proofs.lemmas.List.{drop_all}
 use Rattle.wdl_ast.specs.declared.document.Import.{Import}
 use Rattle.wdl_ast.specs.declared.document.Section.{Section}

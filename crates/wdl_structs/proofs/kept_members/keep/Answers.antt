@@ -1,4 +1,4 @@
-use Rattle.std.proofs.Common.{List, ap, sym, subst, ◌∙◌, Some, set}
+use Rattle.std.proofs.Common.{List, ap, sym, subst, ◌∙◌}
 use Rattle.wdl_value.specs.declared.ty.Member.{Member}
 use Rattle.wdl_structs.specs.Members.{same_members}
 use Rattle.wdl_structs.specs.Kept.{Kept, Has}

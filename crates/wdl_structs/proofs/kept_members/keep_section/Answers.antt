@@ -1,4 +1,4 @@
-use Rattle.std.proofs.Common.{◌≡◌, Bool, List, ap, subst, ◌∙◌, Some, map, slice_get, true, false, refl}
+use Rattle.std.proofs.Common.{◌≡◌, Bool, List, ap, subst, ◌∙◌, Some, map, slice_get, refl}
 use Rattle.wdl_ast.specs.declared.document.StructMember.{StructMember}
 use Rattle.wdl_library.specs.Names.{names_in}
 use Rattle.wdl_library.specs.Structs.{member_of, stand_in}

@@ -1,4 +1,4 @@
-use Rattle.std.proofs.Common.{List, Option, Some, None, sym, subst}
+use Rattle.std.proofs.Common.{List, Option, sym, subst}
 use Rattle.wdl_base.specs.declared.span.Span.{Span}
 use Rattle.wdl_library.specs.declared.doc.Doc.{Doc}
 use Rattle.wdl_structs.specs.Tables.{Names, names_of, AreSeen, TellsAlias}

@@ -1,4 +1,4 @@
-use Rattle.std.proofs.Common.{◌≡◌, ◌+◌, Option, Some, IsSome, IfOk, option_map, drop, ap, subst, sym, ◌∙◌, refl}
+use Rattle.std.proofs.Common.{◌≡◌, ◌+◌, Option, IsSome, IfOk, option_map, drop, ap, subst, sym, ◌∙◌, refl}
 use Rattle.wdl_typed.specs.declared.flow.Statement.{Statement, Statement-F, fold_out-Statement, map-Statement}
 use Rattle.wdl_typed.specs.declared.flow.Statement.TheVariants as stmt
 use Rattle.wdl_typed.specs.Bodies.{Giving, Seen, body_gives, gives, joined, statement_step}
