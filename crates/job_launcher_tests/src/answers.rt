@@ -2,17 +2,17 @@
 use sqlite_items::Items;
 use std::alloc::Global;
 use wdl_port::{LaunchFault, Launcher};
-use wdl_value::{Answer, Body, Laid, Place, Request, Segment, Text};
+use wdl_value::{Answer, Body, Laid, NoMemory, Place, Request, Segment, Text};
 
-fn text(alloc: Global, s: &str) -> Result<Text, LaunchFault> {
+fn text(alloc: Global, s: &str) -> Result<Text, NoMemory> {
     match Text::new(alloc, s) {
         Ok(text) => Ok(text),
-        Err(_) => Err(LaunchFault::NoMemory),
+        Err(_) => Err(NoMemory),
     }
 }
 
 // The place of a job whose directory this is, below the folder where the test runs.
-fn place_of(alloc: Global, dir: &str) -> Result<Place, LaunchFault> {
+fn place_of(alloc: Global, dir: &str) -> Result<Place, NoMemory> {
     let mut place = Items::new(alloc);
     for _ in dir.split('/') {
         place.push(Segment::Index(0))?;
@@ -20,31 +20,36 @@ fn place_of(alloc: Global, dir: &str) -> Result<Place, LaunchFault> {
     Ok(place)
 }
 
-// Workers share a launcher. Each request lays down one file.
+// A request that lays down one file.
+fn request_of(alloc: Global, dir: &str, command: &str) -> Result<Request, NoMemory> {
+    let mut files = Items::new(alloc);
+    files.push(Laid {
+        name: text(alloc, ".laid")?,
+        body: text(alloc, "x\n")?,
+    })?;
+    Ok(Request {
+        place: place_of(alloc, dir)?,
+        attempt: 0,
+        dir: text(alloc, dir)?,
+        command: text(alloc, command)?,
+        files,
+    })
+}
+
+// Workers share a launcher.
 fn launch<L: Launcher + Sync>(
     launcher: &L,
     alloc: Global,
     dir: &str,
     command: &str,
 ) -> Result<Answer, LaunchFault> {
-    let mut files = Items::new(alloc);
-    files.push(Laid {
-        name: text(alloc, ".laid")?,
-        body: text(alloc, "x\n")?,
-    })?;
-    let request = Request {
-        place: place_of(alloc, dir)?,
-        attempt: 0,
-        dir: text(alloc, dir)?,
-        command: text(alloc, command)?,
-        files,
-    };
+    let request = request_of(alloc, dir, command)?;
     launcher.launch(alloc, &request)
 }
 
 // A body as it is, with `|` for each newline; `#` and its length where it has more than 100 bytes;
 // `!` where it was too long.
-fn add_body(alloc: Global, all: &mut Vec<u8>, body: &Body) -> Result<(), LaunchFault> {
+fn add_body(alloc: Global, all: &mut Vec<u8>, body: &Body) -> Result<(), NoMemory> {
     match body {
         Body::Long => all.push(b'!')?,
         Body::Bytes(bytes) if bytes.len() > 100 => {
@@ -61,7 +66,7 @@ fn add_body(alloc: Global, all: &mut Vec<u8>, body: &Body) -> Result<(), LaunchF
 }
 
 // `STATUS <OUT> <ERR> NAME=BODY NAME=BODY ..`
-fn line_of(alloc: Global, answer: &Answer) -> Result<Vec<u8>, LaunchFault> {
+fn line_of(alloc: Global, answer: &Answer) -> Result<Vec<u8>, NoMemory> {
     let status = answer.status;
     let mut all = Vec::new(alloc);
     all.extend_from_slice(format!(in alloc; "{status} <")?.as_bytes())?;
@@ -84,10 +89,10 @@ pub(crate) fn told<L: Launcher + Sync>(
     alloc: Global,
     dir: &str,
     command: &str,
-) -> Result<Vec<u8>, LaunchFault> {
+) -> Result<Vec<u8>, NoMemory> {
     match launch(launcher, alloc, dir, command) {
         Ok(answer) => line_of(alloc, &answer),
         Err(LaunchFault::Refused) => Ok(Vec::from_slice(alloc, b"refused")?),
-        Err(LaunchFault::NoMemory) => Err(LaunchFault::NoMemory),
+        Err(LaunchFault::NoMemory) => Err(NoMemory),
     }
 }
