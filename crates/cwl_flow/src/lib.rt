@@ -12,4 +12,4 @@ mod uses;
 mod walk;
 mod wires;
 
-pub use subset::{tool_of, translate};
+pub use subset::translate;

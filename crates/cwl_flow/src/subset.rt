@@ -1,14 +1,11 @@
-//! The process of the main workflow of a checked form, and the tools of its tasks (CWL v1.2,
-//! Workflow and CommandLineTool).
+//! The process of the main workflow of a checked form (CWL v1.2, Workflow).
 
-ghost use Rattle.std.specs.Prelude.{◌≡◌, ◌<◌, IfOk, Some, length, option_map, slice_get};
-ghost use Rattle.cwl_image.specs.Image as image;
+ghost use Rattle.std.specs.Prelude.{◌≡◌, IfOk, Some};
 ghost use Rattle.cwl_flow.specs.Drafts as draft;
 
 use crate::flow::process_at;
-use cwl_model::{Process, Tool};
+use cwl_model::Process;
 use cwl_subset::Subset;
-use cwl_tool::task_tool;
 use std::alloc::Global;
 use wdl_value::NoMemory;
 
@@ -28,16 +25,4 @@ pub fn translate(alloc: Global, subset: &Subset) -> Result<Process, NoMemory>
         Some(main) => process_at(alloc, checked, DEPTH, main),
         None => unreachable!(),
     }
-}
-
-/// The tool of a task of the checked form, by the task's number (CWL v1.2, CommandLineTool).
-///
-/// # Errors
-///
-/// `NoMemory` alone.
-pub fn tool_of(alloc: Global, subset: &Subset, task: u32) -> Result<Tool, NoMemory>
-    requires { task < length subset.now.checked.tasks }
-    ensures { IfOk result (λ t. option_map image.tool_of (slice_get subset.now.checked.tasks task) ≡ Some t) }
-{
-    task_tool(alloc, &subset.checked().tasks.as_slice()[task as usize])
 }

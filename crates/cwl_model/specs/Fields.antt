@@ -1,11 +1,9 @@
 -- Fields with parameter references (CWL v1.2 CommandLineTool, "Parameter references"). The references of this profile
 -- are `$(inputs.NAME)` and `$(inputs.NAME.path)`, and there is no escape.
-use Rattle.std.specs.Prelude.{◌≡◌, ℕ, zero, suc, ◌==◌, Bool, true, false, not, ◌&&◌, ◌||◌, List, [], ◌∷◌, ◌++◌, length, Option, Some, None, option_map, option_and_then, if◌then◌else◌, Result, Ok, Err, codes}
+use Rattle.std.specs.Prelude.{◌≡◌, ℕ, zero, suc, ◌==◌, Bool, true, false, not, ◌&&◌, ◌||◌, List, [], ◌∷◌, ◌++◌, length, Option, Some, None, option_map, option_and_then, if◌then◌else◌, codes}
 use Rattle.std.specs.Char.{is_ascii_alphanumeric}
 use Rattle.std.specs.Option.{is_some}
 use Rattle.wdl_base.specs.Names.{is_name}
-use Rattle.cwl_model.specs.declared.field.FieldFault.{FieldFault}
-use Rattle.cwl_model.specs.declared.field.FieldFault.TheVariants.{NotPlain, NoMemory as OutOfMemory}
 use Rattle.cwl_model.specs.declared.tool.Piece.{Piece}
 use Rattle.cwl_model.specs.declared.tool.Piece.TheVariants as piece
 use Rattle.cwl_model.specs.Ids.{behind}
@@ -134,42 +132,6 @@ pieces_past (c ∷ cs) zero =
 -- the pieces that a text stands for; a text that is no plain field stands for none
 abbrev pub pieces_in : List ℕ → Option (List Piece)
 pieces_in s = pieces_past s 0
-
--- ---- contracts
-
-abbrev pub begins_refused : List ℕ → Bool
-begins_refused [] = false
-begins_refused (c ∷ cs) = is_refused c cs
-
-abbrev pub holds_refused : List ℕ → Bool
-holds_refused [] = false
-holds_refused (c ∷ cs) = is_refused c cs || holds_refused cs
-
--- no piece for no characters
-abbrev pub chars_piece : List ℕ → List Piece
-chars_piece [] = []
-chars_piece (c ∷ cs) = piece.Chars (c ∷ cs) ∷ []
-
-abbrev pub NameReads : List ℕ → Result (List ℕ) FieldFault → Type 0
-NameReads s (Ok name) = (is_name s ≡ true) × (name ≡ s)
-NameReads s (Err NotPlain) = is_name s ≡ false
-NameReads s (Err OutOfMemory) = Unit {0}
-
--- a reference, and what stands between its parentheses
-pub record IsReference (word : List ℕ) (p : Piece) : Type 0 where
-  pub kind : is_chars p ≡ false
-  pub named : is_piece p ≡ true
-  pub text : piece_field p ≡ 36 ∷ 40 ∷ (word ++ 41 ∷ [])
-
-abbrev pub ReferenceReads : List ℕ → Result Piece FieldFault → Type 0
-ReferenceReads word (Ok p) = IsReference word p
-ReferenceReads word (Err NotPlain) = (p : Piece) → IsReference word p → ⊥
-ReferenceReads word (Err OutOfMemory) = Unit {0}
-
-abbrev pub PiecesRead : List ℕ → Result (List Piece) FieldFault → Type 0
-PiecesRead s (Ok ps) = (are_pieces ps ≡ true) × (field_text ps ≡ s)
-PiecesRead s (Err NotPlain) = is_plain_field s ≡ false
-PiecesRead s (Err OutOfMemory) = Unit {0}
 
 -- Exactly the plain fields have pieces, whose text is the field; and pieces that are joined are those of their text.
 pub record FieldsAreRead : Type 0 where

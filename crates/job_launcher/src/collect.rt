@@ -4,15 +4,26 @@ use crate::reach::{Reach, reach_of};
 use crate::trouble::{Trouble, if_there};
 use sqlite_items::Items;
 use std::alloc::Global;
-use std::fs;
 use std::fs::{File, Files};
-use std::io::Read;
+use std::io::{ErrorKind, Read};
+use std::{fs, io};
 use wdl_value::{Body, Seen, Text};
+
+/// A file that cannot be read counts as one that is too long: the command has ended, and only an
+/// output that needs the file fails.
+fn unread(why: &io::Error) -> Result<Body, Trouble> {
+    match why.kind() {
+        ErrorKind::OutOfMemory => Err(Trouble::NoMemory),
+        _ => Ok(Body::Long),
+    }
+}
 
 /// The bytes of an open file, or `Long` where it has more than the limit.
 fn read_up_to<F: Read + Drop>(alloc: Global, file: F, limit: u64) -> Result<Body, Trouble> {
     let mut bytes = Vec::new(alloc);
-    file.take(limit.saturating_add(1)).read_to_end(&mut bytes)?;
+    if let Err(e) = file.take(limit.saturating_add(1)).read_to_end(&mut bytes) {
+        return unread(&e);
+    }
     if bytes.len() as u64 <= limit {
         Ok(Body::Bytes(Items::from_vec(bytes)))
     } else {
@@ -20,8 +31,8 @@ fn read_up_to<F: Read + Drop>(alloc: Global, file: F, limit: u64) -> Result<Body
     }
 }
 
-/// The bytes of the regular file at a path, or `Long` where it has more than the limit; `None`
-/// where there is no such file.
+/// The bytes of the regular file at a path, or `Long` where it has more than the limit or cannot be
+/// read; `None` where there is no such file.
 pub(crate) fn body_of<R: Files>(
     rt: &R,
     alloc: Global,
@@ -33,9 +44,10 @@ pub(crate) fn body_of<R: Files>(
         Some(found) if found.is_file() => {}
         _ => return Ok(None),
     }
-    match if_there(File::open(rt, path))? {
-        Some(file) => Ok(Some(read_up_to(alloc, file, limit)?)),
-        None => Ok(None),
+    match File::open(rt, path) {
+        Ok(file) => Ok(Some(read_up_to(alloc, file, limit)?)),
+        Err(e) if e.kind() == ErrorKind::NotFound => Ok(None),
+        Err(e) => Ok(Some(unread(&e)?)),
     }
 }
 

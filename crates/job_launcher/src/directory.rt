@@ -1,15 +1,20 @@
 ghost use Rattle.std.specs.Prelude.{◌≡◌, true, false};
 ghost use Rattle.job_launcher.specs.declared.directory.Removal.TheVariants as removal;
 
-use crate::owner::{hold, make_private};
+use crate::owner::make_private;
+use crate::refusal::Refusal;
+use crate::trash::Trash;
 use crate::trouble::{Trouble, if_there};
 use std::alloc::{AllocError, Global};
 use std::fs;
 use std::fs::Files;
+use std::io::ErrorKind;
 use wdl_value::Laid;
 
-/// The file of a job's directory that takes its standard output. Each directory of a job has it
-/// from the first on.
+/// The file by which a directory is known as a job's. It is the first that is made there.
+pub(crate) const JOB: &str = ".wdl-job";
+
+/// The file of a job's directory that takes its standard output.
 pub(crate) const OUT: &str = "_stdout";
 
 /// The file of a job's directory that takes its standard error.
@@ -30,53 +35,66 @@ enum Removal {
     Refused,
     /// It is removed if it is empty.
     IfEmpty,
-    /// It is removed with what it holds.
-    Whole,
+    /// It is put aside with what it holds, and removed later.
+    Aside,
 }
 
-/// Returns how it is removed. Only a directory is, and with what it holds only one that a job left:
-/// such a one has the standard output of that job.
-fn removal_of(is_directory: bool, has_output: bool) -> Removal
-    ensures whole { result ≡ removal.Whole → (is_directory ≡ true) × (has_output ≡ true) }
+/// Returns how it is removed. Only a directory is, and with what it holds only one that a job left.
+fn removal_of(is_directory: bool, is_of_job: bool) -> Removal
+    ensures aside { result ≡ removal.Aside → (is_directory ≡ true) × (is_of_job ≡ true) }
     ensures other { is_directory ≡ false → result ≡ removal.Refused }
 {
     if !is_directory {
         return Removal::Refused;
     }
-    if has_output {
-        Removal::Whole
+    if is_of_job {
+        Removal::Aside
     } else {
         Removal::IfEmpty
     }
 }
 
-/// Removes what stands in the place of a job's directory, or refuses. The path of the directory's
-/// standard output is `out`.
-fn clear<R: Files>(rt: &R, alloc: Global, dir: &str, out: &str) -> Result<(), Trouble> {
+/// Returns whether something of this name stands in a directory.
+fn has<R: Files>(rt: &R, alloc: Global, dir: &str, name: &str) -> Result<bool, Trouble> {
+    let path = path_in(alloc, dir, name)?;
+    Ok(if_there(fs::symlink_metadata(rt, path.as_str()))?.is_some())
+}
+
+/// Puts what stands in the place of a job's directory out of the way, or refuses.
+fn clear<R: Files>(rt: &R, alloc: Global, dir: &str, trash: &Trash) -> Result<(), Trouble> {
     let Some(old) = if_there(fs::symlink_metadata(rt, dir))? else {
         return Ok(());
     };
-    let has_output = if_there(fs::symlink_metadata(rt, out))?.is_some();
-    match removal_of(old.is_dir(), has_output) {
-        Removal::Refused => Err(Trouble::Refused),
-        Removal::IfEmpty => Ok(fs::remove_dir(rt, dir)?),
-        Removal::Whole => Ok(rt.remove_dir_all(alloc, dir)?),
+    let is_of_job = has(rt, alloc, dir, JOB)? || has(rt, alloc, dir, OUT)?;
+    match removal_of(old.is_dir(), is_of_job) {
+        Removal::Refused => Err(Trouble::Refused(Refusal::NotOfJob)),
+        Removal::IfEmpty => remove_empty(rt, dir),
+        Removal::Aside => trash.put(rt, alloc, dir),
     }
 }
 
-/// Makes the directory of a job anew, and those above it where they are missing. The job's place
-/// has `levels` parts, which are the last of the path.
+/// Removes a directory that is empty, or refuses.
+fn remove_empty<R: Files>(rt: &R, dir: &str) -> Result<(), Trouble> {
+    match fs::remove_dir(rt, dir) {
+        Err(e) if e.kind() == ErrorKind::DirectoryNotEmpty => {
+            Err(Trouble::Refused(Refusal::NotOfJob))
+        }
+        other => Ok(other?),
+    }
+}
+
+/// Makes the directory of a job anew, in a folder that is there. What an earlier job left there goes
+/// into the trash, so that it is there as a whole or not at all, whenever the program is ended.
 pub(crate) fn make<R: Files>(
     rt: &R,
     alloc: Global,
     dir: &str,
-    levels: usize,
+    trash: &Trash,
 ) -> Result<(), Trouble> {
-    let out = path_in(alloc, dir, OUT)?;
-    hold(rt, dir, levels)?;
-    clear(rt, alloc, dir, out.as_str())?;
+    clear(rt, alloc, dir, trash)?;
     make_private(rt, dir)?;
-    fs::write(rt, out.as_str(), "")?;
+    let job = path_in(alloc, dir, JOB)?;
+    fs::write(rt, job.as_str(), "")?;
     Ok(())
 }
 

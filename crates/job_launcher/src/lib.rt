@@ -6,9 +6,15 @@ mod collect;
 mod directory;
 mod kind;
 mod listing;
+mod note;
 mod owner;
 mod reach;
+mod refusal;
+mod root;
 mod shell;
+mod trash;
 mod trouble;
 
+pub use note::Notes;
+pub use root::Launching;
 pub use shell::ShellLauncher;

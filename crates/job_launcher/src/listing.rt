@@ -1,14 +1,21 @@
-use crate::directory::{ERR, OUT, path_in};
+use crate::directory::{ERR, JOB, OUT, path_in};
 use crate::kind::{Kind, kind_of};
-use crate::trouble::{Trouble, if_there};
+use crate::refusal::Refusal;
+use crate::trouble::Trouble;
 use std::alloc::{AllocError, Global};
 use std::fs;
 use std::fs::{DirEntry, Files};
+use std::io::ErrorKind;
 use wdl_value::{FILE_BYTES, FILE_COUNT, FILE_NAME_BYTES};
 
 /// The most levels of folders that are listed; the files of the job's directory itself are at the
 /// first.
 const LEVELS: usize = 8;
+
+/// Whether a folder that cannot be listed for this reason is gone, or was closed by the command.
+fn is_closed(reason: ErrorKind) -> bool {
+    matches!(reason, ErrorKind::NotFound | ErrorKind::PermissionDenied)
+}
 
 /// The regular files below the directory of a job: their names, relative to it, and the lengths
 /// that they had.
@@ -33,9 +40,10 @@ impl Listing {
         })
     }
 
-    /// Adds a file, unless its name passes a limit. The two streams are no files.
+    /// Adds a file, unless its name passes a limit. The two streams, and the file by which the
+    /// directory is known, are no files of the answer.
     fn add_file(&mut self, name: String, length: u64) -> Result<(), Trouble> {
-        if name.as_str() == OUT || name.as_str() == ERR {
+        if [OUT, ERR, JOB].contains(&name.as_str()) {
             return Ok(());
         }
         self.bytes = self.bytes.saturating_add(name.len());
@@ -43,7 +51,7 @@ impl Listing {
             || name.len() > FILE_NAME_BYTES
             || self.bytes > FILE_BYTES
         {
-            return Err(Trouble::Refused);
+            return Err(Trouble::Refused(Refusal::TooManyFiles));
         }
         self.files.push((name, length))?;
         Ok(())
@@ -76,7 +84,7 @@ impl Listing {
         }
     }
 
-    /// Adds what a folder holds, where it is still there.
+    /// Adds what a folder holds, where it is still there and may be read.
     fn add_all<R: Files + AllocGlobal + Clone + Drop>(
         &mut self,
         rt: &R,
@@ -84,8 +92,10 @@ impl Listing {
         path: &str,
         prefix: &str,
     ) -> Result<(), Trouble> {
-        let Some(entries) = if_there(fs::read_dir(rt, path))? else {
-            return Ok(());
+        let entries = match fs::read_dir(rt, path) {
+            Ok(entries) => entries,
+            Err(e) if is_closed(e.kind()) => return Ok(()),
+            Err(e) => return Err(Trouble::from(e)),
         };
         for entry in entries {
             self.add(rt, alloc, prefix, &entry?)?;

@@ -1,3 +1,4 @@
+use crate::refusal::Refusal;
 use crate::trouble::{Trouble, if_there};
 use std::fs;
 use std::fs::{DirBuilder, Files, Metadata};
@@ -6,20 +7,21 @@ use std::os::unix::fs::{DirBuilderExt, MetadataExt};
 /// The mode of each folder that is made: nobody but its owner reads or changes what it holds.
 const PRIVATE: u32 = 0o700;
 
-/// Makes a folder, which must not be there.
-pub(crate) fn make_private<R: Files>(rt: &R, path: &str) -> Result<(), Trouble> {
+/// What makes folders for their owner alone.
+pub(crate) fn private_folders() -> DirBuilder {
     let mut builder = DirBuilder::new();
     builder.mode(PRIVATE);
-    builder.create(rt, path)?;
-    Ok(())
+    builder
+}
+
+/// Makes a folder, which must not be there.
+pub(crate) fn make_private<R: Files>(rt: &R, path: &str) -> Result<(), Trouble> {
+    Ok(private_folders().create(rt, path)?)
 }
 
 /// Makes a folder and those above it, where they are missing.
 fn make_all_private<R: Files>(rt: &R, path: &str) -> Result<(), Trouble> {
-    let mut builder = DirBuilder::new();
-    builder.mode(PRIVATE).recursive(true);
-    builder.create(rt, path)?;
-    Ok(())
+    Ok(private_folders().recursive(true).create(rt, path)?)
 }
 
 /// What stands at the path of a folder, which is made with those above it where nothing does.
@@ -59,6 +61,6 @@ pub(crate) fn hold<R: Files>(rt: &R, dir: &str, levels: usize) -> Result<(), Tro
     if is_own(rt, above, &found)? {
         Ok(())
     } else {
-        Err(Trouble::Refused)
+        Err(Trouble::Refused(Refusal::OthersFolder))
     }
 }

@@ -3,6 +3,7 @@ ghost use Rattle.job_launcher.specs.declared.trouble.Trouble.TheVariants.{NoMemo
 ghost use Rattle.wdl_base.specs.declared.error.TextFault.TheVariants.{NoMemory as TextNoMemory};
 ghost use Rattle.wdl_port.specs.declared.fault.LaunchFault.TheVariants.{NoMemory as LaunchNoMemory};
 
+use crate::refusal::{Refusal, Step};
 use std::alloc::{AllocError, AllocFailed};
 use std::io;
 use std::io::ErrorKind;
@@ -10,11 +11,11 @@ use thiserror::Error;
 use wdl_port::LaunchFault;
 use wdl_value::{NoMemory, TextFault};
 
-/// Why a step of a launch failed.
-#[derive(Debug, Drop, Error)]
+/// Why a launch failed.
+#[derive(Clone, Copy, Debug, Error)]
 pub(crate) enum Trouble {
-    #[error("the system refused a step of the launch")]
-    Refused,
+    #[error("the launch is refused")]
+    Refused(Refusal),
     #[error("out of memory")]
     NoMemory,
 }
@@ -28,12 +29,21 @@ pub(crate) fn if_there<T>(given: io::Result<T>) -> Result<Option<T>, Trouble> {
     }
 }
 
+/// Returns what was given; where the system refused something, with the step at which it did.
+pub(crate) fn at<T>(step: Step, given: Result<T, Trouble>) -> Result<T, Trouble> {
+    match given {
+        Err(Trouble::Refused(Refusal::System(_, kind))) => {
+            Err(Trouble::Refused(Refusal::System(step, kind)))
+        }
+        other => other,
+    }
+}
+
 impl From<io::Error> for Trouble {
     fn from(e: io::Error) -> Trouble {
-        if e.kind() == ErrorKind::OutOfMemory {
-            Trouble::NoMemory
-        } else {
-            Trouble::Refused
+        match e.kind() {
+            ErrorKind::OutOfMemory => Trouble::NoMemory,
+            kind => Trouble::Refused(Refusal::System(Step::Directory, kind)),
         }
     }
 }
@@ -43,7 +53,7 @@ impl From<TextFault> for Trouble {
 
     fn from(e: TextFault) -> Trouble {
         match e {
-            TextFault::Nul => Trouble::Refused,
+            TextFault::Nul => Trouble::Refused(Refusal::NotText),
             TextFault::NoMemory => Trouble::NoMemory,
         }
     }
@@ -78,7 +88,7 @@ impl From<Trouble> for LaunchFault {
 
     fn from(e: Trouble) -> LaunchFault {
         match e {
-            Trouble::Refused => LaunchFault::Refused,
+            Trouble::Refused(_) => LaunchFault::Refused,
             Trouble::NoMemory => LaunchFault::NoMemory,
         }
     }

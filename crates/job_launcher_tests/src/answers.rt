@@ -1,6 +1,10 @@
 //! Commands that are really run, and what is told of them in one line each.
+use job_launcher::{Launching, Notes, ShellLauncher};
 use sqlite_items::Items;
-use std::alloc::Global;
+use std::alloc::{AllocError, Global};
+use std::fs::Files;
+use std::process::Processes;
+use std::{fs, io};
 use wdl_port::{LaunchFault, Launcher};
 use wdl_value::{Answer, Body, Laid, NoMemory, Place, Request, Segment, Text};
 
@@ -94,5 +98,34 @@ pub(crate) fn told<L: Launcher + Sync>(
         Ok(answer) => line_of(alloc, &answer),
         Err(LaunchFault::Refused) => Ok(Vec::from_slice(alloc, b"refused")?),
         Err(LaunchFault::NoMemory) => Err(NoMemory),
+    }
+}
+
+/// A launcher of process 1 that tells nobody why it refuses.
+pub(crate) fn launcher_of<R: Processes + Drop>(
+    rt: R,
+    alloc: Global,
+    shell: Option<&str>,
+) -> Result<ShellLauncher<R, io::Sink>, AllocError> {
+    let shell = match shell {
+        Some(name) => Some(String::from_str(alloc, name)?),
+        None => None,
+    };
+    let own = Launching {
+        process: 1,
+        mark: None,
+    };
+    Ok(ShellLauncher::new(rt, shell, own, Notes::new(io::sink(), "")))
+}
+
+/// Ends the use of a launcher. Its root is the folder where the test runs, where nothing is left.
+pub(crate) fn end<F: Files, R: Processes + Drop>(
+    rt: &F,
+    launcher: ShellLauncher<R, io::Sink>,
+) -> io::Result<()> {
+    launcher.release();
+    match fs::remove_file(rt, ".wdl-lock") {
+        Err(e) if e.kind() != io::ErrorKind::NotFound => Err(e),
+        _ => Ok(()),
     }
 }

@@ -1,6 +1,5 @@
 //! Which directories are made, replaced and left alone.
-use crate::answers::told;
-use job_launcher::ShellLauncher;
+use crate::answers::{end, launcher_of, told};
 use std::alloc::Global;
 use std::fs;
 use std::fs::Files;
@@ -20,7 +19,7 @@ fn is_refused<L: Launcher + Sync>(
 #[test]
 fn leaves_alone_what_no_job_left(rt: HostRuntime) -> Result<(), Fail> {
     let alloc = rt.alloc();
-    let launcher = ShellLauncher::new(&rt, Some(String::from_str(alloc, "sh")?));
+    let launcher = launcher_of(&rt, alloc, Some("sh"))?;
     fs::create_dir_all(&rt, "kept/notes")?;
     fs::create_dir(&rt, "kept/empty")?;
     fs::write(&rt, "kept/notes/file", "mine")?;
@@ -40,6 +39,7 @@ fn leaves_alone_what_no_job_left(rt: HostRuntime) -> Result<(), Fail> {
     assert!(rt; fs::symlink_metadata(&rt, "kept/link")?.is_symlink());
     assert!(rt; !is_refused(&launcher, alloc, "kept/empty")?);
     assert!(rt; !is_refused(&launcher, alloc, "kept/empty")?);
+    end(&rt, launcher)?;
     rt.remove_dir_all(alloc, "kept")?;
     Ok(())
 }
@@ -47,7 +47,7 @@ fn leaves_alone_what_no_job_left(rt: HostRuntime) -> Result<(), Fail> {
 #[test]
 fn makes_private_folders(rt: HostRuntime) -> Result<(), Fail> {
     let alloc = rt.alloc();
-    let launcher = ShellLauncher::new(&rt, Some(String::from_str(alloc, "sh")?));
+    let launcher = launcher_of(&rt, alloc, Some("sh"))?;
     assert!(rt; !is_refused(&launcher, alloc, "private/a/job")?);
     for folder in ["private", "private/a", "private/a/job"] {
         let mode = fs::metadata(&rt, folder)?.mode();
@@ -60,6 +60,7 @@ fn makes_private_folders(rt: HostRuntime) -> Result<(), Fail> {
         }
         assert!(rt; !fs::exists(&rt, "private/b")?);
     }
+    end(&rt, launcher)?;
     rt.remove_dir_all(alloc, "private")?;
     Ok(())
 }

@@ -1,7 +1,7 @@
 //! What a launch answers, by the shell that the launcher was given.
-use crate::answers::told;
-use job_launcher::ShellLauncher;
+use crate::answers::{end, launcher_of, told};
 use std::alloc::Global;
+use std::fs;
 use std::fs::Files;
 use std::test::Fail;
 use wdl_port::{LaunchFault, Launcher};
@@ -35,6 +35,10 @@ $ for i in $(seq 4096); do : > $i; done
 refused
 $ rm _stdout _stderr .laid; mkfifo _stderr
 0 <!> <!>
+$ chmod 500 .
+0 <> <> .laid=x|
+$ rm -rf _stdout _stderr .laid .wdl-job; echo x > left
+0 <!> <!> left=x|
 $ true
 refused";
 
@@ -62,8 +66,9 @@ fn first_wrong<L: Launcher + Sync>(
 #[test]
 fn tells_what_a_command_did(rt: HostRuntime) -> Result<(), Fail> {
     let alloc = rt.alloc();
-    let launcher = ShellLauncher::new(&rt, Some(String::from_str(alloc, "sh")?));
+    let launcher = launcher_of(&rt, alloc, Some("sh"))?;
     let wrong = first_wrong(&launcher, alloc, "told/job")?;
+    end(&rt, launcher)?;
     rt.remove_dir_all(alloc, "told")?;
     if let Some(line) = wrong {
         assert_eq!(rt; String::from_utf8(line)?.as_str(), "");
@@ -71,24 +76,39 @@ fn tells_what_a_command_did(rt: HostRuntime) -> Result<(), Fail> {
     Ok(())
 }
 
-// `echo` says how it was started. A program that is not there is found out by the child.
+// `echo` says how it was started.
 #[test]
 fn runs_a_command_by_the_given_shell(rt: HostRuntime) -> Result<(), Fail> {
     let alloc = rt.alloc();
     for name in ["echo", "/bin/echo"] {
-        let launcher = ShellLauncher::new(&rt, Some(String::from_str(alloc, name)?));
+        let launcher = launcher_of(&rt, alloc, Some(name))?;
         let line = told(&launcher, alloc, "shell/job", "a  'b'")?;
         assert!(rt;
             is_as_wanted(line.as_slice(), "0 <-c a  'b'|> <> .laid=x|"),
             "{name}"
         );
+        end(&rt, launcher)?;
     }
-    let launcher = ShellLauncher::new(&rt, Some(String::from_str(alloc, "./no shell")?));
-    let line = told(&launcher, alloc, "shell/job", "true")?;
-    assert!(rt; line.as_slice().starts_with(b"127 <> <"));
-    let launcher = ShellLauncher::new(&rt, None);
-    let line = told(&launcher, alloc, "shell/job", "true")?;
-    assert!(rt; is_as_wanted(line.as_slice(), "refused"));
     rt.remove_dir_all(alloc, "shell")?;
+    Ok(())
+}
+
+// One that is not there, one that is no program, and none: no status of a command.
+#[test]
+fn refuses_a_shell_that_cannot_be_started(rt: HostRuntime) -> Result<(), Fail> {
+    let alloc = rt.alloc();
+    fs::write(&rt, "no program", "true")?;
+    for name in ["./no shell", "./no program"] {
+        let launcher = launcher_of(&rt, alloc, Some(name))?;
+        let line = told(&launcher, alloc, "none/job", "true")?;
+        assert!(rt; is_as_wanted(line.as_slice(), "refused"), "{name}");
+        end(&rt, launcher)?;
+    }
+    let launcher = launcher_of(&rt, alloc, None)?;
+    let line = told(&launcher, alloc, "none/job", "true")?;
+    assert!(rt; is_as_wanted(line.as_slice(), "refused"));
+    end(&rt, launcher)?;
+    fs::remove_file(&rt, "no program")?;
+    rt.remove_dir_all(alloc, "none")?;
     Ok(())
 }

@@ -1,5 +1,5 @@
 -- What each move keeps of the calls that were asked.
-use Rattle.std.proofs.Common.{◌≡◌, ◌≢◌, ◌<◌, ◌≤◌, ◌⊎◌, inl, inr, ℕ, zero, suc, ◌+◌, ◌-◌, ◌==◌, true, false, List, [], ◌∷◌, ◌++◌, Option, Some, None, length, map, get_or, slice_get, arith, ap, refl, sym, subst, ◌∙◌}
+use Rattle.std.proofs.Common.{◌≡◌, ◌≢◌, ◌<◌, ◌≤◌, ◌⊎◌, inl, inr, ℕ, zero, suc, ◌+◌, ◌-◌, ◌==◌, true, false, List, [], ◌∷◌, ◌++◌, Option, Some, length, map, get_or, slice_get, arith, ap, refl, sym, subst, ◌∙◌}
 use Rattle.std.specs.List.{slice_set, swap_remove, position_or_len}
 use Rattle.std.proofs.lemmas.Bool.{cases_eq, cases_lt, eq-eqb, false≢true}
 use Rattle.std.proofs.lemmas.List.{length-append, length-map, length-set, map-append}
@@ -14,7 +14,7 @@ use Rattle.flow_laws.proofs.SameRequests.{place_itself, place_same}
 use Rattle.step_net.proofs.Gets.{get_map, get_other, get_same}
 use Rattle.plan_steps.specs.declared.asking.Asked.{Asked}
 use Rattle.plan_steps.specs.declared.asking.Asking.{Asking}
-use Rattle.plan_steps.specs.Askings.{AreAsking, Call, HasAnswered, IsAnswered, IsAsking, IsFoundAt, IsNew, IsOwned, call_of, calls, is_past, mark_of, place_in}
+use Rattle.plan_steps.specs.Askings.{AreAsking, Call, IsAnswered, IsAsking, IsFoundAt, IsNew, IsOwned, call_of, calls, mark_of, place_in}
 use Rattle.plan_steps.proofs.Lists.{get_last, get_left, get_push, get_swapped, put_last, put_other, read_at, swapped_length, within}
 use Rattle.wdl_base.proofs.Options.{item_there}
 
@@ -340,35 +340,11 @@ all_same ready owners asked marks ready2 owners2 asked2 marks2 e f g m h =
     (subst (λ (xs : List ℕ). AreAsking ready xs asked2 marks2) (sym f)
     (subst (λ (xs : List Asked). AreAsking ready owners xs marks2) (sym g) (subst (λ (xs : List ℕ). AreAsking ready owners asked xs) (sym m) h)))
 
--- ---- what was answered
-
 -- the call that stands there
 asked_at : (asked : List Asked) (i : ℕ) (c : Call) → slice_get (map call_of asked) i ≡ Some c → (x : Asked) × (slice_get asked i ≡ Some x) × (call_of x ≡ c)
 asked_at [] i c e = absurd (let f : ⊥ = cc in f)
 asked_at (x ∷ xs) zero c e = (x, refl, same_Some _ _ e)
 asked_at (x ∷ xs) (suc i) c e = asked_at xs i c e
-
-module _ (ready : List Prepared) (owners : List ℕ) (asked : List Asked) (marks : List ℕ) (h : AreAsking ready owners asked marks) (at : ℕ) (a : Asked) (place : List Segment) (attempt : ℕ) where
-  -- the call of the place is the one that was found
-  one_call : IsFoundAt (map call_of asked) place (Some at) → a ≡ get_or asked at a → (i : ℕ) (c : Call) → slice_get (map call_of asked) i ≡ Some c → c.place ≡ place → c ≡ call_of a
-  one_call found is i c there same =
-      let x : (x : Asked) × (slice_get asked i ≡ Some x) × (call_of x ≡ c) = asked_at asked i c there in
-      let y : (x : Asked) × (slice_get asked at ≡ Some x) × (call_of x ≡ found.0) = asked_at asked at found.0 found.1 in
-      let places : x.0.place ≡ y.0.place = ap (λ (z : Call). z.place) x.2 ∙ same ∙ sym found.2 ∙ ap (λ (z : Call). z.place) (sym y.2) in
-      let one : i ≡ at = h.distinct i at x.0 y.0 x.1 y.1 places in
-      let here : slice_get asked at ≡ Some a = read_at asked at a a (within asked at y.0 y.1) is in
-      sym x.2 ∙ ap call_of (same_Some _ _ (sym x.1 ∙ ap (slice_get asked) one ∙ here))
-
-  pub answered_to : (last : ℕ) → IsFoundAt (map call_of asked) place (Some at) → a ≡ get_or asked at a → a.last ≡ Some last → attempt ≤ last → HasAnswered (map call_of asked) place attempt
-  answered_to last found is told le =
-      let own : found.0 ≡ call_of a = one_call found is at found.0 found.1 found.2 in
-      (at, found.0, found.1, found.2, subst (λ (o : Option ℕ). is_past attempt o) (sym (ap (λ (z : Call). z.last) own ∙ told)) le)
-
-  pub answered_from : (last : ℕ) → IsFoundAt (map call_of asked) place (Some at) → a ≡ get_or asked at a → a.last ≡ Some last → HasAnswered (map call_of asked) place attempt → attempt ≤ last
-  answered_from last found is told (i, c, there, same, past) = subst (λ (o : Option ℕ). is_past attempt o) (ap (λ (z : Call). z.last) (one_call found is i c there same) ∙ told) past
-
-  pub never_answered : IsFoundAt (map call_of asked) place (Some at) → a ≡ get_or asked at a → a.last ≡ None → HasAnswered (map call_of asked) place attempt → ⊥
-  never_answered found is told (i, c, there, same, past) = subst (λ (o : Option ℕ). is_past attempt o) (ap (λ (z : Call). z.last) (one_call found is i c there same) ∙ told) past
 
 -- ---- attempts by their places
 

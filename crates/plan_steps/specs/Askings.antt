@@ -1,5 +1,5 @@
 -- The calls of tasks that were asked, and their attempts that wait.
-use Rattle.std.specs.Prelude.{◌≡◌, ℕ, ◌≤◌, List, Option, Some, None, length, map, slice_get, swap_remove}
+use Rattle.std.specs.Prelude.{◌≡◌, ℕ, List, Option, Some, None, length, map, slice_get, swap_remove}
 use Rattle.wdl_base.specs.declared.place.Segment.{Segment}
 use Rattle.wdl_task.specs.declared.request.Prepared.{Prepared}
 use Rattle.wdl_flow.specs.Marks.{place_mark}
@@ -76,11 +76,3 @@ pub record IsAnswered (old : List Call) (at attempt : ℕ) (new : List Call) : T
   pub count : length new ≡ length old
   pub here : (c : Call) → slice_get old at ≡ Some c → slice_get new at ≡ Some (record { place = c.place; step = c.step; last = Some attempt })
   pub others : (i : ℕ) → (i ≡ at → ⊥) → slice_get new i ≡ slice_get old i
-
-abbrev pub is_past : ℕ → Option ℕ → Type 0
-is_past attempt None = ⊥
-is_past attempt (Some last) = attempt ≤ last
-
--- Whether a call has that place, of which that attempt or a later one was answered.
-abbrev pub HasAnswered : List Call → List Segment → ℕ → Type 0
-HasAnswered cs place attempt = (i : ℕ) × (c : Call) × (slice_get cs i ≡ Some c) × (c.place ≡ place) × is_past attempt c.last

@@ -9,8 +9,6 @@ ghost use Rattle.std.specs.Prelude.{
   ◌∷◌,
   [],
   Some,
-  IsTrue,
-  ◌↔◌,
   OnOk,
   length,
   map,
@@ -19,7 +17,6 @@ ghost use Rattle.std.specs.Prelude.{
   swap_remove,
 };
 ghost use Rattle.plan_steps.specs.Askings.{
-  HasAnswered,
   IsAnswered,
   IsAsking,
   IsFoundAt,
@@ -205,19 +202,5 @@ impl Asking {
         let prepared = self.remove(waited);
         self.asked[at].last = Some(prepared.request.attempt);
         prepared
-    }
-
-    /// Whether an answer came for an attempt of the call of a place.
-    pub fn answered(&self, place: &Place, attempt: u32) -> bool
-        requires { IsAsking self.now }
-        ensures { IsTrue result ↔ HasAnswered (calls self.now) place.now attempt }
-    {
-        let Some(at) = self.find(place) else {
-            return false;
-        };
-        match self.asked[at].last {
-            Some(last) => attempt <= last,
-            None => false,
-        }
     }
 }

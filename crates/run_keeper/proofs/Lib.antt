@@ -2,4 +2,3 @@ pub mod TextLemmas
 pub mod RowLemmas
 pub mod ListLemmas
 pub mod AnswerLemmas
-pub mod MigrationLemmas

@@ -1,6 +1,5 @@
 ghost use Rattle.std.specs.Prelude.{◌≡◌};
 ghost use Rattle.run_keeper.specs.declared.error.RowFault.TheVariants.{NoMemory as OutOfMemory};
-ghost use Rattle.run_keeper.specs.declared.error.MigrateFault.TheVariants.{NoMemory as NoRoom};
 
 use std::alloc::AllocError;
 use thiserror::Error;
@@ -12,16 +11,6 @@ pub enum RowFault {
     /// It is no row's text.
     #[error("the text is no row of a journal")]
     NotARow,
-    #[error("out of memory")]
-    NoMemory,
-}
-
-/// Why a list of strings is not brought to the last version.
-#[derive(Clone, Copy, Debug, PartialEq, Eq, Error)]
-pub enum MigrateFault {
-    /// The string of that number, counted from 0, is the first that is no row's text.
-    #[error("row {index} is no row of a journal")]
-    NotARow { index: u32 },
     #[error("out of memory")]
     NoMemory,
 }
@@ -39,13 +28,5 @@ impl From<AllocError> for RowFault {
 
     fn from(_e: AllocError) -> RowFault {
         RowFault::NoMemory
-    }
-}
-
-impl From<AllocError> for MigrateFault {
-    ghost from_gives = { λ _ e. e ≡ NoRoom };
-
-    fn from(_e: AllocError) -> MigrateFault {
-        MigrateFault::NoMemory
     }
 }

@@ -4,12 +4,10 @@
 mod error;
 mod list;
 mod member;
-mod migration;
 mod read;
 mod row_value;
 mod write;
 
-pub use error::{MigrateFault, RowFault};
-pub use migration::migrate;
+pub use error::RowFault;
 pub use read::entry_of;
 pub use write::row_text;

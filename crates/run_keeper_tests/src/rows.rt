@@ -1,8 +1,6 @@
 //! Rows of a journal.
-ghost use Rattle.std.specs.Prelude.{◌≡◌, false};
-ghost use Rattle.wdl_base.specs.Plain.{has_nul};
 
-use run_keeper::{MigrateFault, RowFault, entry_of, migrate, row_text};
+use run_keeper::{RowFault, entry_of, row_text};
 use sqlite_items::Items;
 use std::alloc::Global;
 use std::test::Fail;
@@ -125,32 +123,4 @@ fn no_other_text_is_a_row(rt: HostRuntime) {
     for row in BAD.split('\n') {
         assert!(rt; is_refused(alloc, row), "at {row}");
     }
-}
-
-/// A row in version 1, and twice another text.
-fn rows(alloc: Global, other: &str) -> Result<[Text; 3], NoMemory>
-    requires { has_nul other.now ≡ false }
-{
-    Ok([
-        Text::from_plain(alloc, OLD)?,
-        Text::from_plain(alloc, other)?,
-        Text::from_plain(alloc, other)?,
-    ])
-}
-
-/// Whether each of the rows becomes the row in version 2.
-fn are_renewed(alloc: Global, rows: &[Text; 3]) -> Result<bool, MigrateFault> {
-    let all = migrate(alloc, rows)?;
-    Ok(all.len() == 3 && all.as_slice().iter().all(|row| row.is(ROW)))
-}
-
-#[test]
-fn old_rows_are_migrated_up_to_the_first_that_is_none(rt: HostRuntime) -> Result<(), Fail> {
-    let alloc = rt.alloc();
-    assert_eq!(rt; are_renewed(alloc, &rows(alloc, ROW)?), Ok(true));
-    assert_eq!(rt;
-        are_renewed(alloc, &rows(alloc, "{}")?),
-        Err(MigrateFault::NotARow { index: 1 })
-    );
-    Ok(())
 }

@@ -35,6 +35,15 @@ pub(crate) fn shell<R: Env + AllocGlobal>(rt: &R) -> Result<Option<String>, NoMe
     }
 }
 
+/// Returns the mark of the run to which this process belongs as a job, if it does.
+pub(crate) fn outer_mark<R: Env + AllocGlobal>(rt: &R) -> Result<Option<String>, NoMemory> {
+    match env::var(rt, "WDL_RUN") {
+        Ok(mark) => Ok(Some(mark)),
+        Err(VarError::OutOfMemory) => Err(NoMemory),
+        Err(_) => Ok(None),
+    }
+}
+
 /// Returns whether a person reads the notes: where the stream is a terminal, or the environment has
 /// `WDL_NOTES=1`.
 fn shows_notes<R: Env + AllocGlobal, W: IsTerminal + Drop>(rt: &R, stream: &W) -> bool {
@@ -66,5 +75,13 @@ pub(crate) fn style_of<W: IsTerminal>(stream: &W) -> Style {
         Style::Terminal
     } else {
         Style::Lines
+    }
+}
+
+/// Returns what clears the counts below the lines of a run, which a terminal shows last.
+pub(crate) fn clear_of(style: Style) -> &'static str {
+    match style {
+        Style::Terminal => "\r\u{1b}[K",
+        Style::Lines => "",
     }
 }

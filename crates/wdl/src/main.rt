@@ -5,13 +5,12 @@ ghost use Rattle.std.specs.Prelude.{◌≡◌, ◌<◌, None};
 
 mod environment;
 
-use environment::{note_stream, shell, style_of};
-use job_launcher::ShellLauncher;
+use environment::{clear_of, note_stream, outer_mark, shell, style_of};
+use job_launcher::{Launching, Notes, ShellLauncher};
 use keeper_sql::SqlKeeper;
 use report_text::{Status, no_memory_line, number_of};
 use run_notes::Style;
 use std::alloc::Global;
-use std::env;
 use std::env::Env;
 use std::io::ErrorKind;
 use std::marker::Brand;
@@ -20,6 +19,7 @@ use std::sync::Wait;
 use std::sync::ledger::{Blank, Ledger};
 use std::thread::Threads;
 use std::time::Clock;
+use std::{env, process};
 use wdl_port::{Keeper, Launcher, Shelf, Sink};
 use wdl_value::{NoMemory, Steps};
 use workflow_cli::{FileShelf, StreamSink, workflow};
@@ -78,7 +78,7 @@ fn number<
 fn main(rt: HostRuntime) -> ExitCode {
     let alloc: Global = rt.alloc();
     let mut err = StreamSink::new(rt.stderr());
-    let (Ok(words), Ok(shell)) = (words(&rt), shell(&rt)) else {
+    let (Ok(words), Ok(shell), Ok(mark)) = (words(&rt), shell(&rt), outer_mark(&rt)) else {
         let _ = err.write(no_memory_line().as_bytes());
         return ExitCode::from(number_of(&Status::NoMemory));
     };
@@ -87,7 +87,12 @@ fn main(rt: HostRuntime) -> ExitCode {
     let stream = rt.stderr();
     let style = style_of(&stream);
     let mut notes = StreamSink::new(note_stream(&rt, stream));
-    let launcher = ShellLauncher::new(&rt, shell);
+    let own = Launching {
+        process: process::id(rt.process()),
+        mark,
+    };
+    let reasons = Notes::new(note_stream(&rt, rt.stderr()), clear_of(style));
+    let launcher = ShellLauncher::new(&rt, shell, own, reasons);
     let mut keeper = SqlKeeper::new(&rt);
     let number = number::<_, _, _, _, _, _, _, Brand>(
         &rt,
@@ -102,5 +107,6 @@ fn main(rt: HostRuntime) -> ExitCode {
         &mut keeper,
         Blank::new(1),
     );
+    launcher.release();
     ExitCode::from(number)
 }

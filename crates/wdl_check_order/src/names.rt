@@ -5,15 +5,8 @@ ghost use Rattle.wdl_check_order.specs.Names as spec;
 
 use std::alloc::Global;
 use wdl_ast::{Expr, ListItem, MapEntry, MemberEntry, StringPart};
+use wdl_order::push_copy;
 use wdl_value::{Items, Name, NoMemory};
-
-/// Puts a copy of the name behind the others.
-pub fn push_copy(alloc: Global, name: &Name, names: &mut Items<Name>) -> Result<(), NoMemory>
-    ensures { OnOk result (names.new ≡ names.old ++ name.now ∷ []) }
-{
-    names.push(name.copy(alloc)?)?;
-    Ok(())
-}
 
 #[cycle(names)]
 #[tactic(auto, using(crate::proofs::NameLaws::equations))]

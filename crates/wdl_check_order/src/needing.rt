@@ -1,29 +1,20 @@
 //! What members of a list give and refer to.
 
 ghost use Rattle.std.specs.Prelude.{◌≡◌, ◌++◌, ◌∷◌, [], map, IfOk, OnOk};
-ghost use Rattle.wdl_typed.specs.Order.{all_given, all_referred, without};
+ghost use Rattle.wdl_typed.specs.Order.{all_given, all_referred};
 ghost use Rattle.wdl_check_order.specs.Names as names;
 ghost use Rattle.wdl_check_order.specs.Needs as spec;
 ghost use Rattle.wdl_order.specs.Names.{as_needing};
 
 use crate::call::call_arguments;
-use crate::names::{push_copy, push_names};
+use crate::names::push_names;
 use std::alloc::Global;
 use wdl_ast::{
     After, Argument, Assigned, Call, Declaration, Expr, InputDeclaration, ListItem, Statement,
 };
 use wdl_check_types::call_ident;
-use wdl_names::NameStack;
-use wdl_order::Uses;
+use wdl_order::{Uses, condition_uses, one_name, push_copy, scatter_uses};
 use wdl_value::{Items, Name, NoMemory};
-
-fn one_name(alloc: Global, name: &Name) -> Result<Items<Name>, NoMemory>
-    ensures { IfOk result (λ ns. ns ≡ name.now ∷ []) }
-{
-    let mut names = Items::new(alloc);
-    push_copy(alloc, name, &mut names)?;
-    Ok(names)
-}
 
 fn expression_names(alloc: Global, e: &Expr) -> Result<Items<Name>, NoMemory>
     ensures { IfOk result (λ ns. ns ≡ names.names_of e.now) }
@@ -101,55 +92,6 @@ fn call_uses(alloc: Global, call: &Call) -> Result<Uses, NoMemory>
     Ok(Uses { gives, refers })
 }
 
-fn enter_all(alloc: Global, words: &mut NameStack, names: &[Name]) -> Result<(), NoMemory>
-    ensures { OnOk result (words.new ≡ words.old ++ names.now) }
-{
-    for name in names {
-        words.enter(name.copy(alloc)?)?;
-    }
-    Ok(())
-}
-
-/// The names of an expression, and those of a block's body that are not among these.
-fn outer_names(
-    alloc: Global,
-    e: &Expr,
-    inside: &NameStack,
-    body: &[Name],
-) -> Result<Items<Name>, NoMemory>
-    ensures { IfOk result (λ ns. ns ≡ names.names_of e.now ++ without inside.now body.now) }
-{
-    let mut names = expression_names(alloc, e)?;
-    for name in body {
-        if inside.has(name) {
-            continue;
-        }
-        push_copy(alloc, name, &mut names)?;
-    }
-    Ok(names)
-}
-
-fn scatter_uses(alloc: Global, body: Uses, item: &Name, over: &Expr) -> Result<Uses, NoMemory>
-    ensures { IfOk result (λ u. as_needing u ≡ record { gives = body.gives; refers = names.names_of over.now ++ without (item.now ∷ body.gives) body.refers }) }
-{
-    let Uses { gives, refers } = body;
-    let mut inside = NameStack::empty(alloc);
-    inside.enter(item.copy(alloc)?)?;
-    enter_all(alloc, &mut inside, gives.as_slice())?;
-    let refers = outer_names(alloc, over, &inside, refers.as_slice())?;
-    Ok(Uses { gives, refers })
-}
-
-fn conditional_uses(alloc: Global, body: Uses, condition: &Expr) -> Result<Uses, NoMemory>
-    ensures { IfOk result (λ u. as_needing u ≡ record { gives = body.gives; refers = names.names_of condition.now ++ without body.gives body.refers }) }
-{
-    let Uses { gives, refers } = body;
-    let mut inside = NameStack::empty(alloc);
-    enter_all(alloc, &mut inside, gives.as_slice())?;
-    let refers = outer_names(alloc, condition, &inside, refers.as_slice())?;
-    Ok(Uses { gives, refers })
-}
-
 #[cycle(needing)]
 fn body_uses(alloc: Global, body: &[Statement]) -> Result<Uses, NoMemory>
     ensures { IfOk result (λ u. as_needing u ≡ record { gives = all_given (map spec.statement_needing body.now); refers = all_referred (map spec.statement_needing body.now) }) }
@@ -175,11 +117,16 @@ pub fn statement_uses(alloc: Global, statement: &Statement) -> Result<Uses, NoMe
         Statement::Call(call) => call_uses(alloc, call),
         Statement::Scatter(block) => {
             let body = body_uses(alloc, block.body.as_slice())?;
-            scatter_uses(alloc, body, &block.item.name, &block.over)
+            scatter_uses(
+                alloc,
+                body,
+                &block.item.name,
+                expression_names(alloc, &block.over)?,
+            )
         }
         Statement::Conditional(block) => {
             let body = body_uses(alloc, block.body.as_slice())?;
-            conditional_uses(alloc, body, &block.condition)
+            condition_uses(alloc, body, expression_names(alloc, &block.condition)?)
         }
     }
 }

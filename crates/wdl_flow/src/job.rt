@@ -3,7 +3,7 @@ ghost use Rattle.std.specs.Prelude.{◌≡◌, IfOk};
 use std::alloc::Global;
 use std::marker::Model;
 use wdl_typed::Success;
-use wdl_value::{NoMemory, Request};
+use wdl_value::NoMemory;
 
 /// On which terms a job is run: the statuses that are its successes, and how often it may be tried
 /// again. Contracts see the statuses alone; the number is told to a person, and nothing that is
@@ -49,11 +49,4 @@ impl Terms {
     pub fn retries(&self) -> u32 {
         self.retries
     }
-}
-
-/// A request of a flow, with the terms of its job.
-#[derive(Debug, Drop)]
-pub struct AskedJob {
-    pub request: Request,
-    pub terms: Terms,
 }

@@ -2,6 +2,5 @@ pub mod Numbers
 pub mod Greedy
 pub mod Keeping
 pub mod Names
-pub mod Slots
 pub mod Numbered
 pub mod LeastLaws

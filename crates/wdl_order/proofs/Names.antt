@@ -1,7 +1,5 @@
 -- The names that members give and refer to, name by name.
 use Rattle.std.proofs.Common.{◌≡◌, ℕ, Bool, true, false, ◌==◌, ◌||◌, ◌&&◌, cond, suc, zero, Option, Some, None, List, [], ◌∷◌, ◌++◌, map, refl, ap, ◌∙◌}
-use Rattle.std.proofs.lemmas.List.{map-append}
-use Rattle.wdl_base.specs.declared.name.Key.{Key}
 use Rattle.std.proofs.lemmas.List.Concat.{flat_map-cons}
 use Rattle.std.specs.List.{flat_map, list_any, slice_get}
 use Rattle.wdl_order.proofs.Numbers.{has-append}
@@ -9,15 +7,7 @@ use Rattle.wdl_order.specs.declared.uses.Uses.{Uses}
 use Rattle.wdl_order.specs.Names.{as_needing, gives_at, gives_name, needs_at, needs_between}
 use Rattle.wdl_order.specs.Rows.{has}
 use Rattle.wdl_typed.specs.Lists.{has_number}
-use Rattle.references.specs.Names.{argument_names}
-use Rattle.wdl_typed.specs.Order.{Needing, args_referred, needs_some, referred}
-use Rattle.wdl_typed.specs.Scope.{names_of}
-use Rattle.wdl_typed.specs.declared.expr.TExpr.{TExpr}
-use Rattle.wdl_typed.specs.declared.expr.TField.{TField}
-
-pub args_are : (args : List (TField TExpr)) → map (λ (k : Key). k.first) (argument_names args) ≡ args_referred args
-args_are [] = refl
-args_are (a ∷ more) = map-append (λ (k : Key). k.first) (names_of a.value) (argument_names more) ∙ ap (λ ns. referred a.value ++ ns) (args_are more)
+use Rattle.wdl_typed.specs.Order.{Needing, needs_some}
 
 -- ---- who gives a name
 

@@ -1,6 +1,5 @@
 pub mod Laws
 pub mod Least
-pub mod Members
 pub mod Names
 pub mod Outcome
 pub mod Positions

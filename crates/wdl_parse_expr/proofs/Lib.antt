@@ -9,6 +9,4 @@ pub mod Primaries
 pub mod Chains
 pub mod Rules
 pub mod TypeLaws
-pub mod Laws
-pub mod Places
 pub mod Readers

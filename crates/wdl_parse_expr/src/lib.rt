@@ -1,9 +1,10 @@
-//! Reads expressions from tokens, and the longest expression or type that starts somewhere.
+//! Reads expressions, types and the parts of commands from tokens: the longest that starts at a
+//! cursor.
 #![tactic(auto)]
 
+mod fault;
 mod grammar;
-mod parse;
 mod reader;
 
-pub use parse::{ParsedExpr, ParsedType, fault_of, parse_expr, parse_type};
+pub use fault::fault_of;
 pub use reader::{read_expr, read_parts, read_type};

@@ -5,11 +5,16 @@ ghost use Rattle.token_reading.specs.Outcome.{Reads};
 ghost use Rattle.wdl_parse_expr.specs.Contract as contract;
 
 use crate::grammar::{Grammar, expr};
-use crate::parse::{MAX_DEPTH, MAX_TYPE_DEPTH};
 use sqlite_items::Items;
 use std::alloc::Global;
 use token_reading::{Cursor, Rule, RuleStop, type_at};
 use wdl_ast::{Expr, StringPart, TypeTree};
+
+/// How deep an expression may be.
+const MAX_DEPTH: usize = 64;
+
+/// How deep a type may be.
+const MAX_TYPE_DEPTH: usize = 8;
 
 /// Reads the longest expression at the cursor, of a depth of at most 64.
 #[tactic(auto, using(std::proofs::lemmas::Grind::common_steps), unfolding(token_reading::specs::Outcome::then_, crate::specs::Contract::read_expr))]

@@ -3,11 +3,11 @@ use Rattle.std.proofs.Common.{◌≡◌, ℕ, ◌+◌, ◌<◌, true, List, [], 
 use Rattle.std.proofs.lemmas.List.{length-take-le, take-append-drop, take_more}
 use Rattle.wdl_value.specs.declared.value.Value.{Value}
 use Rattle.wdl_typed.specs.Flow.{Flowing, Runner, Sight, all_together, each_item, item_sight, together, too_many}
-use Rattle.wdl_flow.specs.declared.gathering.Gathering.{Gathering}
-use Rattle.wdl_flow.specs.Flows.{quiet}
-use Rattle.wdl_flow.specs.Gathers.{IsGathered}
-use Rattle.wdl_flow.specs.Views.{flowing_of}
-use Rattle.wdl_flow.proofs.Gatherings.{each_push, many_front, many_pushed, together_push}
+use Rattle.wdl_plain.specs.declared.gathering.Gathering.{Gathering}
+use Rattle.wdl_plain.specs.Flows.{quiet}
+use Rattle.wdl_plain.specs.Gathers.{IsGathered}
+use Rattle.wdl_plain.specs.Views.{flowing_of}
+use Rattle.wdl_plain.proofs.Gatherings.{each_push, many_front, many_pushed, together_push}
 
 module _ (body : Runner) (s : Sight) (k : ℕ) (item : List ℕ) where
   abbrev run : ℕ → List Value → List Flowing

@@ -3,9 +3,13 @@ pub mod ArgLoop
 pub mod Declared
 pub mod Few
 pub mod Forms
+pub mod Gatherings
 pub mod Items
+pub mod Limits
 pub mod Loops
 pub mod Picked
 pub mod Shows
+pub mod SightLemmas
 pub mod Statements
 pub mod Tries
+pub mod Turns

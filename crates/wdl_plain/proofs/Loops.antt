@@ -2,7 +2,7 @@
 use Rattle.std.proofs.Common.{◌≡◌, ℕ, ◌+◌, ◌<◌, true, false, List, ◌∷◌, length, drop, get_or, sym, ap, ◌∙◌}
 use Rattle.std.proofs.lemmas.List.{drop_more}
 use Rattle.wdl_typed.specs.Flow.{Flowing, Runner, Sight, seeing, together, too_many}
-use Rattle.wdl_flow.proofs.Turns.{Going, goes, many_part, many_sum}
+use Rattle.wdl_plain.proofs.Turns.{Going, goes, many_part, many_sum}
 
 -- the first item of the rest of a list
 pub cut : {A : Type 0} (xs : List A) (i : ℕ) (x : A) → i < length xs → x ≡ get_or xs i x → drop i xs ≡ x ∷ drop (i + 1) xs

@@ -12,9 +12,9 @@ use Rattle.wdl_typed.specs.KnownTypes.{is_some}
 use Rattle.wdl_typed.specs.Requests.{before}
 use Rattle.wdl_typed.specs.Scope.{is_among, lookup, names_of, same_key, type_in}
 use Rattle.wdl_eval.specs.Ready.{IsGiven, IsReady}
-use Rattle.wdl_flow.specs.declared.known.Known.{Known}
+use Rattle.wdl_plain.specs.declared.known.Known.{Known}
 use Rattle.wdl_plain.specs.Referring.{pick, picks}
-use Rattle.wdl_flow.specs.Views.{env_in, knowns_of}
+use Rattle.wdl_plain.specs.Views.{env_in, knowns_of}
 use Rattle.flow_soundness.proofs.NewNames.{same_key-refl}
 use Rattle.wdl_plain.proofs.Alike.{Agree, values_alike}
 use Rattle.wdl_flow.proofs.MarkLemmas.{same_key-true}

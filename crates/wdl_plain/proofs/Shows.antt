@@ -11,10 +11,10 @@ use Rattle.wdl_typed.specs.declared.flow.FlowDef.{FlowDef}
 use Rattle.wdl_typed.specs.Bodies.{Library}
 use Rattle.wdl_typed.specs.Flow as flow
 use Rattle.wdl_typed.specs.Journal.{flow_over}
-use Rattle.wdl_flow.specs.declared.fault.PlainFault.{PlainFault}
-use Rattle.wdl_flow.specs.declared.flowing.Flowing.{Flowing as Made}
-use Rattle.wdl_flow.specs.Flows.{Flows}
-use Rattle.wdl_flow.specs.Views.{flowing_of}
+use Rattle.wdl_plain.specs.declared.fault.PlainFault.{PlainFault}
+use Rattle.wdl_plain.specs.declared.flowing.Flowing.{Flowing as Made}
+use Rattle.wdl_plain.specs.Flows.{Flows}
+use Rattle.wdl_plain.specs.Views.{flowing_of}
 use Rattle.wdl_plain.specs.declared.flow.Flow.{Flow}
 use Rattle.wdl_plain.specs.Shown.{IsShown, IsShownAs, Shows, library_of}
 

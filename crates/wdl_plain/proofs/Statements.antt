@@ -21,12 +21,12 @@ use Rattle.wdl_typed.specs.Evaluation.{value_of}
 use Rattle.wdl_typed.specs.Flow as flow
 use Rattle.wdl_typed.specs.Flow.{Flowing, Run, Sight, all_known, all_together, body_names, conditional, each_item, env_of, fault_at, flow_at, gathered, giving, missing, nothing, seeing, together, too_many, with_fault, with_names}
 use Rattle.wdl_typed.specs.Requests.{before}
-use Rattle.wdl_flow.specs.declared.fault.PlainFault.{PlainFault}
-use Rattle.wdl_flow.specs.declared.fault.PlainFault.TheVariants.{TooMany}
-use Rattle.wdl_flow.specs.declared.flowing.Flowing.{Flowing as Made}
-use Rattle.wdl_flow.specs.Flows.{Flows, counted}
-use Rattle.wdl_flow.proofs.Limits.{many_left, many_right}
-use Rattle.wdl_flow.proofs.Turns.{together_assoc, together_nothing}
+use Rattle.wdl_plain.specs.declared.fault.PlainFault.{PlainFault}
+use Rattle.wdl_plain.specs.declared.fault.PlainFault.TheVariants.{TooMany}
+use Rattle.wdl_plain.specs.declared.flowing.Flowing.{Flowing as Made}
+use Rattle.wdl_plain.specs.Flows.{Flows, counted}
+use Rattle.wdl_plain.proofs.Limits.{many_left, many_right}
+use Rattle.wdl_plain.proofs.Turns.{together_assoc, together_nothing}
 use Rattle.flow_soundness.specs.Readiness.{IsStatementReady}
 use Rattle.flow_soundness.specs.StatementFlow.{statement_flow}
 use Rattle.wdl_plain.specs.Walk as spec

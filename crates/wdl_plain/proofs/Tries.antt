@@ -9,10 +9,11 @@ use Rattle.wdl_typed.specs.Requests.{Asked, request}
 use Rattle.wdl_typed.specs.Statuses.{successes_of}
 use Rattle.wdl_task.specs.declared.request.Prepared.{Prepared}
 use Rattle.wdl_task.specs.Views.{asked_of, next_of}
-use Rattle.wdl_flow.specs.declared.flowing.Flowing.{Flowing as Made}
+use Rattle.wdl_plain.specs.declared.flowing.Flowing.{Flowing as Made}
 use Rattle.wdl_flow.specs.declared.yielded.Yielded.{Yielded}
-use Rattle.wdl_flow.specs.declared.job.AskedJob.{AskedJob}
-use Rattle.wdl_flow.specs.Views.{codes_in, flowing_of, given_of, requests_in}
+use Rattle.wdl_plain.specs.declared.job.AskedJob.{AskedJob}
+use Rattle.wdl_flow.specs.Views.{given_of}
+use Rattle.wdl_plain.specs.Views.{codes_in, flowing_of, requests_in}
 use Rattle.wdl_plain.specs.declared.attempt.Attempt.{Attempt}
 use Rattle.wdl_plain.specs.declared.attempt.Attempt.TheVariants.{Ends, Goes}
 use Rattle.wdl_plain.specs.declared.attempt.TaskCall.{TaskCall}

@@ -6,11 +6,12 @@ use Rattle.wdl_typed.specs.Requests.{request}
 use Rattle.wdl_task.specs.declared.request.Prepared.{Prepared}
 use Rattle.wdl_task.specs.Readiness.{IsTold}
 use Rattle.wdl_task.specs.Views.{asked_of}
-use Rattle.wdl_flow.specs.declared.job.AskedJob.{AskedJob}
+use Rattle.wdl_plain.specs.declared.job.AskedJob.{AskedJob}
 use Rattle.wdl_plain.specs.declared.attempt.Attempt.{Attempt}
 use Rattle.wdl_plain.specs.declared.attempt.Attempt.TheVariants.{Ends, Goes}
 use Rattle.wdl_plain.specs.declared.attempt.TaskCall.{TaskCall}
-use Rattle.wdl_flow.specs.Views.{flowing_of, given_of}
+use Rattle.wdl_flow.specs.Views.{given_of}
+use Rattle.wdl_plain.specs.Views.{flowing_of}
 
 -- The attempt ends with a flow whatever the later ones give, or goes over to them.
 abbrev pub Gives : (flow.Flowing → flow.Flowing) → flow.Names → Prepared → Attempt → Type 0

@@ -1,4 +1,9 @@
 pub mod Attempts
+pub mod Flows
+pub mod Gathered
+pub mod Gathers
 pub mod Referring
 pub mod Shown
+pub mod SightMarks
+pub mod Views
 pub mod Walk

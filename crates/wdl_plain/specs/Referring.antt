@@ -5,8 +5,8 @@ use Rattle.wdl_value.specs.declared.env.Bind.{Bind}
 use Rattle.wdl_typed.specs.Flow.{bound_by}
 use Rattle.wdl_typed.specs.KnownTypes.{is_some}
 use Rattle.wdl_typed.specs.Scope.{lookup}
-use Rattle.wdl_flow.specs.declared.known.Known.{Known}
-use Rattle.wdl_flow.specs.Views.{env_in}
+use Rattle.wdl_plain.specs.declared.known.Known.{Known}
+use Rattle.wdl_plain.specs.Views.{env_in}
 
 -- a name with its value, where it has one and is not there yet
 abbrev pub pick : List Known → List Bind → Key → List Bind

@@ -12,9 +12,9 @@ use Rattle.wdl_typed.specs.Flow as flow
 use Rattle.wdl_typed.specs.Journal.{flow_over, inputs_fit}
 use Rattle.wdl_typed.specs.Scope.{lookup}
 use Rattle.wdl_typed.specs.Statuses.{successes_of}
-use Rattle.wdl_flow.specs.declared.fault.PlainFault.{PlainFault}
-use Rattle.wdl_flow.specs.declared.fault.PlainFault.TheVariants.{TooMany}
-use Rattle.wdl_flow.specs.declared.job.AskedJob.{AskedJob}
+use Rattle.wdl_plain.specs.declared.fault.PlainFault.{PlainFault}
+use Rattle.wdl_plain.specs.declared.fault.PlainFault.TheVariants.{TooMany}
+use Rattle.wdl_plain.specs.declared.job.AskedJob.{AskedJob}
 use Rattle.wdl_plain.specs.declared.flow.Flow.{Flow}
 
 abbrev pub library_of : Checked → Library

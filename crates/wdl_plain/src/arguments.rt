@@ -8,13 +8,14 @@ ghost use Rattle.wdl_eval.specs.Ready.{IsReady};
 ghost use Rattle.wdl_task.specs.Tells.{Tells};
 ghost use Rattle.flow_soundness.specs.Readiness.{AreArgsReady};
 ghost use Rattle.wdl_typed.specs.Flow as flow;
-ghost use Rattle.wdl_flow.specs.Views.{endeds_of, env_in, knowns_of};
+ghost use Rattle.wdl_plain.specs.Views.{endeds_of, env_in, knowns_of};
 
+use crate::known_names::KnownNames;
 use crate::referring::may_evaluate;
+use crate::sight::Sight;
 use crate::valued::value_now;
 use std::alloc::Global;
 use std::sync::ledger::Ledger;
-use wdl_flow::{KnownNames, Sight};
 use wdl_task::{CallFault, named};
 use wdl_typed::{TCall, TExpr, TField};
 use wdl_value::{Bind, Env, Items, Name, NoMemory, Steps, Value};

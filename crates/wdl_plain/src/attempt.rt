@@ -9,14 +9,17 @@ ghost use Rattle.wdl_task.specs.Readiness.{IsTold, are_given};
 ghost use Rattle.wdl_task.specs.Views.{asked_of};
 ghost use Rattle.wdl_plain.specs.Attempts as spec;
 ghost use Rattle.wdl_plain.specs.Attempts.{IsPrepared};
-ghost use Rattle.wdl_flow.specs.Views.{flowing_of, given_of, known_of, knowns_of, run_of};
+ghost use Rattle.wdl_flow.specs.Views.{given_of};
+ghost use Rattle.wdl_plain.specs.Views.{flowing_of, known_of, knowns_of, run_of};
 
+use crate::flowing::{Flowing, waiting, with_fault, with_jobs};
+use crate::giving::{ended_as, missing};
+use crate::ground::Ground;
+use crate::job::AskedJob;
+use crate::known::Known;
 use std::alloc::Global;
 use std::sync::ledger::Ledger;
-use wdl_flow::{
-    AskedJob, Flowing, Ground, Known, Terms, Yielded, ended_as, output_key, waiting, with_fault,
-    with_jobs,
-};
+use wdl_flow::{Terms, Yielded, output_key};
 use wdl_task::{CallFault, Prepared, conclude, prepare, retry};
 use wdl_typed::TaskDef;
 use wdl_value::{
@@ -73,7 +76,7 @@ pub fn failed(
     ensures { IfOk result (λ f. flowing_of f ≡ flow.with_fault (record { place = place.now; name = name; why = why }) (flow.missing (given_of given))) }
 {
     let place = copy_place(alloc, place)?;
-    with_fault(alloc, Fault { place, name, why }, given.missing(alloc)?)
+    with_fault(alloc, Fault { place, name, why }, missing(alloc, given)?)
 }
 
 /// What an attempt gives: the call has ended, or is tried again.
@@ -146,7 +149,7 @@ fn waits(alloc: Global, place: &Place, given: Yielded) -> Result<Flowing, NoMemo
     ensures { IfOk result (λ f. flowing_of f ≡ flow.waiting place.now (flow.missing (given_of given))) }
 {
     let place = copy_place(alloc, place)?;
-    waiting(alloc, place, given.missing(alloc)?)
+    waiting(alloc, place, missing(alloc, given)?)
 }
 
 /// What an attempt gives, by its answer in the journal.

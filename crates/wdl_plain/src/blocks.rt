@@ -4,11 +4,17 @@ ghost use Rattle.std.specs.Prelude.{◌≡◌, ◌++◌, ◌∷◌, [], ℕ, Som
 ghost use Rattle.wdl_base.specs.declared.place.Segment.TheVariants as segment;
 ghost use Rattle.wdl_value.specs.Parts.{bool_in};
 ghost use Rattle.wdl_typed.specs.Flow as flow;
-ghost use Rattle.wdl_flow.specs.Views.{flowing_of, given_of, run_of, sight_of};
+ghost use Rattle.wdl_flow.specs.Views.{given_of};
+ghost use Rattle.wdl_plain.specs.Views.{flowing_of, run_of, sight_of};
 ghost use Rattle.wdl_plain.specs.Walk as spec;
 
+use crate::flowing::{Flowing, fault_at, with_fault};
+use crate::giving::missing;
+use crate::ground::Ground;
+use crate::known::Known;
+use crate::sight::Sight;
 use std::alloc::Global;
-use wdl_flow::{Flowing, Ground, Known, Sight, Yielded, fault_at, with_fault};
+use wdl_flow::Yielded;
 use wdl_typed::{Statement, TCall, TScatter};
 use wdl_value::{
     EvalCode, Fault, Key, Name, NoMemory, Place, Segment, Text, Value, Why, copy_place,
@@ -75,7 +81,7 @@ pub fn failed_scatter(
 {
     let place = place_at(alloc, place, Segment::Scatter(scatter.number))?;
     let fault = fault_at(alloc, &place, &scatter.item, code)?;
-    with_fault(alloc, fault, given.missing(alloc)?)
+    with_fault(alloc, fault, missing(alloc, given)?)
 }
 
 fn if_fault(alloc: Global, number: u32, place: &Place, code: EvalCode) -> Result<Fault, NoMemory>
@@ -101,7 +107,7 @@ pub fn failed_if(
     ensures { IfOk result (λ f. flowing_of f ≡ flow.with_fault (flow.fault_at (place.now ++ segment.If number ∷ []) (codes "if") code) (flow.missing (given_of given))) }
 {
     let fault = if_fault(alloc, number, place, code)?;
-    with_fault(alloc, fault, given.missing(alloc)?)
+    with_fault(alloc, fault, missing(alloc, given)?)
 }
 
 fn item_known(alloc: Global, name: &Name, item: &Value) -> Result<Known, NoMemory>

@@ -2,11 +2,15 @@
 
 ghost use Rattle.std.specs.Prelude.{◌≡◌, ◌∷◌, [], map, IfOk};
 ghost use Rattle.wdl_typed.specs.Flow as flow;
-ghost use Rattle.wdl_flow.specs.Views.{env_in, flowing_of, known_of, knowns_of};
+ghost use Rattle.wdl_plain.specs.Views.{env_in, flowing_of, known_of, knowns_of};
 
 use crate::declaration::value_given;
+use crate::flowing::Flowing;
+use crate::giving::ended_as;
+use crate::known::{Ended, Known};
+use crate::known_names::KnownNames;
 use std::alloc::Global;
-use wdl_flow::{Ended, Flowing, Known, KnownNames, ended_as, output_key};
+use wdl_flow::output_key;
 use wdl_typed::TDecl;
 use wdl_value::{Bind, Items, Name, NoMemory};
 

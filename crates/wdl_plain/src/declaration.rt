@@ -4,21 +4,24 @@ ghost use Rattle.std.specs.Prelude.{◌≡◌, None, IfOk};
 ghost use Rattle.wdl_typed.specs.Declarations.{plain_key};
 ghost use Rattle.wdl_typed.specs.Flow as flow;
 ghost use Rattle.wdl_typed.specs.Scope.{lookup};
-ghost use Rattle.wdl_flow.specs.Flows.{Flows};
+ghost use Rattle.wdl_plain.specs.Flows.{Flows};
 ghost use Rattle.flow_soundness.specs.Readiness.{
   AreDeclsReady,
   AreInputsReady,
   IsDeclReady,
   IsInputReady,
 };
-ghost use Rattle.wdl_flow.specs.Views.{env_in, flowing_of, sight_of};
+ghost use Rattle.wdl_plain.specs.Views.{env_in, flowing_of, sight_of};
 
+use crate::fault::PlainFault;
+use crate::flowing::{Flowing, fault_at, named, with_fault};
+use crate::known_names::KnownNames;
 use crate::referring::may_evaluate;
+use crate::sight::Sight;
 use crate::valued::value_now;
 use std::alloc::Global;
 use std::sync::ledger::Ledger;
 use wdl_eval::EvalFault;
-use wdl_flow::{Flowing, KnownNames, PlainFault, Sight, fault_at, named, with_fault};
 use wdl_typed::{TDecl, TExpr, TInput};
 use wdl_value::{EvalCode, Key, Name, NoMemory, Place, Steps, Value};
 

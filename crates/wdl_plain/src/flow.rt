@@ -5,13 +5,20 @@ ghost use Rattle.wdl_typed.specs.Flow as flow;
 ghost use Rattle.wdl_typed.specs.Journal.{inputs_fit};
 ghost use Rattle.wdl_typed.specs.Scope.{lookup};
 ghost use Rattle.wdl_plain.specs.Shown as spec;
-ghost use Rattle.wdl_flow.specs.Views.{env_in, flowing_of, knowns_of, requests_in};
+ghost use Rattle.wdl_plain.specs.Views.{env_in, flowing_of, knowns_of, requests_in};
 
+use crate::answers::Answers;
 use crate::callee::names_of;
+use crate::fault::PlainFault;
+use crate::flowing::Flowing;
+use crate::ground::Ground;
+use crate::job::AskedJob;
+use crate::known::Known;
+use crate::known_names::KnownNames;
 use crate::walk::{Reach, flow_of};
 use std::alloc::Global;
 use std::sync::ledger::Ledger;
-use wdl_flow::{Answers, AskedJob, Flowing, Ground, Known, KnownNames, PlainFault, Terms};
+use wdl_flow::Terms;
 use wdl_typed::{Checked, FlowDef, TDecl};
 use wdl_value::{Bind, Entry, Env, Fault, Items, Key, NoMemory, Place, Request, Steps, Text};
 

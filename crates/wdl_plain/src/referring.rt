@@ -5,12 +5,12 @@ ghost use Rattle.std.specs.List.{list_all};
 ghost use Rattle.wdl_typed.specs.Flow as flow;
 ghost use Rattle.wdl_typed.specs.Scope.{names_of};
 ghost use Rattle.wdl_plain.specs.Referring as spec;
-ghost use Rattle.wdl_flow.specs.Views.{knowns_of};
+ghost use Rattle.wdl_plain.specs.Views.{knowns_of};
 
+use crate::known_names::KnownNames;
 use references::expression_names;
 use std::alloc::Global;
 use wdl_eval::lookup;
-use wdl_flow::KnownNames;
 use wdl_typed::TExpr;
 use wdl_value::{Bind, Env, Items, Key, NoMemory};
 

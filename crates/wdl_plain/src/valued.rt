@@ -4,13 +4,13 @@ ghost use Rattle.wdl_typed.specs.Evaluation.{value_of};
 ghost use Rattle.wdl_typed.specs.Flow as flow;
 ghost use Rattle.wdl_typed.specs.Requests.{before};
 ghost use Rattle.wdl_eval.specs.Ready.{IsReady};
-ghost use Rattle.wdl_flow.specs.Views.{env_in, knowns_of};
+ghost use Rattle.wdl_plain.specs.Views.{env_in, knowns_of};
 
+use crate::known_names::KnownNames;
 use crate::referring::names_with_values;
 use std::alloc::Global;
 use std::sync::ledger::Ledger;
 use wdl_eval::{EvalFault, eval};
-use wdl_flow::KnownNames;
 use wdl_typed::TExpr;
 use wdl_value::{Steps, Text, Value};
 

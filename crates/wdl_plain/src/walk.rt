@@ -7,8 +7,9 @@ ghost use Rattle.wdl_typed.specs.declared.task.TaskDef.{TaskDef};
 ghost use Rattle.wdl_typed.specs.Declarations.{task_typed};
 ghost use Rattle.wdl_typed.specs.Flow as flow;
 ghost use Rattle.wdl_task.specs.Readiness.{are_given};
-ghost use Rattle.wdl_flow.specs.Flows.{Flows};
-ghost use Rattle.wdl_flow.specs.Views.{env_in, flowing_of, given_of, run_of, sight_of};
+ghost use Rattle.wdl_plain.specs.Flows.{Flows};
+ghost use Rattle.wdl_flow.specs.Views.{given_of};
+ghost use Rattle.wdl_plain.specs.Views.{env_in, flowing_of, run_of, sight_of};
 ghost use Rattle.flow_soundness.specs.Readiness.{
   AreItemsReady,
   IsBodyReady,
@@ -26,12 +27,19 @@ use crate::blocks::{
 };
 use crate::callee::{flow_ended, names_of};
 use crate::declaration::{declaration, inputs, outputs};
+use crate::fault::PlainFault;
+use crate::flowing::Flowing;
+use crate::gathering::Gathering;
+use crate::giving::{giving, missing};
+use crate::ground::Ground;
+use crate::known_names::KnownNames;
 use crate::referring::may_evaluate;
+use crate::sight::Sight;
 use crate::valued::value_now;
 use std::alloc::Global;
 use std::sync::ledger::Ledger;
 use wdl_eval::EvalFault;
-use wdl_flow::{Flowing, Gathering, Ground, KnownNames, PlainFault, Sight, Yielded};
+use wdl_flow::Yielded;
 use wdl_stdlib::items_in;
 use wdl_task::CallFault;
 use wdl_typed::{FlowDef, Statement, TCall, TIf, TScatter, Target};
@@ -95,7 +103,7 @@ fn call_flow<'a, L: Ledger>(
     let given = call_names(alloc, call, ground)?;
     let may = may_begin(alloc, call, sight)?;
     if !may {
-        return Ok(given.missing(alloc)?);
+        return Ok(missing(alloc, given)?);
     }
     let place = call_place(alloc, &sight.place, &call.name)?;
     match args_met(alloc, call.args.as_slice(), &sight.names, steps) {
@@ -142,7 +150,7 @@ fn task_called<'a, L: Ledger>(
     ensures { Flows (flow.task_called (run_of ground.now) (given_of given) place.now call.now.name args.now (slice_get ground.now.checked.now.tasks k)) result }
 {
     let Some(task) = ground.checked.tasks.get(k as usize) else {
-        return Ok(given.missing(alloc)?);
+        return Ok(missing(alloc, given)?);
     };
     let call = TaskCall {
         task,
@@ -170,7 +178,7 @@ fn flow_called<'a, L: Ledger>(
     ensures { Flows (flow.flow_called (flow.flow (run_of ground.now) reach.calls) (given_of given) place call.now.name args k (slice_get ground.now.checked.now.flows k)) result }
 {
     let Some(def) = ground.checked.flows.get(k as usize) else {
-        return Ok(given.missing(alloc)?);
+        return Ok(missing(alloc, given)?);
     };
     let args = names_of(alloc, args.as_slice())?;
     let flow = flow_of(alloc, k, &args, place, reach.inward(), ground, steps)?;
@@ -193,7 +201,7 @@ fn scatter_flow<'a, L: Ledger>(
     let given = body_names(alloc, scatter.body.as_slice(), ground)?;
     let known = may_evaluate(alloc, &scatter.over, &sight.names)?;
     if !known {
-        return Ok(given.missing(alloc)?);
+        return Ok(missing(alloc, given)?);
     }
     match value_now(alloc, &scatter.over, &sight.names, steps) {
         Ok(value) => {
@@ -281,12 +289,12 @@ fn if_flow<'a, L: Ledger>(
     let given = body_names(alloc, condition.body.as_slice(), ground)?;
     let known = may_evaluate(alloc, &condition.cond, &sight.names)?;
     if !known {
-        return Ok(given.missing(alloc)?);
+        return Ok(missing(alloc, given)?);
     }
     match value_now(alloc, &condition.cond, &sight.names, steps) {
         Ok(value) => {
             if !is_true(&value) {
-                return Ok(given.giving(alloc, &Some(Value::Absent), true)?);
+                return Ok(giving(alloc, given, &Some(Value::Absent), true)?);
             }
             chosen(alloc, condition, reach, ground, sight, steps)
         }

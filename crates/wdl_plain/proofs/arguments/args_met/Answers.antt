@@ -1,6 +1,6 @@
 use Rattle.std.proofs.Common.{rules, List, ◌∷◌, [], ◌++◌, ◌+◌, ◌≤◌, length, sym, ap, ◌∙◌, subst}
 use Rattle.wdl_value.specs.declared.env.Bind.{Bind}
-use Rattle.wdl_flow.specs.Views.{knowns_of}
+use Rattle.wdl_plain.specs.Views.{knowns_of}
 use Rattle.wdl_typed.specs.Flow.{env_of}
 use Rattle.flow_soundness.proofs.Taken.{taking_ends}
 use Rattle.wdl_plain.proofs.ArgLoop.{Going, going_begins, going_known, going_on, going_ready}

@@ -1,4 +1,4 @@
-use Rattle.wdl_flow.specs.Views.{knowns_of}
+use Rattle.wdl_plain.specs.Views.{knowns_of}
 use Rattle.wdl_plain.proofs.ArgLoop.{Going}
 use Rattle.wdl_plain.proofs.arguments.args_met.Given as goal
 

@@ -1,6 +1,7 @@
 use Rattle.std.proofs.Common.{◌∙◌}
 use Rattle.std.proofs.lemmas.Result.{IfOk-weaker}
-use Rattle.wdl_flow.specs.Views.{given_of, run_of}
+use Rattle.wdl_flow.specs.Views.{given_of}
+use Rattle.wdl_plain.specs.Views.{run_of}
 use Rattle.wdl_plain.specs.Attempts as spec
 use Rattle.wdl_plain.proofs.Tries.{loop_ends, loop_goes}
 use Rattle.wdl_plain.proofs.attempt.attempts.Goals as goal

@@ -1,7 +1,7 @@
 use Rattle.std.proofs.Common.{sym, ap, ◌∙◌}
 use Rattle.wdl_typed.specs.Flow as flow
 use Rattle.wdl_flow.specs.Given.{all_names, both}
-use Rattle.wdl_flow.specs.Views.{run_of}
+use Rattle.wdl_plain.specs.Views.{run_of}
 use Rattle.wdl_flow.proofs.GivenNames.{bodies_same}
 use Rattle.wdl_plain.proofs.blocks.body_names.Goals as goal
 

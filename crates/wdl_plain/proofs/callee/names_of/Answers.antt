@@ -2,8 +2,8 @@ use Rattle.std.proofs.Common.{◌≡◌, ℕ, ◌+◌, ◌<◌, List, [], ◌∷
 use Rattle.std.proofs.lemmas.List.{map-append}
 use Rattle.wdl_value.specs.declared.env.Bind.{Bind}
 use Rattle.wdl_typed.specs.Flow.{env_of}
-use Rattle.wdl_flow.specs.declared.known.Known.{Known}
-use Rattle.wdl_flow.specs.Views.{env_in, known_of, knowns_of}
+use Rattle.wdl_plain.specs.declared.known.Known.{Known}
+use Rattle.wdl_plain.specs.Views.{env_in, known_of, knowns_of}
 use Rattle.flow_soundness.proofs.Fitting.{env_both}
 use Rattle.wdl_plain.proofs.Loops.{cut}
 use Rattle.wdl_plain.proofs.callee.names_of.Goals as goal

@@ -1,5 +1,5 @@
 use Rattle.std.proofs.Common.{◌≡◌, ◌++◌, drop}
-use Rattle.wdl_flow.specs.Views.{env_in}
+use Rattle.wdl_plain.specs.Views.{env_in}
 use Rattle.wdl_plain.proofs.callee.names_of.Given as goal
 
 abbrev pub invariant-loop-bind : goal.invariant-loop-bind

@@ -1,6 +1,6 @@
 use Rattle.std.proofs.Common.{Ok, Err, sym, ◌∙◌}
 use Rattle.std.proofs.lemmas.Result.{IfOk-weaker}
-use Rattle.wdl_flow.specs.Views.{sight_of}
+use Rattle.wdl_plain.specs.Views.{sight_of}
 use Rattle.wdl_plain.proofs.Declared.{declared_is, declared_missing}
 use Rattle.wdl_plain.proofs.declaration.declaration.Goals as goal
 

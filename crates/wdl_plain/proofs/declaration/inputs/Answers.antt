@@ -5,11 +5,11 @@ use Rattle.wdl_typed.specs.Declarations.{plain_key}
 use Rattle.wdl_typed.specs.Flow as flow
 use Rattle.wdl_typed.specs.Scope.{lookup}
 use Rattle.flow_soundness.specs.Readiness.{AreInputsReady}
-use Rattle.wdl_flow.specs.Views.{env_in, flowing_of, sight_of}
+use Rattle.wdl_plain.specs.Views.{env_in, flowing_of, sight_of}
 use Rattle.wdl_plain.proofs.Few.{few_input}
 use Rattle.wdl_plain.proofs.Loops.{cut, runs_on, sum_is_many}
 use Rattle.wdl_plain.proofs.Statements.{handed_on}
-use Rattle.wdl_flow.proofs.Turns.{begins_none}
+use Rattle.wdl_plain.proofs.Turns.{begins_none}
 use Rattle.wdl_plain.proofs.declaration.inputs.Goals as goal
 
 abbrev run : List Bind → TInput → flow.Runner

@@ -4,8 +4,8 @@ use Rattle.wdl_typed.specs.Declarations.{plain_key}
 use Rattle.wdl_typed.specs.Flow as flow
 use Rattle.wdl_typed.specs.Scope.{lookup}
 use Rattle.flow_soundness.specs.Readiness.{AreInputsReady}
-use Rattle.wdl_flow.specs.Views.{env_in, flowing_of, sight_of}
-use Rattle.wdl_flow.proofs.Turns.{Going}
+use Rattle.wdl_plain.specs.Views.{env_in, flowing_of, sight_of}
+use Rattle.wdl_plain.proofs.Turns.{Going}
 use Rattle.wdl_plain.proofs.declaration.inputs.Given as goal
 
 abbrev pub invariant-loop-input : goal.invariant-loop-input

@@ -2,11 +2,11 @@ use Rattle.std.proofs.Common.{◌+◌, List, drop, map, refl, sym, ap, ◌∙◌
 use Rattle.wdl_typed.specs.declared.task.TDecl.{TDecl}
 use Rattle.wdl_typed.specs.Flow as flow
 use Rattle.flow_soundness.specs.Readiness.{AreDeclsReady}
-use Rattle.wdl_flow.specs.Views.{flowing_of, sight_of}
+use Rattle.wdl_plain.specs.Views.{flowing_of, sight_of}
 use Rattle.wdl_plain.proofs.Few.{few_decl}
 use Rattle.wdl_plain.proofs.Loops.{cut, runs_on, sum_is_many}
 use Rattle.wdl_plain.proofs.Statements.{handed_on}
-use Rattle.wdl_flow.proofs.Turns.{begins_none}
+use Rattle.wdl_plain.proofs.Turns.{begins_none}
 use Rattle.wdl_plain.proofs.declaration.outputs.Goals as goal
 
 abbrev run : TDecl → flow.Runner

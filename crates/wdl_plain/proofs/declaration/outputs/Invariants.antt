@@ -2,8 +2,8 @@ use Rattle.std.proofs.Common.{drop, map}
 use Rattle.wdl_typed.specs.declared.task.TDecl.{TDecl}
 use Rattle.wdl_typed.specs.Flow as flow
 use Rattle.flow_soundness.specs.Readiness.{AreDeclsReady}
-use Rattle.wdl_flow.specs.Views.{flowing_of, sight_of}
-use Rattle.wdl_flow.proofs.Turns.{Going}
+use Rattle.wdl_plain.specs.Views.{flowing_of, sight_of}
+use Rattle.wdl_plain.proofs.Turns.{Going}
 use Rattle.wdl_plain.proofs.declaration.outputs.Given as goal
 
 abbrev pub invariant-loop-output : goal.invariant-loop-output

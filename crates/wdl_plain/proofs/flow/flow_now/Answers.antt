@@ -3,7 +3,7 @@ use Rattle.std.specs.List.{slice_get}
 use Rattle.wdl_typed.specs.Flow as flow
 use Rattle.wdl_typed.specs.Journal.{flow_over, inputs_fit}
 use Rattle.wdl_typed.specs.Kept.{is_checked}
-use Rattle.wdl_flow.specs.Views.{env_in}
+use Rattle.wdl_plain.specs.Views.{env_in}
 use Rattle.wdl_plain.specs.Shown.{library_of}
 use Rattle.wdl_plain.proofs.Shows.{is_shown, over_is, refuses, shows}
 use Rattle.wdl_plain.proofs.Statements.{as_flow}

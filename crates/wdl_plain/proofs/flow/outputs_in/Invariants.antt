@@ -3,7 +3,7 @@ use Rattle.wdl_typed.specs.declared.task.TDecl.{TDecl}
 use Rattle.wdl_typed.specs.Declarations.{plain_key}
 use Rattle.wdl_typed.specs.Flow.{env_of, known}
 use Rattle.wdl_typed.specs.Scope.{lookup}
-use Rattle.wdl_flow.specs.Views.{env_in}
+use Rattle.wdl_plain.specs.Views.{env_in}
 use Rattle.wdl_plain.proofs.flow.outputs_in.Given as goal
 
 abbrev pub invariant-loop-output : goal.invariant-loop-output

@@ -3,7 +3,7 @@ use Rattle.std.proofs.lemmas.Simd.{map-map}
 use Rattle.wdl_base.specs.declared.request.Request.{Request}
 use Rattle.wdl_typed.specs.declared.success.Success.{Success}
 use Rattle.wdl_typed.specs.Statuses.{successes_of}
-use Rattle.wdl_flow.specs.Views.{env_in, knowns_of}
+use Rattle.wdl_plain.specs.Views.{env_in, knowns_of}
 use Rattle.wdl_plain.specs.Shown.{outputs_where, statuses_of}
 use Rattle.wdl_plain.proofs.flow.shown.Goals as goal
 

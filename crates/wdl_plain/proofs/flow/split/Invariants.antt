@@ -1,5 +1,5 @@
 use Rattle.std.proofs.Common.{◌≡◌, ◌++◌, length, map, reverse}
-use Rattle.wdl_flow.specs.Views.{requests_in}
+use Rattle.wdl_plain.specs.Views.{requests_in}
 use Rattle.wdl_plain.specs.Shown.{statuses_of}
 use Rattle.wdl_plain.proofs.flow.split.Given as goal
 

@@ -1,6 +1,6 @@
 use Rattle.std.proofs.Common.{◌≡◌, drop, map}
 use Rattle.std.specs.List.{list_all}
-use Rattle.wdl_flow.specs.Views.{knowns_of}
+use Rattle.wdl_plain.specs.Views.{knowns_of}
 use Rattle.wdl_typed.specs.Flow.{is_known}
 use Rattle.wdl_plain.proofs.referring.are_known.Given as goal
 

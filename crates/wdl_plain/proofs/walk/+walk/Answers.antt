@@ -13,7 +13,8 @@ use Rattle.wdl_typed.specs.declared.task.TInput.{TInput}
 use Rattle.wdl_typed.specs.declared.expr.TExpr.{TExpr}
 use Rattle.wdl_typed.specs.declared.expr.TField.{TField}
 use Rattle.wdl_typed.specs.Flow as flow
-use Rattle.wdl_flow.specs.Views.{env_in, flowing_of, given_of, run_of, sight_of}
+use Rattle.wdl_flow.specs.Views.{given_of}
+use Rattle.wdl_plain.specs.Views.{env_in, flowing_of, run_of, sight_of}
 use Rattle.flow_soundness.specs.Readiness.{AreArgsReady, AreDeclsReady, AreInputsReady, AreItemsReady, IsBodyReady, IsCalleeReady, IsStatementReady}
 use Rattle.flow_soundness.specs.StatementFlow.{statement_flow}
 use Rattle.wdl_plain.specs.Walk as spec

@@ -1,10 +1,10 @@
 use Rattle.std.proofs.Common.{◌≡◌, ◌+◌, ◌*◌, false, drop, take, map}
 use Rattle.wdl_typed.specs.Flow as flow
-use Rattle.wdl_flow.specs.Gathers.{IsGathered}
+use Rattle.wdl_plain.specs.Gathers.{IsGathered}
 use Rattle.flow_soundness.specs.Readiness.{IsBodyReady}
-use Rattle.wdl_flow.specs.Views.{flowing_of, run_of, sight_of}
+use Rattle.wdl_plain.specs.Views.{flowing_of, run_of, sight_of}
 use Rattle.wdl_plain.specs.Walk as spec
-use Rattle.wdl_flow.proofs.Turns.{Going}
+use Rattle.wdl_plain.proofs.Turns.{Going}
 use Rattle.wdl_plain.proofs.walk.+walk.Given as goal
 
 -- ---- blocks and calls in one another

@@ -1,7 +1,0 @@
-use Rattle.std.proofs.Common.{◌≡◌, false, rules}
-use Rattle.cwl_model.specs.Fields.{holds_refused}
-use Rattle.cwl_model.proofs.FieldLoops.{refused_plain}
-use Rattle.cwl_model.proofs.field.push_chars.Goals as goal
-
-pub from_plain-requires : goal.from_plain-requires
-from_plain-requires c = let calm : holds_refused c.args.chars.now ≡ false = search rules in refused_plain c.args.chars.now calm

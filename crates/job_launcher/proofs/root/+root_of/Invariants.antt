@@ -1,0 +1,4 @@
+use Rattle.job_launcher.proofs.root.+root_of.Given as goal
+
+abbrev pub decreases-root_of : goal.decreases-root_of
+decreases-root_of l = l.levels

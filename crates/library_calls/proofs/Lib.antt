@@ -1,0 +1,4 @@
+pub mod FieldLoops
+pub mod Places
+pub mod Readings
+pub mod Renewals

@@ -1,0 +1,111 @@
+ghost use Rattle.std.specs.Prelude.{◌≡◌, Some, OnOk, codes};
+ghost use Rattle.std.specs.Process.{command_var, SameOtherVars, SameProgramAndArgs, SameDir};
+
+use std::alloc::{AllocError, Global};
+use std::fmt::Write as _;
+use std::io;
+use std::io::Write;
+use std::process::{Child, Command, OpenProcess, Processes, Stdio};
+use std::random::RandomSource;
+
+/// The variable that holds the mark of a run in the environment of its jobs.
+pub const MARK: &str = "WDL_RUN";
+
+/// What the guard of the mark `$1` does. Its input ends when the run has ended. Then it ends the
+/// processes that have the mark: by TERM, and after ten seconds by KILL. One that was started while
+/// the others were looked for gets it a second later. A line on the input releases the guard; it
+/// then removes the folder `$2`, where there is one.
+const SCRIPT: &str = "mark=$1 old=$2 told=
+trap '' HUP INT QUIT TERM
+left() { grep -lsF \"$mark\" /proc/[0-9]*/environ; }
+end() {
+  for file in $(left); do
+    case $told in *\"$1$file\"*) continue ;; esac
+    told=\"$told $1$file\"
+    process=${file#/proc/}
+    kill -s \"$1\" \"${process%/environ}\"
+  done
+}
+if read -r _; then
+  [ -d \"$old\" ] || exit 0
+  rm -rf -- \"$old\" || { chmod -R u+rwx -- \"$old\"; rm -rf -- \"$old\"; }
+  exit
+fi
+for signal in TERM TERM TERM TERM TERM TERM TERM TERM TERM TERM KILL KILL KILL; do
+  end \"$signal\"
+  [ \"$(left)\" ] || exit
+  sleep 1
+done
+";
+
+/// The guard of a run that goes on: a process that waits for the end of this one. Where the guard is
+/// dropped, and where this process ends, however it ends, the processes that have its mark are
+/// ended, those in sessions of their own too.
+#[derive(Drop)]
+pub struct Guard<P: OpenProcess> {
+    child: Child<P>,
+    pub mark: String,
+}
+
+/// Returns a new mark of a run: sixteen random bytes in hexadecimal.
+pub fn fresh_mark<R: RandomSource>(rt: &R, alloc: Global) -> io::Result<String> {
+    let mut bytes = [0u8; 16];
+    rt.fill_bytes(&mut bytes)?;
+    let mut mark = String::new(alloc);
+    for byte in bytes {
+        write!(mark, "{byte:02x}")?;
+    }
+    Ok(mark)
+}
+
+/// Starts the process of a guard.
+fn start_script<R: Processes>(
+    rt: &R,
+    alloc: Global,
+    mark: &str,
+    old: &str,
+) -> io::Result<Child<R::Started>> {
+    let mut command = Command::new(alloc, "sh")?;
+    command.args(["-c", SCRIPT, "sh", mark, old])?;
+    command.stdin(Stdio::piped());
+    command.stdout(Stdio::null()).stderr(Stdio::null());
+    command.spawn(rt)
+}
+
+/// Starts the guard of the run of this mark. `old` is the path of the folder that it removes when it
+/// is released.
+pub fn start<R: Processes>(
+    rt: &R,
+    alloc: Global,
+    mark: String,
+    old: &str,
+) -> io::Result<Guard<R::Started>> {
+    let child = start_script(rt, alloc, mark.as_str(), old)?;
+    Ok(Guard { child, mark })
+}
+
+/// Gives a job the mark of its run. Its program, arguments, directory and other variables stay.
+pub fn add_mark(job: &mut Command, mark: &str) -> Result<(), AllocError>
+    ensures set { OnOk result
+        (command_var job.new (codes "WDL_RUN") ≡ Some (Some mark.now)) }
+    ensures others { OnOk result (SameOtherVars job.old job.new (codes "WDL_RUN")) }
+    ensures call { OnOk result (SameProgramAndArgs job.old job.new) }
+    ensures dir { OnOk result (SameDir job.old job.new) }
+{
+    job.env(MARK, mark)?;
+    Ok(())
+}
+
+impl<P: OpenProcess + Drop> Guard<P> {
+    /// Releases the guard, and waits until it has removed its folder and ended. What the jobs left
+    /// running goes on.
+    pub fn release(self) -> io::Result<()> {
+        let Guard { mut child, mark } = self;
+        drop(mark);
+        if let Some(input) = &mut child.stdin {
+            input.write_all(b"\n")?;
+        }
+        child.wait()?;
+        Ok(())
+    }
+}

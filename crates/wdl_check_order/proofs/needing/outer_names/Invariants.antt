@@ -1,6 +1,0 @@
-use Rattle.std.proofs.Common.{◌≡◌, ◌++◌, drop}
-use Rattle.wdl_typed.specs.Order.{without}
-use Rattle.wdl_check_order.proofs.needing.outer_names.Given as goal
-
-abbrev pub invariant-loop-name : goal.invariant-loop-name
-invariant-loop-name l = l.names ++ without l.inside (drop l.name-index l.body) ≡ l.initial.names ++ without l.inside l.body

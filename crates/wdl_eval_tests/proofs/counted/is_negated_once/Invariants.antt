@@ -1,4 +1,0 @@
-use Rattle.wdl_eval_tests.proofs.counted.is_negated_once.Given as goal
-
-abbrev pub ghosts-is_negated : goal.ghosts-is_negated
-ghosts-is_negated a = record { name = a.blank.name; parts = a.blank.parts }

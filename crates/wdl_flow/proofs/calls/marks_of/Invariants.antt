@@ -1,6 +1,0 @@
-use Rattle.std.proofs.Common.{◌≡◌, take}
-use Rattle.wdl_flow.specs.Marks.{call_marks}
-use Rattle.wdl_flow.proofs.calls.marks_of.Given as goal
-
-abbrev pub invariant-loop-end : goal.invariant-loop-end
-invariant-loop-end l = l.marks ≡ call_marks (take l.end-index l.ends)
