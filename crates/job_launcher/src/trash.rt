@@ -1,10 +1,12 @@
 use crate::directory::path_in;
-use crate::owner::private_folders;
+use crate::owner::{PRIVATE, private_folders};
 use crate::trouble::Trouble;
+use run_guard::remove;
 use std::alloc::{AllocError, Global};
-use std::fs::{Files, Permissions};
+use std::fs::{DirEntry, Files, Permissions};
 use std::io::ErrorKind;
 use std::os::unix::fs::PermissionsExt;
+use std::process::Processes;
 use std::{fs, io};
 
 /// How the names of the folders begin in which runs put old directories aside.
@@ -37,7 +39,7 @@ fn make_folder<R: Files>(rt: &R, folder: &str) -> io::Result<()> {
 fn move_to<R: Files>(rt: &R, from: &str, to: &str) -> io::Result<()> {
     match fs::rename(rt, from, to) {
         Err(e) if e.kind() == ErrorKind::PermissionDenied => {
-            fs::set_permissions(rt, from, Permissions::from_mode(0o700))?;
+            fs::set_permissions(rt, from, Permissions::from_mode(PRIVATE))?;
             fs::rename(rt, from, to)
         }
         other => other,
@@ -53,15 +55,47 @@ impl Trash {
         })
     }
 
-    /// Puts a directory into the trash.
-    pub(crate) fn put<R: Files>(&self, rt: &R, alloc: Global, dir: &str) -> Result<(), Trouble> {
+    /// Puts a directory into the trash. Where that is on another file system, the directory is put
+    /// aside where it stands, and removed.
+    pub(crate) fn put<R>(&self, rt: &R, alloc: Global, dir: &str) -> Result<(), Trouble>
+    where
+        R: Files + Processes + AllocGlobal + Clone + Drop,
+    {
         make_folder(rt, self.folder.as_str())?;
         let to = path_in(alloc, self.folder.as_str(), self.job.as_str())?;
-        Ok(move_to(rt, dir, to.as_str())?)
+        match move_to(rt, dir, to.as_str()) {
+            Err(e) if e.kind() == ErrorKind::CrossesDevices => self.remove_there(rt, alloc, dir),
+            other => Ok(other?),
+        }
+    }
+
+    /// Puts a directory aside within its own folder, and removes all that runs put aside there.
+    fn remove_there<R>(&self, rt: &R, alloc: Global, dir: &str) -> Result<(), Trouble>
+    where
+        R: Files + Processes + AllocGlobal + Clone + Drop,
+    {
+        let above = dir.rsplit_once('/').map_or(".", |(above, _)| above);
+        let mark = self.folder.rsplit_once('/').map_or("", |(_, name)| name);
+        let job = self.job.as_str();
+        let aside = format!(in alloc; "{above}/{mark}-{job}")?;
+        move_to(rt, dir, aside.as_str())?;
+        for entry in fs::read_dir(rt, above)? {
+            let entry = entry?;
+            if is_trash(&entry)? {
+                remove(rt, alloc, entry.path().as_str())?;
+            }
+        }
+        Ok(())
     }
 }
 
-/// Puts the trash that earlier runs left in a root into this run's.
+/// Returns whether a run made this folder to put old directories aside.
+fn is_trash<R: Files>(entry: &DirEntry<R>) -> io::Result<bool> {
+    Ok(entry.file_name().starts_with(BEGINNING) && entry.metadata()?.is_dir())
+}
+
+/// Puts the trash that earlier runs left in a root into this run's. What cannot be moved, as another
+/// user's, stays.
 pub(crate) fn gather<R: Files + AllocGlobal + Clone + Drop>(
     rt: &R,
     alloc: Global,
@@ -70,10 +104,13 @@ pub(crate) fn gather<R: Files + AllocGlobal + Clone + Drop>(
 ) -> Result<(), Trouble> {
     for entry in fs::read_dir(rt, root)? {
         let entry = entry?;
-        if entry.file_name().starts_with(BEGINNING) && entry.metadata()?.is_dir() {
+        if is_trash(&entry)? {
             make_folder(rt, folder)?;
             let to = path_in(alloc, folder, entry.file_name())?;
-            move_to(rt, entry.path().as_str(), to.as_str())?;
+            match move_to(rt, entry.path().as_str(), to.as_str()) {
+                Err(e) if e.kind() == ErrorKind::OutOfMemory => return Err(Trouble::NoMemory),
+                _ => {}
+            }
         }
     }
     Ok(())
