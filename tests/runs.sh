@@ -7,6 +7,7 @@
 program=${1:?the program, with its whole path}
 cd "$work" || exit 1
 root=$work/run
+export LC_ALL=C
 
 # said WORDS..: runs the program with notes, and keeps its status, output and error.
 said() {
@@ -340,6 +341,7 @@ if bound true; then
   closed "folders that nobody may read" 'mkdir -p a/b && echo x >a/b/f && chmod 0 a/b a'
   closed "a directory that nobody may enter" 'echo x >f && chmod 0 .'
   closed "a directory that nobody may read" 'echo x >f && chmod 300 .'
+  chmod -R u+rwx "$root/closed" && rm -rf "$root/closed" "$root/say"
   (umask 377 && WDL_NOTES=1 bound "$program" run --inputs a.json --root "$root" say.wdl >out 2>err </dev/null; echo "$?" >status)
   same "a directory that cannot be entered" '9 cannot launch say' "$(cat status) $(tail -n 1 err)"
   same "and its reason" yes "$(noted "say: not launched in $root/say: cannot make the directory of the job: permission denied")"
@@ -352,6 +354,7 @@ if [ "$disk" ] && [ "$(df -P "$disk" | tail -n 1)" != "$(df -P "$work" | tail -n
   for round in 1 2 3; do said run --root "$root" steps.wdl; done
   same "a folder on another disk, three times" "$undisturbed" "$(told)"
   same "nothing is left aside there" '' "$(ls -A "$disk/jobs" "$disk/jobs/0" | grep wdl-old)"
+  chmod -R u+rwx "$disk"
 else skip "a folder on another disk" "there is none in /dev/shm"; fi
 
 echo "refusals"
@@ -375,7 +378,7 @@ workflow w {
   call any { input: status = status }
 }
 END_OF_FILE
-for shell in "$work/none" "$work" headed no-such-shell; do
+for shell in "$work/none" "$work" ./headed no-such-shell; do
   WDL_SHELL=$shell said run --journal "$work/journal" --root "$root" any.wdl
   same "the shell $shell is no status that returnCodes takes" '9 cannot launch any' "$(cat status) $(tail -n 1 err)"
 done

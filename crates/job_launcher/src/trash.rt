@@ -1,5 +1,6 @@
 use crate::directory::path_in;
 use crate::owner::{PRIVATE, private_folders};
+use crate::refusal::Refusal;
 use crate::trouble::Trouble;
 use run_guard::remove;
 use std::alloc::{AllocError, Global};
@@ -74,14 +75,14 @@ impl Trash {
     where
         R: Files + Processes + AllocGlobal + Clone + Drop,
     {
-        let above = dir.rsplit_once('/').map_or(".", |(above, _)| above);
-        let mark = self.folder.rsplit_once('/').map_or("", |(_, name)| name);
-        let job = self.job.as_str();
+        let Some((above, _)) = dir.rsplit_once('/') else {
+            return Err(Trouble::Refused(Refusal::NotOfJob));
+        };
+        let (mark, job) = (name_in(self.folder.as_str()), self.job.as_str());
         let aside = format!(in alloc; "{above}/{mark}-{job}")?;
         move_to(rt, dir, aside.as_str())?;
         for entry in fs::read_dir(rt, above)? {
-            let entry = entry?;
-            if is_trash(&entry)? {
+            if let Some(entry) = trash_at(entry)? {
                 remove(rt, alloc, entry.path().as_str())?;
             }
         }
@@ -89,9 +90,38 @@ impl Trash {
     }
 }
 
-/// Returns whether a run made this folder to put old directories aside.
-fn is_trash<R: Files>(entry: &DirEntry<R>) -> io::Result<bool> {
-    Ok(entry.file_name().starts_with(BEGINNING) && entry.metadata()?.is_dir())
+/// Returns the last part of a path.
+fn name_in(path: &str) -> &str {
+    match path.rsplit_once('/') {
+        Some((_, name)) => name,
+        None => path,
+    }
+}
+
+/// Returns what a call gave, or `None` where it failed for another reason than memory: it was about
+/// what another process removed or owns, or a name that is not UTF-8.
+fn if_given<T>(given: io::Result<T>) -> Result<Option<T>, Trouble> {
+    match given {
+        Ok(it) => Ok(Some(it)),
+        Err(e) if e.kind() == ErrorKind::OutOfMemory => Err(Trouble::NoMemory),
+        Err(_) => Ok(None),
+    }
+}
+
+/// Returns an entry of a folder if it is one in which a run put old directories aside.
+fn trash_at<R: Files + Drop>(
+    entry: io::Result<DirEntry<R>>,
+) -> Result<Option<DirEntry<R>>, Trouble> {
+    let Some(entry) = if_given(entry)? else {
+        return Ok(None);
+    };
+    if !entry.file_name().starts_with(BEGINNING) {
+        return Ok(None);
+    }
+    match if_given(entry.metadata())? {
+        Some(found) if found.is_dir() => Ok(Some(entry)),
+        _ => Ok(None),
+    }
 }
 
 /// Puts the trash that earlier runs left in a root into this run's. What cannot be moved, as another
@@ -103,14 +133,10 @@ pub(crate) fn gather<R: Files + AllocGlobal + Clone + Drop>(
     folder: &str,
 ) -> Result<(), Trouble> {
     for entry in fs::read_dir(rt, root)? {
-        let entry = entry?;
-        if is_trash(&entry)? {
+        if let Some(entry) = trash_at(entry)? {
             make_folder(rt, folder)?;
             let to = path_in(alloc, folder, entry.file_name())?;
-            match move_to(rt, entry.path().as_str(), to.as_str()) {
-                Err(e) if e.kind() == ErrorKind::OutOfMemory => return Err(Trouble::NoMemory),
-                _ => {}
-            }
+            if_given(move_to(rt, entry.path().as_str(), to.as_str()))?;
         }
     }
     Ok(())
