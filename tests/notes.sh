@@ -312,7 +312,8 @@ mkdir -p "$root/say"
 echo >"$root/say/mine"
 three_ways "a job that cannot be launched" 9 'cannot launch say' run --root "$root" two.wdl <<'END'
 <clear>say: started
-[0 done, 1 running]<clear>say: not launched
+[0 done, 1 running]<clear>say: not launched in ROOT/say: the directory is there and no job left it; remove it, or name another root by --root
+<clear>say: not launched
 [0 done, 0 running]<clear>0 jobs done, 0 failed, in N s (0 ran, 0 kept from the journal, 0 tried again)
 the files of each job are below ROOT
 cannot launch say

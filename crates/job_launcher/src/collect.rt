@@ -1,7 +1,7 @@
 use crate::directory::path_in;
 use crate::listing::list;
 use crate::reach::{Reach, reach_of};
-use crate::trouble::{Trouble, if_there};
+use crate::trouble::Trouble;
 use sqlite_items::Items;
 use std::alloc::Global;
 use std::fs::{File, Files};
@@ -40,9 +40,11 @@ pub(crate) fn body_of<R: Files>(
     limit: u64,
 ) -> Result<Option<Body>, Trouble> {
     // Nothing else is opened: a named pipe would wait for its writer.
-    match if_there(fs::metadata(rt, path))? {
-        Some(found) if found.is_file() => {}
-        _ => return Ok(None),
+    match fs::metadata(rt, path) {
+        Ok(found) if found.is_file() => {}
+        Ok(_) => return Ok(None),
+        Err(e) if e.kind() == ErrorKind::NotFound => return Ok(None),
+        Err(e) => return Ok(Some(unread(&e)?)),
     }
     match File::open(rt, path) {
         Ok(file) => Ok(Some(read_up_to(alloc, file, limit)?)),

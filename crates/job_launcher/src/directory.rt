@@ -1,14 +1,16 @@
 ghost use Rattle.std.specs.Prelude.{◌≡◌, true, false};
 ghost use Rattle.job_launcher.specs.declared.directory.Removal.TheVariants as removal;
 
-use crate::owner::make_private;
+use crate::owner::{PRIVATE, make_private};
 use crate::refusal::Refusal;
 use crate::trash::Trash;
 use crate::trouble::{Trouble, if_there};
 use std::alloc::{AllocError, Global};
 use std::fs;
-use std::fs::Files;
+use std::fs::{Files, Metadata, Permissions};
 use std::io::ErrorKind;
+use std::os::unix::fs::PermissionsExt;
+use std::process::Processes;
 use wdl_value::Laid;
 
 /// The file by which a directory is known as a job's. It is the first that is made there.
@@ -60,13 +62,52 @@ fn has<R: Files>(rt: &R, alloc: Global, dir: &str, name: &str) -> Result<bool, T
     Ok(if_there(fs::symlink_metadata(rt, path.as_str()))?.is_some())
 }
 
+/// Returns whether a job left a directory.
+fn is_of_job<R: Files>(rt: &R, alloc: Global, dir: &str) -> Result<bool, Trouble> {
+    Ok(has(rt, alloc, dir, JOB)? || has(rt, alloc, dir, OUT)?)
+}
+
+/// Returns whether a job left a directory that the user cannot enter as it is. Its mode stays.
+fn is_closed_of_job<R: Files>(
+    rt: &R,
+    alloc: Global,
+    dir: &str,
+    mode: Permissions,
+) -> Result<bool, Trouble> {
+    fs::set_permissions(rt, dir, Permissions::from_mode(PRIVATE))?;
+    let found = is_of_job(rt, alloc, dir);
+    fs::set_permissions(rt, dir, mode)?;
+    found
+}
+
+/// Returns how a directory that stands in the place of a job's is removed.
+fn removal_at<R: Files>(
+    rt: &R,
+    alloc: Global,
+    dir: &str,
+    found: &Metadata,
+) -> Result<Removal, Trouble> {
+    if !found.is_dir() {
+        return Ok(removal_of(false, false));
+    }
+    let is_of_job = match is_of_job(rt, alloc, dir) {
+        Err(Trouble::Refused(Refusal::System(_, ErrorKind::PermissionDenied))) => {
+            is_closed_of_job(rt, alloc, dir, found.permissions())?
+        }
+        other => other?,
+    };
+    Ok(removal_of(true, is_of_job))
+}
+
 /// Puts what stands in the place of a job's directory out of the way, or refuses.
-fn clear<R: Files>(rt: &R, alloc: Global, dir: &str, trash: &Trash) -> Result<(), Trouble> {
+fn clear<R>(rt: &R, alloc: Global, dir: &str, trash: &Trash) -> Result<(), Trouble>
+where
+    R: Files + Processes + AllocGlobal + Clone + Drop,
+{
     let Some(old) = if_there(fs::symlink_metadata(rt, dir))? else {
         return Ok(());
     };
-    let is_of_job = has(rt, alloc, dir, JOB)? || has(rt, alloc, dir, OUT)?;
-    match removal_of(old.is_dir(), is_of_job) {
+    match removal_at(rt, alloc, dir, &old)? {
         Removal::Refused => Err(Trouble::Refused(Refusal::NotOfJob)),
         Removal::IfEmpty => remove_empty(rt, dir),
         Removal::Aside => trash.put(rt, alloc, dir),
@@ -85,12 +126,10 @@ fn remove_empty<R: Files>(rt: &R, dir: &str) -> Result<(), Trouble> {
 
 /// Makes the directory of a job anew, in a folder that is there. What an earlier job left there goes
 /// into the trash, so that it is there as a whole or not at all, whenever the program is ended.
-pub(crate) fn make<R: Files>(
-    rt: &R,
-    alloc: Global,
-    dir: &str,
-    trash: &Trash,
-) -> Result<(), Trouble> {
+pub(crate) fn make<R>(rt: &R, alloc: Global, dir: &str, trash: &Trash) -> Result<(), Trouble>
+where
+    R: Files + Processes + AllocGlobal + Clone + Drop,
+{
     clear(rt, alloc, dir, trash)?;
     make_private(rt, dir)?;
     let job = path_in(alloc, dir, JOB)?;

@@ -1,4 +1,4 @@
-use crate::trouble::{Trouble, if_there};
+use crate::trouble::Trouble;
 use std::fs;
 use std::fs::{DirEntry, Files, Metadata};
 use std::io::ErrorKind;
@@ -9,7 +9,8 @@ pub(crate) enum Kind {
     Folder,
     /// A regular file of so many bytes, or a symbolic link to one.
     File(u64),
-    /// A named pipe, a socket, a device, a link to none of these, or what went meanwhile.
+    /// A named pipe, a socket, a device, a link to none of these, what went meanwhile, or what stands
+    /// in a folder that the command closed.
     Other,
 }
 
@@ -21,7 +22,7 @@ fn file_or_other(found: &Metadata) -> Kind {
     }
 }
 
-/// Whether a link that cannot be followed for this reason leads to no file.
+/// Whether a path that cannot be followed for this reason leads to no file.
 fn leads_nowhere(reason: ErrorKind) -> bool {
     matches!(
         reason,
@@ -44,10 +45,11 @@ fn behind<R: Files>(rt: &R, link: &str) -> Result<Kind, Trouble> {
 
 /// Returns what an entry is.
 pub(crate) fn kind_of<R: Files>(rt: &R, entry: &DirEntry<R>) -> Result<Kind, Trouble> {
-    match if_there(entry.metadata())? {
-        Some(found) if found.is_dir() => Ok(Kind::Folder),
-        Some(found) if found.is_symlink() => behind(rt, entry.path().as_str()),
-        Some(found) => Ok(file_or_other(&found)),
-        None => Ok(Kind::Other),
+    match entry.metadata() {
+        Ok(found) if found.is_dir() => Ok(Kind::Folder),
+        Ok(found) if found.is_symlink() => behind(rt, entry.path().as_str()),
+        Ok(found) => Ok(file_or_other(&found)),
+        Err(e) if leads_nowhere(e.kind()) => Ok(Kind::Other),
+        Err(e) => Err(Trouble::from(e)),
     }
 }

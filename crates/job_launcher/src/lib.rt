@@ -14,6 +14,7 @@ mod root;
 mod shell;
 mod trash;
 mod trouble;
+mod variables;
 
 pub use note::Notes;
 pub use root::Launching;

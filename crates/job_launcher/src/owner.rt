@@ -5,7 +5,7 @@ use std::fs::{DirBuilder, Files, Metadata};
 use std::os::unix::fs::{DirBuilderExt, MetadataExt};
 
 /// The mode of each folder that is made: nobody but its owner reads or changes what it holds.
-const PRIVATE: u32 = 0o700;
+pub(crate) const PRIVATE: u32 = 0o700;
 
 /// What makes folders for their owner alone.
 pub(crate) fn private_folders() -> DirBuilder {

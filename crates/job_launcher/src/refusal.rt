@@ -42,7 +42,7 @@ impl fmt::Display for Step {
             Step::Root => "cannot take the root for this run",
             Step::Directory => "cannot make the directory of the job",
             Step::Files => "cannot write the files of the job",
-            Step::Start => "cannot start the shell that WDL_SHELL names, or `sh`",
+            Step::Start => "cannot start the shell",
             Step::Answer => "cannot read what the command left",
         })
     }

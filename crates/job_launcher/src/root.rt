@@ -9,14 +9,16 @@ use std::io::Write;
 use std::process::{OpenProcess, Processes};
 use std::random::RandomSource;
 use std::sync::Wait;
-use std::time::{Clock, Duration, SystemTime, UNIX_EPOCH};
+use std::time::{Clock, Duration, Instant, SystemTime, UNIX_EPOCH};
 use std::{io, thread};
 
-/// How often a root that is not free is tried again, and how long is waited before each try: ten
-/// seconds in all.
-const TRIES: u32 = 100;
+/// How long a root that is not free is waited for.
+const SECONDS: u64 = 10;
 
+/// How long is waited before it is tried again, and so how often at most.
 const PAUSE_MILLIS: u64 = 100;
+
+const TRIES: u32 = 100;
 
 /// What a run has of its root, from its first launch to its end.
 #[derive(Drop)]
@@ -132,13 +134,16 @@ fn wait_for<R: Files<File = File> + Clock + AllocGlobal + Clone + Drop>(
     holder: &str,
     own: &Launching,
 ) -> io::Result<Tried> {
+    let began = Instant::now(rt)?;
     for _ in 1..TRIES {
         thread::sleep(rt, Duration::from_millis(PAUSE_MILLIS));
+        if began.elapsed(rt)? >= Duration::from_secs(SECONDS) {
+            break;
+        }
         if let Tried::Free(lock) = try_root(rt, alloc, root, holder, own)? {
             return Ok(Tried::Free(lock));
         }
     }
-    thread::sleep(rt, Duration::from_millis(PAUSE_MILLIS));
     try_root(rt, alloc, root, holder, own)
 }
 
@@ -172,6 +177,23 @@ where
     }
 }
 
+/// Returns whether a text may be the mark of a run. The guard looks for it, so no other is passed on.
+fn is_mark(text: &str) -> bool {
+    text.bytes().all(|b| b.is_ascii_hexdigit() || b == b' ')
+}
+
+/// Returns the mark of a run's jobs: the fresh one, behind that of the run in which this one is a job,
+/// whose guard ends these jobs too.
+fn mark_below(alloc: Global, own: &Launching, fresh: String) -> Result<String, AllocError> {
+    match &own.mark {
+        Some(outer) if is_mark(outer.as_str()) => {
+            let (outer, fresh) = (outer.as_str(), fresh.as_str());
+            format!(in alloc; "{outer} {fresh}")
+        }
+        _ => Ok(fresh),
+    }
+}
+
 /// Takes the root for this run and starts its guard. What earlier runs put aside there goes with
 /// what this one will.
 pub(crate) fn take_root<R, W>(
@@ -188,9 +210,10 @@ where
     let Some(lock) = lock_of(rt, alloc, root, own, notes)? else {
         return Ok(Hold::Refused);
     };
-    let mark = fresh_mark(rt, alloc)?;
-    let trash = folder_of(alloc, root, mark.as_str())?;
+    let fresh = fresh_mark(rt, alloc)?;
+    let trash = folder_of(alloc, root, fresh.as_str())?;
     gather(rt, alloc, root, trash.as_str())?;
+    let mark = mark_below(alloc, own, fresh)?;
     let guard = start(rt, alloc, mark, trash.as_str())?;
     Ok(Hold::Root(Root {
         _lock: lock,

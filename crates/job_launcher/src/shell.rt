@@ -1,6 +1,6 @@
 ghost use Rattle.std.specs.Prelude.{⊤};
 
-use crate::child::status_of;
+use crate::child::{Job, status_of};
 use crate::collect::{body_of, files_of};
 use crate::directory::{ERR, OUT, lay_down, make, path_in};
 use crate::note::Notes;
@@ -132,18 +132,20 @@ where
         let dir = request.dir.as_str();
         let levels = request.place.len().max(1);
         at(Step::Directory, hold(rt, dir, levels))?;
-        let ticket = at(Step::Root, self.ticket(alloc, root_of(dir, levels)))?;
+        let root = root_of(dir, levels);
+        let ticket = at(Step::Root, self.ticket(alloc, root))?;
         at(Step::Directory, make(rt, alloc, dir, &ticket.trash))?;
         at(
             Step::Files,
             lay_down(rt, alloc, dir, request.files.as_slice()),
         )?;
-        let command = request.command.as_str();
-        let mark = ticket.mark.as_str();
-        let status = at(
-            Step::Start,
-            status_of(rt, alloc, shell.as_str(), dir, command, mark),
-        )?;
+        let job = Job {
+            shell: shell.as_str(),
+            root,
+            mark: ticket.mark.as_str(),
+            request,
+        };
+        let status = at(Step::Start, status_of(rt, alloc, job))?;
         at(Step::Answer, answer_of(rt, alloc, dir, status))
     }
 
@@ -155,7 +157,12 @@ where
         let place = place_text(alloc, &request.place)?;
         let place = place.as_str();
         let dir = request.dir.as_str();
-        let sentence = format!(in alloc; "{place}: not launched in {dir}: {refusal}")?;
+        let mut sentence = format!(in alloc; "{place}: not launched in {dir}: {refusal}")?;
+        if let (Refusal::System(Step::Start, _), Some(shell)) = (refusal, &self.shell) {
+            let shell = shell.as_str();
+            let named = format!(in alloc; ": {shell} (WDL_SHELL names the shell, else it is sh)")?;
+            sentence.push_str(named.as_str())?;
+        }
         self.notes.tell(&self.rt, alloc, sentence.as_str())?;
         Ok(())
     }

@@ -1,10 +1,13 @@
 use crate::directory::path_in;
-use crate::owner::private_folders;
+use crate::owner::{PRIVATE, private_folders};
+use crate::refusal::Refusal;
 use crate::trouble::Trouble;
+use run_guard::remove;
 use std::alloc::{AllocError, Global};
-use std::fs::{Files, Permissions};
+use std::fs::{DirEntry, Files, Permissions};
 use std::io::ErrorKind;
 use std::os::unix::fs::PermissionsExt;
+use std::process::Processes;
 use std::{fs, io};
 
 /// How the names of the folders begin in which runs put old directories aside.
@@ -37,7 +40,7 @@ fn make_folder<R: Files>(rt: &R, folder: &str) -> io::Result<()> {
 fn move_to<R: Files>(rt: &R, from: &str, to: &str) -> io::Result<()> {
     match fs::rename(rt, from, to) {
         Err(e) if e.kind() == ErrorKind::PermissionDenied => {
-            fs::set_permissions(rt, from, Permissions::from_mode(0o700))?;
+            fs::set_permissions(rt, from, Permissions::from_mode(PRIVATE))?;
             fs::rename(rt, from, to)
         }
         other => other,
@@ -53,15 +56,76 @@ impl Trash {
         })
     }
 
-    /// Puts a directory into the trash.
-    pub(crate) fn put<R: Files>(&self, rt: &R, alloc: Global, dir: &str) -> Result<(), Trouble> {
+    /// Puts a directory into the trash. Where that is on another file system, the directory is put
+    /// aside where it stands, and removed.
+    pub(crate) fn put<R>(&self, rt: &R, alloc: Global, dir: &str) -> Result<(), Trouble>
+    where
+        R: Files + Processes + AllocGlobal + Clone + Drop,
+    {
         make_folder(rt, self.folder.as_str())?;
         let to = path_in(alloc, self.folder.as_str(), self.job.as_str())?;
-        Ok(move_to(rt, dir, to.as_str())?)
+        match move_to(rt, dir, to.as_str()) {
+            Err(e) if e.kind() == ErrorKind::CrossesDevices => self.remove_there(rt, alloc, dir),
+            other => Ok(other?),
+        }
+    }
+
+    /// Puts a directory aside within its own folder, and removes all that runs put aside there.
+    fn remove_there<R>(&self, rt: &R, alloc: Global, dir: &str) -> Result<(), Trouble>
+    where
+        R: Files + Processes + AllocGlobal + Clone + Drop,
+    {
+        let Some((above, _)) = dir.rsplit_once('/') else {
+            return Err(Trouble::Refused(Refusal::NotOfJob));
+        };
+        let (mark, job) = (name_in(self.folder.as_str()), self.job.as_str());
+        let aside = format!(in alloc; "{above}/{mark}-{job}")?;
+        move_to(rt, dir, aside.as_str())?;
+        for entry in fs::read_dir(rt, above)? {
+            if let Some(entry) = trash_at(entry)? {
+                remove(rt, alloc, entry.path().as_str())?;
+            }
+        }
+        Ok(())
     }
 }
 
-/// Puts the trash that earlier runs left in a root into this run's.
+/// Returns the last part of a path.
+fn name_in(path: &str) -> &str {
+    match path.rsplit_once('/') {
+        Some((_, name)) => name,
+        None => path,
+    }
+}
+
+/// Returns what a call gave, or `None` where it failed for another reason than memory: it was about
+/// what another process removed or owns, or a name that is not UTF-8.
+fn if_given<T>(given: io::Result<T>) -> Result<Option<T>, Trouble> {
+    match given {
+        Ok(it) => Ok(Some(it)),
+        Err(e) if e.kind() == ErrorKind::OutOfMemory => Err(Trouble::NoMemory),
+        Err(_) => Ok(None),
+    }
+}
+
+/// Returns an entry of a folder if it is one in which a run put old directories aside.
+fn trash_at<R: Files + Drop>(
+    entry: io::Result<DirEntry<R>>,
+) -> Result<Option<DirEntry<R>>, Trouble> {
+    let Some(entry) = if_given(entry)? else {
+        return Ok(None);
+    };
+    if !entry.file_name().starts_with(BEGINNING) {
+        return Ok(None);
+    }
+    match if_given(entry.metadata())? {
+        Some(found) if found.is_dir() => Ok(Some(entry)),
+        _ => Ok(None),
+    }
+}
+
+/// Puts the trash that earlier runs left in a root into this run's. What cannot be moved, as another
+/// user's, stays.
 pub(crate) fn gather<R: Files + AllocGlobal + Clone + Drop>(
     rt: &R,
     alloc: Global,
@@ -69,11 +133,10 @@ pub(crate) fn gather<R: Files + AllocGlobal + Clone + Drop>(
     folder: &str,
 ) -> Result<(), Trouble> {
     for entry in fs::read_dir(rt, root)? {
-        let entry = entry?;
-        if entry.file_name().starts_with(BEGINNING) && entry.metadata()?.is_dir() {
+        if let Some(entry) = trash_at(entry)? {
             make_folder(rt, folder)?;
             let to = path_in(alloc, folder, entry.file_name())?;
-            move_to(rt, entry.path().as_str(), to.as_str())?;
+            if_given(move_to(rt, entry.path().as_str(), to.as_str()))?;
         }
     }
     Ok(())

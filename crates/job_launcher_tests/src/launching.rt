@@ -13,6 +13,10 @@ $ cat .laid; echo oops >&2; exit 3
 3 <x|> <oops|> .laid=x|
 $ kill -9 $$
 255 <> <> .laid=x|
+$ exit 127
+127 <> <> .laid=x|
+$ echo $WDL_PLACE $WDL_ATTEMPT $WDL_ROOT
+0 <0/0 0 .|> <> .laid=x|
 $ mkdir -p d/e; printf 1 > d/e/f; printf 2 > d-e; printf 3 > d.e
 0 <> <> .laid=x| d-e=2 d.e=3 d/e/f=1
 $ printf 1 > a; ln -s a b; mkdir d; ln -s ../a d/c

@@ -4,17 +4,21 @@ ghost use Rattle.std.specs.Process.{command_var, SameOtherVars, SameProgramAndAr
 use std::alloc::{AllocError, Global};
 use std::fmt::Write as _;
 use std::io;
-use std::io::Write;
+use std::io::{ErrorKind, Write};
 use std::process::{Child, Command, OpenProcess, Processes, Stdio};
 use std::random::RandomSource;
 
 /// The variable that holds the mark of a run in the environment of its jobs.
 pub const MARK: &str = "WDL_RUN";
 
+/// The program that starts another one in a session of its own: `setsid PROGRAM ARGUMENT..`.
+pub const SESSION: &str = "setsid";
+
 /// What the guard of the mark `$1` does. Its input ends when the run has ended. Then it ends the
-/// processes that have the mark: by TERM, and after ten seconds by KILL. One that was started while
-/// the others were looked for gets it a second later. A line on the input releases the guard; it
-/// then removes the folder `$2`, where there is one.
+/// processes that have the mark: by TERM, and after five seconds by KILL, so that the next run,
+/// which waits for ten, finds none of them. One that was started while the others were looked for
+/// gets it a second later. A line on the input releases the guard; it then removes the folder `$2`,
+/// where there is one.
 const SCRIPT: &str = "mark=$1 old=$2 told=
 trap '' HUP INT QUIT TERM
 left() { grep -lsF \"$mark\" /proc/[0-9]*/environ; }
@@ -31,7 +35,7 @@ if read -r _; then
   rm -rf -- \"$old\" || { chmod -R u+rwx -- \"$old\"; rm -rf -- \"$old\"; }
   exit
 fi
-for signal in TERM TERM TERM TERM TERM TERM TERM TERM TERM TERM KILL KILL KILL; do
+for signal in TERM TERM TERM TERM TERM KILL KILL KILL KILL KILL; do
   end \"$signal\"
   [ \"$(left)\" ] || exit
   sleep 1
@@ -58,18 +62,33 @@ pub fn fresh_mark<R: RandomSource>(rt: &R, alloc: Global) -> io::Result<String> 
     Ok(mark)
 }
 
-/// Starts the process of a guard.
+/// Starts the process of a guard by the program `first`.
+fn start_by<R: Processes>(
+    rt: &R,
+    alloc: Global,
+    first: &str,
+    arguments: &[&str],
+) -> io::Result<Child<R::Started>> {
+    let mut command = Command::new(alloc, first)?;
+    command.args(arguments)?;
+    command.stdin(Stdio::piped());
+    command.stdout(Stdio::null()).stderr(Stdio::null());
+    command.spawn(rt)
+}
+
+/// Starts the process of a guard: in a session of its own, so that no signal to the group of this
+/// process reaches it, where the system has `setsid`.
 fn start_script<R: Processes>(
     rt: &R,
     alloc: Global,
     mark: &str,
     old: &str,
 ) -> io::Result<Child<R::Started>> {
-    let mut command = Command::new(alloc, "sh")?;
-    command.args(["-c", SCRIPT, "sh", mark, old])?;
-    command.stdin(Stdio::piped());
-    command.stdout(Stdio::null()).stderr(Stdio::null());
-    command.spawn(rt)
+    let arguments = ["sh", "-c", SCRIPT, "sh", mark, old];
+    match start_by(rt, alloc, SESSION, &arguments) {
+        Err(e) if e.kind() == ErrorKind::NotFound => start_by(rt, alloc, "sh", &arguments[1..]),
+        other => other,
+    }
 }
 
 /// Starts the guard of the run of this mark. `old` is the path of the folder that it removes when it

@@ -7,7 +7,9 @@
 mod guard;
 mod left;
 mod lock;
+mod removal;
 
-pub use guard::{Guard, add_mark, fresh_mark, start};
+pub use guard::{Guard, SESSION, add_mark, fresh_mark, start};
 pub use left::jobs_in;
 pub use lock::{RootLock, Taken, take};
+pub use removal::remove;
