@@ -5,7 +5,7 @@ use crate::setting::{
     Setting, command_name, names_of, options_of, setting_elsewhere, setting_named,
 };
 use crate::slip::Slip;
-use note_text::{Note, nearest};
+use note_text::{Note, nearest_of};
 use std::alloc::Global;
 use wdl_value::NoMemory;
 use wdl_words::Command;
@@ -20,7 +20,7 @@ fn meant(alloc: Global, command: Command, name: &str) -> Result<Option<Setting>,
             None
         });
     }
-    match nearest(alloc, bare, names_of(command))? {
+    match nearest_of(alloc, bare, names_of(command))? {
         Some(near) => Ok(setting_named(near)),
         None => Ok(None),
     }

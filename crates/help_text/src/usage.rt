@@ -3,7 +3,7 @@
 use crate::arguments::slip_in;
 use crate::setting::{COMMANDS, command_elsewhere, command_name, command_named};
 use crate::slip_sentence::push_slip;
-use note_text::{Note, nearest};
+use note_text::{Note, nearest_of};
 use std::alloc::Global;
 use wdl_value::NoMemory;
 use wdl_words::{Command, WordFault, read_words};
@@ -23,7 +23,7 @@ fn push_unknown(alloc: Global, note: &mut Note, word: &str) -> Result<(), NoMemo
     ];
     let near = match command_elsewhere(word) {
         Some(name) => Some(name),
-        None => nearest(alloc, word, names.as_slice())?,
+        None => nearest_of(alloc, word, names.as_slice())?,
     };
     note.push(": unknown command")?;
     match near {

@@ -13,6 +13,7 @@ use wdl_value::{Member, Name, StructDef, Ty, bare_type};
 const MOST_STEPS: usize = 512;
 
 /// Why JSON is no value of a type, at the member where it is not.
+#[derive(Clone, Copy)]
 pub(crate) enum Misfit<'a> {
     /// It is something else.
     Value {
@@ -37,6 +38,7 @@ pub(crate) enum Misfit<'a> {
 }
 
 /// Where the search goes on, or that it ends.
+#[derive(Clone, Copy)]
 enum Turn<'a> {
     Down(&'a Json, &'a Ty),
     Here(Misfit<'a>),

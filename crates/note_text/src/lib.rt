@@ -5,5 +5,5 @@
 mod nearest;
 mod note;
 
-pub use nearest::{Nearest, nearest};
+pub use nearest::{Nearest, nearest_of};
 pub use note::Note;

@@ -55,7 +55,7 @@ impl<'a> Nearest<'a> {
 }
 
 /// Returns the nearest of the names, where one is near.
-pub fn nearest<'a>(
+pub fn nearest_of<'a>(
     alloc: Global,
     unknown: &'a str,
     names: &[&'a str],
