@@ -199,7 +199,7 @@ fn in_struct<'a>(
 }
 
 /// One step towards the member that does not fit.
-fn turn<'a>(
+fn one_step<'a>(
     alloc: Global,
     json: &'a Json,
     ty: &'a Ty,
@@ -262,7 +262,7 @@ pub(crate) fn culprit<'a>(
     let mut found = json;
     let mut expected = ty;
     for _ in 0..MOST_STEPS {
-        match turn(alloc, found, expected, structs, path)? {
+        match one_step(alloc, found, expected, structs, path)? {
             Turn::Here(misfit) => return Ok(misfit),
             Turn::Down(part, part_ty) => {
                 found = part;

@@ -87,7 +87,7 @@ fn unexpected(at: usize, expected: Expected) -> Option<Fault> {
     })
 }
 
-fn fault(at: usize, cause: Cause) -> Option<Fault> {
+fn at_fault(at: usize, cause: Cause) -> Option<Fault> {
     Some(Fault { at, cause })
 }
 
@@ -183,7 +183,7 @@ impl<'t> Scan<'t> {
             return Ok(if is_escape(byte) {
                 None
             } else {
-                fault(place, Cause::Escape)
+                at_fault(place, Cause::Escape)
             });
         }
         match byte {
@@ -194,8 +194,8 @@ impl<'t> Scan<'t> {
                     escaped: true,
                 }
             }
-            b'\n' | b'\r' => return Ok(fault(start, Cause::OpenText)),
-            0..=31 => return Ok(fault(at, Cause::Control)),
+            b'\n' | b'\r' => return Ok(at_fault(start, Cause::OpenText)),
+            0..=31 => return Ok(at_fault(at, Cause::Control)),
             _ => {}
         }
         Ok(None)
@@ -295,7 +295,7 @@ impl<'t> Scan<'t> {
             b',' => self.comma(at),
             b':' => self.colon(at),
             b'"' => self.quote(at),
-            b'/' | b'#' => fault(at, Cause::Comment),
+            b'/' | b'#' => at_fault(at, Cause::Comment),
             _ => self.word(at, byte),
         })
     }
@@ -316,7 +316,7 @@ impl<'t> Scan<'t> {
     /// Reads the end of the text.
     fn end(&mut self) -> Option<Fault> {
         match self.token {
-            Token::Text { start, .. } => return fault(start, Cause::OpenText),
+            Token::Text { start, .. } => return at_fault(start, Cause::OpenText),
             Token::Word { start } => {
                 let fault = self.end_word(start, self.text.len());
                 if fault.is_some() {
