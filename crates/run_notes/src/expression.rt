@@ -26,21 +26,13 @@ fn push_key(note: &mut Note, key: &Key) -> Result<(), NoMemory> {
 /// Appends expressions with commas between them.
 #[cycle(expression)]
 fn push_list(note: &mut Note, items: &[TExpr]) -> Result<(), NoMemory> {
-    for (number, item) in items.iter().enumerate() {
-        if number > 0 {
-            note.push(", ")?;
-        }
+    let mut comma = "";
+    for item in items {
+        note.push(comma)?;
         push_expr(note, item)?;
+        comma = ", ";
     }
     Ok(())
-}
-
-/// Appends two expressions and what stands between them.
-#[cycle(expression)]
-fn push_two(note: &mut Note, left: &TExpr, middle: &str, right: &TExpr) -> Result<(), NoMemory> {
-    push_expr(note, left)?;
-    note.push(middle)?;
-    push_expr(note, right)
 }
 
 /// Appends an expression as a document may spell it, with `..` for what is long: strings with
@@ -57,7 +49,9 @@ pub(crate) fn push_expr(note: &mut Note, expr: &TExpr) -> Result<(), NoMemory> {
             note.push(name.as_str())
         }
         TExpr::At(list, index) => {
-            push_two(note, list.get(), "[", index.get())?;
+            push_expr(note, list.get())?;
+            note.push("[")?;
+            push_expr(note, index.get())?;
             note.push("]")
         }
         TExpr::Not(inner) => {
@@ -68,7 +62,11 @@ pub(crate) fn push_expr(note: &mut Note, expr: &TExpr) -> Result<(), NoMemory> {
             note.push("-")?;
             push_expr(note, inner.get())
         }
-        TExpr::Binary(op, left, right) => { push_two(note, left.get(), operator(*op), right.get()) }
+        TExpr::Binary(op, left, right) => {
+            push_expr(note, left.get())?;
+            note.push(operator(*op))?;
+            push_expr(note, right.get())
+        }
         TExpr::ListOf(items) => {
             note.push("[")?;
             push_list(note, items.as_slice())?;
@@ -76,7 +74,9 @@ pub(crate) fn push_expr(note: &mut Note, expr: &TExpr) -> Result<(), NoMemory> {
         }
         TExpr::PairOf(left, right) => {
             note.push("(")?;
-            push_two(note, left.get(), ", ", right.get())?;
+            push_expr(note, left.get())?;
+            note.push(", ")?;
+            push_expr(note, right.get())?;
             note.push(")")
         }
         TExpr::Apply(called, args) => {
