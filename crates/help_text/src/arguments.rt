@@ -78,13 +78,12 @@ impl<'a> Arguments<'a> {
 
     /// Keeps the value of an option, and returns the one that it had.
     fn replace(&mut self, setting: Setting, value: &'a str) -> Option<&'a str> {
-        let place = match setting {
-            Setting::Inputs => &mut self.inputs,
-            Setting::Workers => &mut self.workers,
-            Setting::Root => &mut self.root,
-            Setting::Journal => &mut self.journal,
-        };
-        place.replace(value)
+        match setting {
+            Setting::Inputs => self.inputs.replace(value),
+            Setting::Workers => self.workers.replace(value),
+            Setting::Root => self.root.replace(value),
+            Setting::Journal => self.journal.replace(value),
+        }
     }
 
     /// Reads the value of an option.
