@@ -1,9 +1,14 @@
-use crate::lookup::push_file;
+use crate::expression::push_expr;
+use crate::lookup::{output_of, push_file};
 use crate::note::{Note, last_lines};
+use crate::reading::{is_of_reading, push_readings};
 use crate::signal::push_ended;
+use crate::why::why_text;
 use std::alloc::Global;
-use wdl_typed::TaskDef;
-use wdl_value::{Body, Entry, Fault, NoMemory, Place, Seen, Text, Why, place_text, same_place};
+use wdl_typed::{TExpr, TaskDef};
+use wdl_value::{
+    Body, Entry, EvalCode, Fault, NoMemory, Place, Seen, Text, Why, place_text, same_place,
+};
 
 /// The most lines of a command that are shown.
 const COMMAND_LINES: usize = 12;
@@ -81,12 +86,38 @@ fn push_files(note: &mut Note, files: &[Seen]) -> Result<(), NoMemory> {
     Ok(())
 }
 
+/// Appends why an output has no value: the file that is not there, what was read, or
+/// what its expression met.
+fn push_cause(
+    note: &mut Note,
+    entry: &Entry,
+    task: &TaskDef,
+    output: &Text,
+    code: EvalCode,
+) -> Result<(), NoMemory> {
+    if code == EvalCode::FileMissing {
+        return push_file(note, task, output);
+    }
+    let Some(declared) = output_of(task, output) else {
+        return Ok(());
+    };
+    if is_of_reading(code) {
+        return push_readings(note, entry, &declared.value, code);
+    }
+    note.push("  ")?;
+    push_expr(note, &declared.value)?;
+    note.push(": ")?;
+    note.push(why_text(code))?;
+    note.push("\n")
+}
+
 /// Appends what is known of an output without a value.
 fn push_output(
     alloc: Global,
     note: &mut Note,
     entry: &Entry,
     output: &Text,
+    code: EvalCode,
     task: Option<&TaskDef>,
 ) -> Result<(), NoMemory> {
     push_head(alloc, note, entry)?;
@@ -94,7 +125,7 @@ fn push_output(
     note.push(output.as_str())?;
     note.push("` has no value\n")?;
     if let Some(task) = task {
-        push_file(note, task, output)?;
+        push_cause(note, entry, task, output, code)?;
     }
     note.push("  directory: ")?;
     note.push(entry.request.dir.as_str())?;
@@ -105,22 +136,52 @@ fn push_output(
     push_files(note, entry.answer.files.as_slice())
 }
 
+/// Appends what is known of a declaration without a value.
+fn push_declared(
+    alloc: Global,
+    note: &mut Note,
+    fault: &Fault,
+    code: EvalCode,
+    value: &TExpr,
+) -> Result<(), NoMemory> {
+    if !fault.place.is_empty() {
+        let place = place_text(alloc, &fault.place)?;
+        note.push(place.as_str())?;
+        note.push(": ")?;
+    }
+    note.push("`")?;
+    note.push(fault.name.as_str())?;
+    note.push("` has no value: ")?;
+    note.push(why_text(code))?;
+    note.push("\n  ")?;
+    push_expr(note, value)?;
+    note.push("\n")
+}
+
 /// Returns what is known of a job that failed, in some 30 lines at most: of a status that is no
 /// success the command, the end of what it wrote to standard error, and the paths of its streams;
 /// of an output without a value the file that its expression names and the files that are there.
-/// `task` is the task of the job. It is empty where the fault is of no job of the journal.
+/// `task` is the task of the job. Of a declaration without a value it is `value`, its expression,
+/// and what that met.
 pub(crate) fn failed_note(
     alloc: Global,
     fault: &Fault,
     journal: &[Entry],
     task: Option<&TaskDef>,
+    value: Option<&TExpr>,
 ) -> Result<Note, NoMemory> {
     let mut note = Note::new(alloc);
-    if let Some(entry) = last_at(journal, &fault.place) {
-        match fault.why {
-            Why::Status(status) => push_status(alloc, &mut note, entry, status)?,
-            Why::Code(_) => push_output(alloc, &mut note, entry, &fault.name, task)?,
+    match (last_at(journal, &fault.place), fault.why) {
+        (Some(entry), Why::Status(status)) => push_status(alloc, &mut note, entry, status)?,
+        (Some(entry), Why::Code(code)) => {
+            push_output(alloc, &mut note, entry, &fault.name, code, task)?;
         }
+        (None, Why::Code(code)) => {
+            if let Some(value) = value {
+                push_declared(alloc, &mut note, fault, code, value)?;
+            }
+        }
+        (None, Why::Status(_)) => {}
     }
     Ok(note)
 }

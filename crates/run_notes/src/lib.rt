@@ -4,12 +4,16 @@
 
 mod attempt;
 mod duration;
+mod expression;
 mod failure;
 mod line;
 mod lookup;
 mod note;
 mod notes;
+mod reading;
 mod signal;
+mod spelled;
 mod tally;
+mod why;
 
 pub use notes::{RunNotes, Style};

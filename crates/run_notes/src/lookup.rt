@@ -1,5 +1,5 @@
 use crate::note::Note;
-use wdl_typed::{Checked, Statement, TDecl, TExpr, TPart, Target, TaskDef};
+use wdl_typed::{Checked, FlowDef, Statement, TDecl, TExpr, TPart, Target, TaskDef};
 use wdl_value::{Key, Name, NoMemory, Op, Place, Segment, Text, Value};
 
 /// The body of the scatter of that number.
@@ -56,8 +56,62 @@ pub(crate) fn task_at<'a>(checked: &'a Checked, place: &Place) -> Option<&'a Tas
     None
 }
 
+/// The workflow and the body in it at a place, where there are some.
+fn body_at<'a>(checked: &'a Checked, place: &Place) -> Option<(&'a FlowDef, &'a [Statement])> {
+    let flows = checked.flows.as_slice();
+    let mut flow = flows.get(checked.main? as usize)?;
+    let mut body = flow.body.as_slice();
+    for segment in place.as_slice() {
+        match segment {
+            Segment::Index(_) => {}
+            Segment::Scatter(number) => body = scatter_body(body, *number)?,
+            Segment::If(number) => body = if_body(body, *number)?,
+            Segment::Call(name) => match target_of(body, name)? {
+                Target::Task(_) => return None,
+                Target::Flow(at) => {
+                    flow = flows.get(at as usize)?;
+                    body = flow.body.as_slice();
+                }
+            },
+        }
+    }
+    Some((flow, body))
+}
+
+/// The expression of the declaration of that name.
+fn value_in<'a>(body: &'a [Statement], name: &Text) -> Option<&'a TExpr> {
+    for statement in body {
+        if let Statement::Decl(declared) = statement {
+            if name.is(declared.name.as_str()) {
+                return Some(&declared.value);
+            }
+        }
+    }
+    None
+}
+
+/// The expression of the output of that name.
+fn output_value<'a>(outputs: &'a [TDecl], name: &Text) -> Option<&'a TExpr> {
+    for output in outputs {
+        if name.is(output.name.as_str()) {
+            return Some(&output.value);
+        }
+    }
+    None
+}
+
+/// Returns the expression of the declaration or output of that name in the body at a place, where
+/// there is one.
+pub(crate) fn value_at<'a>(checked: &'a Checked, place: &Place, name: &Text) -> Option<&'a TExpr> {
+    let (flow, body) = body_at(checked, place)?;
+    match value_in(body, name) {
+        Some(value) => Some(value),
+        None => output_value(flow.outputs.as_slice(), name),
+    }
+}
+
 /// The output of that name.
-fn output_of<'a>(task: &'a TaskDef, name: &Text) -> Option<&'a TDecl> {
+pub(crate) fn output_of<'a>(task: &'a TaskDef, name: &Text) -> Option<&'a TDecl> {
     for output in task.outputs.as_slice() {
         if name.is(output.name.as_str()) {
             return Some(output);

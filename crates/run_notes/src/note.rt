@@ -1,6 +1,9 @@
 use std::alloc::Global;
 use wdl_value::NoMemory;
 
+/// The most bytes of a text in double quotes that are shown.
+const TEXT_BYTES: usize = 80;
+
 /// A text of lines that is built up. It holds what programs wrote, so it need not be UTF-8.
 #[derive(Drop)]
 pub(crate) struct Note {
@@ -49,6 +52,39 @@ impl Note {
     pub(crate) fn push_number(&mut self, number: u64) -> Result<(), NoMemory> {
         let digits = format!(in self.alloc; "{number}")?;
         self.push(digits.as_str())
+    }
+
+    /// Appends an Int.
+    pub(crate) fn push_signed(&mut self, number: i64) -> Result<(), NoMemory> {
+        let digits = format!(in self.alloc; "{number}")?;
+        self.push(digits.as_str())
+    }
+
+    /// Appends a byte of a text in double quotes.
+    fn push_escaped(&mut self, byte: u8) -> Result<(), NoMemory> {
+        match byte {
+            b'\n' => self.push("\\n"),
+            b'\t' => self.push("\\t"),
+            b'\r' => self.push("\\r"),
+            b'"' => self.push("\\\""),
+            b'\\' => self.push("\\\\"),
+            _ if byte.is_ascii_control() => self.push("?"),
+            _ => Ok(self.bytes.push(byte)?),
+        }
+    }
+
+    /// Appends the first bytes of a text in double quotes, with `..` behind them where there are
+    /// more than 80.
+    pub(crate) fn push_text(&mut self, bytes: &[u8]) -> Result<(), NoMemory> {
+        self.push("\"")?;
+        for byte in bytes.iter().take(TEXT_BYTES) {
+            self.push_escaped(*byte)?;
+        }
+        self.push("\"")?;
+        if bytes.len() > TEXT_BYTES {
+            self.push("..")?;
+        }
+        Ok(())
     }
 
     /// Appends what a program wrote, with `?` in place of control characters but tabs, which a

@@ -1,7 +1,7 @@
 use crate::attempt::Attempt;
 use crate::failure::failed_note;
 use crate::line::{Event, push_counts, push_event, push_summary};
-use crate::lookup::task_at;
+use crate::lookup::{task_at, value_at};
 use crate::note::Note;
 use crate::tally::Tally;
 use ready_core::{Core, Job};
@@ -189,7 +189,8 @@ impl<'s, N: Sink, C: Clock + Drop> RunNotes<'s, N, C> {
             return;
         };
         let task = task_at(core.checked(), &fault.place);
-        if let Ok(note) = failed_note(alloc, fault, core.journal(), task) {
+        let value = value_at(core.checked(), &fault.place, &fault.name);
+        if let Ok(note) = failed_note(alloc, fault, core.journal(), task, value) {
             self.clear();
             self.write(note.bytes());
         }

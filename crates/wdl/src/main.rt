@@ -6,6 +6,7 @@ ghost use Rattle.std.specs.Prelude.{◌≡◌, ◌<◌, None};
 mod environment;
 
 use environment::{clear_of, note_stream, outer_mark, shell, style_of};
+use help_text::usage_note;
 use job_launcher::{Launching, Notes, ShellLauncher};
 use keeper_sql::SqlKeeper;
 use report_text::{Status, no_memory_line, number_of};
@@ -23,7 +24,7 @@ use std::{env, process};
 use wdl_port::{Keeper, Launcher, Shelf, Sink};
 use wdl_value::{NoMemory, Steps};
 use workflow_cli::{FileShelf, StreamSink, workflow};
-use workflow_stages::{Recall, RecallingShelf};
+use workflow_stages::{Recall, RecallingShelf, write_all};
 
 /// The words after the program's name. Where they are no text there are none, which has no reading.
 fn words<R: Env + AllocGlobal>(rt: &R) -> Result<Vec<String>, NoMemory> {
@@ -38,6 +39,13 @@ fn words<R: Env + AllocGlobal>(rt: &R) -> Result<Vec<String>, NoMemory> {
         Err(_) => {}
     }
     Ok(words)
+}
+
+/// Tells a person what is wrong with words that ask for nothing.
+fn tell_usage<N: Sink>(alloc: Global, words: &[String], notes: &mut N) {
+    if let Ok(Some(note)) = usage_note(alloc, words) {
+        let _ = write_all(notes, note.as_bytes());
+    }
 }
 
 /// Makes the top call with a count of steps that nobody reads, and gives the number of its status.
@@ -94,6 +102,7 @@ fn main(rt: HostRuntime) -> ExitCode {
     let reasons = Notes::new(note_stream(&rt, rt.stderr()), clear_of(style));
     let launcher = ShellLauncher::new(&rt, shell, own, reasons);
     let mut keeper = SqlKeeper::new(&rt);
+    tell_usage(alloc, words.as_slice(), &mut notes);
     let number = number::<_, _, _, _, _, _, _, Brand>(
         &rt,
         alloc,

@@ -45,6 +45,7 @@ use crate::asking::{Report, RunOptions};
 use crate::ended::Worked;
 use crate::journal::rows_of;
 use crate::load_line::load_line;
+use input_notes::inputs_warning;
 use ready_core::{Core, History};
 use report_text::Status;
 use run_notes::{RunNotes, Style};
@@ -57,7 +58,7 @@ use wdl_json::outputs_text;
 use wdl_port::{Keeper, Launcher, NoKeeper, Shelf, Sink};
 use wdl_value::{Bind, Counts, Entry, Items, Name, NoMemory, Steps, Text};
 use work_desk::{Ran, Stop, run_all};
-use workflow_stages::{Prepared, Recall, Work, main_flow, start_of, stop_of};
+use workflow_stages::{Prepared, Recall, Work, main_flow, start_of, stop_of, write_all};
 
 /// The outputs as one JSON object, and a newline.
 fn text_of(alloc: Global, name: &Name, outputs: &[Bind]) -> Result<Text, NoMemory>
@@ -342,6 +343,19 @@ fn run_main<L: Launcher + Sync, K: Keeper, N: Sink, R: Threads + Wait + Clock + 
     }
 }
 
+/// Warns a person of what looks like a slip in inputs that are used.
+fn warn<F: Recall, N: Sink>(alloc: Global, inputs: &Option<Text>, shelf: &F, notes: &mut N) {
+    let Some(path) = inputs else {
+        return;
+    };
+    let Some(text) = shelf.recall(path.as_str()) else {
+        return;
+    };
+    if let Ok(warning) = inputs_warning(alloc, path.as_str(), text) {
+        let _ = write_all(notes, warning.as_bytes());
+    }
+}
+
 /// Runs the main workflow of the document at a path, with the inputs of a file.
 pub fn run<
     F: Shelf + Recall,
@@ -375,9 +389,12 @@ pub fn run<
     ensures keeper { (keeper.new ≡ keeper.old) ⊎ NamesJournal options.now.journal (K.path keeper.new) }
 {
     match start_of(alloc, file, inputs, shelf) {
-        Ok(prepared) => run_main(
-            rt, alloc, prepared, options, launcher, keeper, notes, style, steps,
-        ),
+        Ok(prepared) => {
+            warn(alloc, inputs, &*shelf, notes);
+            run_main(
+                rt, alloc, prepared, options, launcher, keeper, notes, style, steps,
+            )
+        }
         Err(stop) => idle(alloc, Work::Stop(stop)),
     }
 }

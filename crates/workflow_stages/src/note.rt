@@ -10,7 +10,7 @@ use report_text::Status;
 use std::alloc::Global;
 use wdl_library::Library;
 use wdl_port::Sink;
-use wdl_typed::FlowDef;
+use wdl_typed::Checked;
 use wdl_value::{Span, Text};
 
 /// The note on a rule that the document at a path breaks, where the shelf kept the document.
@@ -33,7 +33,7 @@ pub fn note_on_inputs<F: Recall>(
     shelf: &F,
     inputs: &Option<Text>,
     status: &Status,
-    flow: Option<&FlowDef>,
+    checked: &Checked,
 ) -> Option<String> {
     let Status::Inputs(code, name) = status else {
         return None;
@@ -42,7 +42,7 @@ pub fn note_on_inputs<F: Recall>(
         Some(path) => shelf.recall(path.as_str())?,
         None => b"{}",
     };
-    inputs_note(alloc, *code, name.as_ref(), text, flow?).ok()
+    inputs_note(alloc, *code, name.as_ref(), text, checked).ok()
 }
 
 /// Writes the note of work that was stopped. That a write fails changes nothing.

@@ -134,7 +134,7 @@ fn unfit<F: Recall>(
     ensures status { result.status ≡ status }
     ensures paths { result.paths ≡ [] }
 {
-    let note = note_on_inputs(alloc, shelf, inputs, &status, main_flow(checked));
+    let note = note_on_inputs(alloc, shelf, inputs, &status, checked);
     CommandStop {
         status,
         paths: Items::new(alloc),

@@ -1,0 +1,125 @@
+//! The commands and their options, by name.
+
+use wdl_words::Command;
+
+/// The names of the commands, in the order of the help.
+pub(crate) const COMMANDS: &str = "run, check, inputs, cwl, bundle, load, help, version";
+
+/// An option with a value.
+#[derive(Clone, Copy, Debug, PartialEq, Eq)]
+pub(crate) enum Setting {
+    Inputs,
+    Workers,
+    Root,
+    Journal,
+}
+
+/// Returns the name of a command.
+pub(crate) fn command_name(command: Command) -> &'static str {
+    match command {
+        Command::Run => "run",
+        Command::Check => "check",
+        Command::Inputs => "inputs",
+        Command::Cwl => "cwl",
+        Command::Load => "load",
+        Command::Bundle => "bundle",
+        Command::Help => "help",
+    }
+}
+
+/// Returns the command with a name.
+pub(crate) fn command_named(name: &str) -> Option<Command> {
+    match name {
+        "run" => Some(Command::Run),
+        "check" => Some(Command::Check),
+        "inputs" => Some(Command::Inputs),
+        "cwl" => Some(Command::Cwl),
+        "load" => Some(Command::Load),
+        "bundle" => Some(Command::Bundle),
+        "help" => Some(Command::Help),
+        _ => None,
+    }
+}
+
+/// Returns the command that other programs know by a name.
+pub(crate) fn command_elsewhere(name: &str) -> Option<&'static str> {
+    match name {
+        "lint" | "validate" | "verify" | "parse" | "womtool" => Some("check"),
+        "exec" | "execute" | "start" | "launch" | "submit" | "resume" | "cromwell" => Some("run"),
+        "template" | "form" | "generate_inputs" => Some("inputs"),
+        "translate" | "convert" | "export" => Some("cwl"),
+        "pack" | "package" | "zip" | "merge" => Some("bundle"),
+        _ => None,
+    }
+}
+
+impl Setting {
+    /// The option as it is written.
+    pub(crate) fn name(self) -> &'static str {
+        match self {
+            Setting::Inputs => "--inputs",
+            Setting::Workers => "--workers",
+            Setting::Root => "--root",
+            Setting::Journal => "--journal",
+        }
+    }
+
+    /// What stands after it.
+    pub(crate) fn value(self) -> &'static str {
+        match self {
+            Setting::Inputs | Setting::Journal => "a file",
+            Setting::Workers => "a number from 1 to 64",
+            Setting::Root => "a folder",
+        }
+    }
+
+    /// Whether a command has it.
+    pub(crate) fn is_of(self, command: Command) -> bool {
+        match command {
+            Command::Run => true,
+            Command::Cwl => self == Setting::Inputs,
+            _ => false,
+        }
+    }
+}
+
+/// Returns the option with a name, which stands after two dashes.
+pub(crate) fn setting_named(name: &str) -> Option<Setting> {
+    match name {
+        "inputs" => Some(Setting::Inputs),
+        "workers" => Some(Setting::Workers),
+        "root" => Some(Setting::Root),
+        "journal" => Some(Setting::Journal),
+        _ => None,
+    }
+}
+
+/// Returns the option that other programs know by a name.
+pub(crate) fn setting_elsewhere(name: &str) -> Option<Setting> {
+    match name {
+        "i" | "json" => Some(Setting::Inputs),
+        "w" | "j" | "n" | "t" | "p" | "c" => Some(Setting::Workers),
+        "jobs" | "threads" | "cores" | "cpus" | "parallel" | "processes" => Some(Setting::Workers),
+        "r" | "d" | "o" | "dir" | "directory" | "workdir" | "output" | "out" => Some(Setting::Root),
+        "resume" | "restart" | "cache" | "db" | "database" => Some(Setting::Journal),
+        _ => None,
+    }
+}
+
+/// Returns the names of the options of a command, without their dashes.
+pub(crate) fn names_of(command: Command) -> &'static [&'static str] {
+    match command {
+        Command::Run => &["inputs", "workers", "root", "journal"],
+        Command::Cwl => &["inputs"],
+        _ => &[],
+    }
+}
+
+/// Returns the names of the options of a command as a list.
+pub(crate) fn options_of(command: Command) -> &'static str {
+    match command {
+        Command::Run => "--inputs, --workers, --root, --journal",
+        Command::Cwl => "--inputs",
+        _ => "",
+    }
+}
