@@ -77,6 +77,14 @@ pub fn word_in_front(
         return no_section(alloc, note, place);
     }
     if place.words == "(" && place.front_begins() {
+        if matches!(place.front, "for" | "foreach") {
+            note.push_all(&[
+                "`",
+                place.front,
+                "` is no statement; did you mean `scatter`?",
+            ])?;
+            return Ok(Some(place.front_span()));
+        }
         return no_statement(alloc, note, place.front, &BLOCKS, place.front_span());
     }
     if place.second_begins() && !is_reserved(place.second()) {

@@ -25,7 +25,7 @@ pub fn is_later_function(name: &str) -> bool {
 }
 
 /// Whether the code before a brace calls something: `call a`, `call a.b`, `call a as c`.
-fn calls(code: &[u8]) -> bool {
+pub fn calls(code: &[u8]) -> bool {
     let front = before_word(code).trim_ascii_end();
     let front = match front.strip_suffix(b".") {
         Some(namespace) => before_word(namespace),

@@ -5,6 +5,7 @@
 mod call_sentence;
 mod check_sentence;
 mod document;
+mod expected_sentence;
 mod front_sentence;
 mod function;
 mod import_sentence;

@@ -1,5 +1,7 @@
 //! Sentences on brackets that are not closed.
 
+use crate::expected_sentence::before_brace;
+use crate::later::calls;
 use crate::place::{Place, has_newline};
 use fault_places::{Bracket, Brackets, Note, Opening, bytes_before, last_word, position_of};
 use std::alloc::Global;
@@ -25,7 +27,7 @@ fn begins_section(word: &str) -> bool {
 }
 
 /// Whether a word begins a type.
-fn begins_type(word: &str) -> bool {
+pub fn begins_type(word: &str) -> bool {
     matches!(
         word,
         "Boolean" | "Int" | "Float" | "String" | "File" | "Array" | "Map" | "Pair" | "Object"
@@ -48,6 +50,21 @@ fn first_inner(brackets: &Brackets) -> Option<Opening> {
         }
     }
     None
+}
+
+/// Whether a text closes a bracket.
+fn is_closing(words: &str) -> bool {
+    matches!(words, "}" | "]" | ")")
+}
+
+/// Whether a text closes another bracket than the innermost one of an expression.
+fn closes_another(place: &Place) -> bool {
+    match place.brackets.last() {
+        Some(opening) => {
+            is_inner(opening) && is_closing(place.words) && opening.bracket.closing() != place.words
+        }
+        None => false,
+    }
 }
 
 /// Whether code can end an operand.
@@ -140,7 +157,15 @@ fn in_expression(
     place: &Place,
     opening: Opening,
 ) -> Result<Option<Span>, NoMemory> {
-    if matches!(place.words, "}" | "]" | ")") {
+    if place.words == opening.bracket.closing() {
+        note.push_all(&[
+            "`",
+            place.words,
+            "` is not expected here: expected a value before it",
+        ])?;
+        return Ok(Some(place.span));
+    }
+    if is_closing(place.words) {
         return to_close(note, place, place.words, opening, "");
     }
     if !ends_operand(place.before) || !begins_operand(place.words) {
@@ -150,6 +175,14 @@ fn in_expression(
         return to_close(note, place, place.words, opening, "`,` or ");
     }
     to_close(note, place, place.words, opening, "")
+}
+
+/// An input of a call that begins where no comma ended the one before.
+fn in_call(note: &mut Note, place: &Place, opening: Opening) -> Result<Option<Span>, NoMemory> {
+    if !ends_operand(place.before) || !begins_operand(place.words) {
+        return Ok(None);
+    }
+    to_close(note, place, place.words, opening, "`,` or ")
 }
 
 /// A declaration without a value, where it needs one.
@@ -176,7 +209,7 @@ pub fn open_bracket(
     place: &Place,
     at_end: bool,
 ) -> Result<Option<Span>, NoMemory> {
-    if at_end {
+    if at_end && !closes_another(place) {
         return early_end(alloc, note, place);
     }
     if let Some(shown) = no_value(note, place)? {
@@ -190,6 +223,7 @@ pub fn open_bracket(
     }
     match place.brackets.last() {
         Some(opening) if is_inner(opening) => in_expression(note, place, opening),
+        Some(opening) if calls(before_brace(place)) => in_call(note, place, opening),
         _ => Ok(None),
     }
 }

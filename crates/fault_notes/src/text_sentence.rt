@@ -1,5 +1,6 @@
 //! Sentences on tokens and grammar.
 
+use crate::expected_sentence::expectation;
 use crate::front_sentence::{PARTS, word_in_front};
 use crate::later::later_version;
 use crate::near::did_you_mean;
@@ -48,6 +49,13 @@ fn too_long(note: &mut Note, words: &str, span: Span) -> Result<(), NoMemory> {
 fn not_expected(alloc: Global, note: &mut Note, place: &Place) -> Result<(), NoMemory> {
     note.push_quoted(place.words)?;
     note.push(" is not expected here")?;
+    let expected = expectation(place);
+    if !expected.is_empty() {
+        return note.push(expected);
+    }
+    if place.words == "}" && place.brackets.open.is_empty() {
+        return note.push(": no `{` is open");
+    }
     if is_reserved(place.words) {
         return note.push("; it is a reserved word, which cannot be a name");
     }
@@ -69,6 +77,10 @@ fn unexpected(alloc: Global, note: &mut Note, place: &Place) -> Result<Span, NoM
         return Ok(shown);
     }
     let at_end = text_behind(place.bytes, place.span).is_empty();
+    if !at_end && !expectation(place).is_empty() {
+        not_expected(alloc, note, place)?;
+        return Ok(place.span);
+    }
     if let Some(shown) = open_bracket(alloc, note, place, at_end)? {
         return Ok(shown);
     }

@@ -1,0 +1,72 @@
+use crate::shim::{Vec, String};
+
+
+use crate::fault_notes::check_sentence::check_sentence;
+use crate::fault_notes::import_sentence::import_sentence;
+use crate::fault_notes::subset_sentence::subset_sentence;
+use crate::fault_notes::text_sentence::text_sentence;
+use crate::fault_places::{Note, excerpt, head};
+use crate::shim::Global;
+use crate::wdl_library::Library;
+use crate::wdl_value::{NoMemory, Span};
+
+/// Appends the sentence on a code: what the fault is, and what was expected. It answers the span
+/// whose line is shown, which is that of the cause where this stands before the fault.
+fn sentence(
+    alloc: Global,
+    note: &mut Note,
+    code: u16,
+    bytes: &[u8],
+    span: Span,
+    library: Option<&Library>,
+) -> Result<Span, NoMemory> {
+    match code / 100 {
+        1 => return text_sentence(alloc, note, code, bytes, span),
+        2 => import_sentence(note, code, bytes, span)?,
+        3 => check_sentence(alloc, note, code, bytes, span, library)?,
+        _ => note.push(subset_sentence(code))?,
+    }
+    Ok(span)
+}
+
+/// Appends the sentence, the line of the document and the carets.
+fn tell(
+    alloc: Global,
+    note: &mut Note,
+    code: u16,
+    bytes: &[u8],
+    span: Span,
+    library: Option<&Library>,
+) -> Result<(), NoMemory> {
+    let shown = sentence(alloc, note, code, bytes, span, library)?;
+    note.push("\n")?;
+    excerpt(alloc, note, bytes, shown)
+}
+
+/// The note of a fault in the document at a path, for a person: its place with the code and a
+/// sentence, the line of the document in which the span begins, and a line of carets under the
+/// span. Each of the three ends with a newline. Where the sentence names a cause before the span,
+/// such as a placeholder that is not closed, the line and the carets are those of the cause.
+///
+/// `code` is one of 101 to 330, 601 to 613 or 620 to 622; `bytes` are those of the document, and
+/// `span` is the part of it in which the rule of the code is broken. For the codes from 301 on the
+/// sentence names what the library has: with no library it says less.
+///
+/// It begins with `PATH:LINE:COLUMN: error CODE WORD: `, where line and column are those of
+/// `crate::fault_places::position_of`. Nothing is promised of what follows.
+pub fn document_note(
+    alloc: Global,
+    path: &str,
+    bytes: &[u8],
+    code: u16,
+    span: Span,
+    library: Option<&Library>,
+) -> Result<String, NoMemory>
+{
+    let mut told = Note::new(alloc);
+    tell(alloc, &mut told, code, bytes, span, library)?;
+    let told = told.as_str();
+    let mut note = head(alloc, path, bytes, code, span)?;
+    note.push_str(told)?;
+    Ok(note)
+}

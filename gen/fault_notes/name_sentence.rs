@@ -1,0 +1,179 @@
+use crate::shim::{Vec, String};
+
+use crate::fault_notes::later::{OF_1_2, is_later_function};
+use crate::fault_notes::listed::{it_has, list};
+use crate::fault_notes::near::{TYPES, did_you_mean, foreign_type, near_function, nearest};
+use crate::fault_places::{Entry, Note, Part, Scene, part_named, position_of};
+use crate::shim::Global;
+use crate::wdl_value::{NoMemory, Span, is_identifier};
+
+/// A name that is declared, and cannot be seen where it is used.
+fn hidden(note: &mut Note, scene: &Scene, entry: Entry) -> Result<(), NoMemory> {
+    let why = match (entry, scene.entry_before()) {
+        (Entry::Scatter(_), _) => "the item of a scatter is seen in its block alone",
+        (Entry::Output(_), _) => "an output is seen by outputs alone",
+        (_, Some(Entry::Input(_))) => "the default of an input sees inputs alone",
+        _ => "it is declared at another place",
+    };
+    note.push_all(&["`", scene.words, "` cannot be seen here: "])?;
+    note.push(why)
+}
+
+/// Appends the outputs that a task or workflow has.
+fn outputs(alloc: Global, note: &mut Note, part: Part) -> Result<(), NoMemory> {
+    let mut names = Vec::new(alloc);
+    part.push_outputs(&mut names)?;
+    it_has(note, names.as_slice())
+}
+
+/// An output that the task or workflow of a call does not have.
+fn no_output(
+    alloc: Global,
+    note: &mut Note,
+    scene: &Scene,
+    call: &str,
+    part: Part,
+) -> Result<(), NoMemory> {
+    note.push_all(&["`", scene.words, "` is no output of `", call, "`; "])?;
+    outputs(alloc, note, part)
+}
+
+/// 301.
+pub fn unknown_name(alloc: Global, note: &mut Note, scene: &Scene) -> Result<(), NoMemory> {
+    let name = scene.words;
+    if let Some((call, _)) = name.split_once('.') {
+        if let Some(part) = scene.called(call) {
+            return no_output(alloc, note, scene, call, part);
+        }
+    }
+    if let Some(entry) = scene.entry_named(name) {
+        return hidden(note, scene, entry);
+    }
+    if part_named(&scene.doc.document, name).is_some() {
+        return note.push_all(&[
+            "`",
+            name,
+            "` is a task or a workflow, and no value; call it, and name an output of the call",
+        ]);
+    }
+    note.push_all(&["the name `", name, "` is not known here"])?;
+    near_entry(alloc, note, scene, name)
+}
+
+/// Appends the name of the task or workflow around a fault that is nearest to one.
+fn near_entry(alloc: Global, note: &mut Note, scene: &Scene, name: &str) -> Result<(), NoMemory> {
+    let (first, _) = name.split_once('.').unwrap_or((name, ""));
+    let mut names = Vec::new(alloc);
+    for entry in &scene.entries {
+        if let Some(ident) = entry.name() {
+            names.push(ident.name.as_str())?;
+        }
+    }
+    did_you_mean(alloc, note, first, names.as_slice())
+}
+
+/// 302.
+pub fn unknown_function(alloc: Global, note: &mut Note, scene: &Scene) -> Result<(), NoMemory> {
+    let name = scene.words;
+    if is_later_function(name) {
+        return note.push_all(&["`", name, "`", OF_1_2]);
+    }
+    note.push_all(&["`", name, "` is no function that this language has"])?;
+    near_function(alloc, note, name)
+}
+
+/// 307.
+pub fn not_a_value(alloc: Global, note: &mut Note, scene: &Scene) -> Result<(), NoMemory> {
+    let name = scene.words;
+    note.push_all(&["`", name, "` is a call, and no value; name an output of it"])?;
+    match scene.called(name) {
+        Some(part) => {
+            note.push(": ")?;
+            outputs(alloc, note, part)
+        }
+        None => Ok(()),
+    }
+}
+
+/// Where a name of the task or workflow around a fault stands first.
+fn first_entry(scene: &Scene) -> Option<Span> {
+    let entry = scene.entry_named(scene.words)?;
+    Some(entry.name()?.span)
+}
+
+/// Where a task or workflow of the name at a fault stands first.
+fn first_part(scene: &Scene) -> Option<Span> {
+    let part = part_named(&scene.doc.document, scene.words)?;
+    Some(part.ident().span)
+}
+
+/// 321.
+pub fn duplicate(note: &mut Note, scene: &Scene) -> Result<(), NoMemory> {
+    let earlier = |span: &Span| span.start < scene.span.start;
+    let first = first_entry(scene).filter(earlier);
+    note.push_all(&["the name `", scene.words, "` is given twice"])?;
+    match first.or(first_part(scene).filter(earlier)) {
+        Some(first) => {
+            note.push("; it stands in line ")?;
+            note.push_number(position_of(scene.bytes, first.start).line)?;
+            note.push(" too")
+        }
+        None => Ok(()),
+    }
+}
+
+/// Appends the structs that the document sees.
+fn structs(alloc: Global, note: &mut Note, scene: &Scene) -> Result<(), NoMemory> {
+    let mut names = Vec::new(alloc);
+    for seen in scene.doc.structs.as_slice() {
+        names.push(seen.name.as_str())?;
+    }
+    list(note, names.as_slice())
+}
+
+/// The type or struct that is nearest to a name.
+fn near_type<'a>(
+    alloc: Global,
+    scene: &Scene<'a>,
+    name: &str,
+) -> Result<Option<&'a str>, NoMemory> {
+    if let Some(own) = foreign_type(name) {
+        return Ok(Some(own));
+    }
+    let mut names: Vec<&'a str> = Vec::new(alloc);
+    for own in TYPES {
+        names.push(own)?;
+    }
+    for seen in scene.doc.structs.as_slice() {
+        names.push(seen.name.as_str())?;
+    }
+    nearest(alloc, name, names.as_slice())
+}
+
+/// 329.
+pub fn unknown_type(alloc: Global, note: &mut Note, scene: &Scene) -> Result<(), NoMemory> {
+    let name = scene.words;
+    if !is_identifier(name.as_bytes()) {
+        return note.push_all(&[
+            "`",
+            name,
+            "`: the keys of a map are Boolean, Int, String or File",
+        ]);
+    }
+    if name == "Directory" {
+        note.push_all(&["`", name, "`", OF_1_2])?;
+        return note.push(": use a File, such as a tar archive, or a String with its path");
+    }
+    if let Some(near) = near_type(alloc, scene, name)? {
+        return note.push_all(&["`", name, "` is no type; did you mean `", near, "`?"]);
+    }
+    if scene.doc.structs.is_empty() {
+        return note.push_all(&["`", name, "` is no type: this document sees no struct"]);
+    }
+    note.push_all(&[
+        "`",
+        name,
+        "` is no type: the structs that this document sees are ",
+    ])?;
+    structs(alloc, note, scene)
+}
