@@ -46,18 +46,6 @@ const FUNCTIONS: [&str; 34] = [
 /// The types that need no declaration.
 pub const TYPES: [&str; 7] = ["Array", "Boolean", "File", "Int", "Map", "Pair", "String"];
 
-/// The names of types in other languages, with what they are here.
-const FOREIGN: [(&str, &str); 8] = [
-    ("bool", "Boolean"),
-    ("Bool", "Boolean"),
-    ("Integer", "Int"),
-    ("integer", "Int"),
-    ("List", "Array"),
-    ("list", "Array"),
-    ("Dict", "Map"),
-    ("str", "String"),
-];
-
 /// The most edits between a word of this length and a name that is near to it.
 fn most_edits(length: usize) -> usize {
     match length {
@@ -106,10 +94,12 @@ pub fn near_function(alloc: Global, note: &mut Note, word: &str) -> Result<(), N
 
 /// The type of this language for the name of one in others.
 pub fn foreign_type(word: &str) -> Option<&'static str> {
-    for (foreign, own) in FOREIGN {
-        if foreign == word {
-            return Some(own);
-        }
+    match word {
+        "bool" | "Bool" => Some("Boolean"),
+        "Integer" | "integer" => Some("Int"),
+        "List" | "list" => Some("Array"),
+        "Dict" | "dict" => Some("Map"),
+        "str" => Some("String"),
+        _ => None,
     }
-    None
 }

@@ -44,7 +44,7 @@ fn is_inner(opening: Opening) -> bool {
 
 /// The first bracket of an expression that is open.
 fn first_inner(brackets: &Brackets) -> Option<Opening> {
-    for opening in &brackets.open {
+    for opening in &brackets.stack {
         if is_inner(*opening) {
             return Some(*opening);
         }
@@ -87,7 +87,7 @@ fn begins_operand(words: &str) -> bool {
 
 /// The document ends where brackets are open.
 fn early_end(alloc: Global, note: &mut Note, place: &Place) -> Result<Option<Span>, NoMemory> {
-    let brackets = Brackets::before(alloc, place.bytes, place.span.end)?;
+    let brackets = Brackets::open_before(alloc, place.bytes, place.span.end)?;
     let Some(opening) = brackets.last() else {
         return Ok(None);
     };

@@ -17,13 +17,14 @@ struct Seen {
 }
 
 /// What is known of an expression up to some byte of it.
+#[derive(Clone, Copy)]
 struct Walk {
     depth: usize,
     quote: Option<u8>,
     escaped: bool,
     /// Whether an operand ended before.
     behind_operand: bool,
-    loosest: Option<Seen>,
+    best: Option<Seen>,
 }
 
 /// The operator with which a text begins, and its level: 1 binds most loosely.
@@ -66,12 +67,12 @@ impl Walk {
 
     /// Keeps an operator that binds at most as tightly as those before.
     fn keep(&mut self, at: usize, operator: &'static str, level: u32) {
-        let looser = match self.loosest {
+        let looser = match self.best {
             Some(seen) => level <= seen.level,
             None => true,
         };
         if looser {
-            self.loosest = Some(Seen {
+            self.best = Some(Seen {
                 at,
                 operator,
                 level,
@@ -105,7 +106,7 @@ fn loosest(bytes: &[u8]) -> Option<Seen> {
         quote: None,
         escaped: false,
         behind_operand: false,
-        loosest: None,
+        best: None,
     };
     for (at, byte) in bytes.iter().enumerate() {
         match walk.quote {
@@ -113,7 +114,7 @@ fn loosest(bytes: &[u8]) -> Option<Seen> {
             None => walk.step_code(at, *byte, bytes.get(at..).unwrap_or(&[])),
         }
     }
-    walk.loosest
+    walk.best
 }
 
 /// A part of a text, without the blank space around it.

@@ -36,7 +36,7 @@ impl<'a> Place<'a> {
         span: Span,
         words: &'a str,
     ) -> Result<Place<'a>, NoMemory> {
-        let brackets = Brackets::before(alloc, bytes, span.start)?;
+        let brackets = Brackets::open_before(alloc, bytes, span.start)?;
         let before = bytes_before(bytes, span.start).trim_ascii_end();
         Ok(Place {
             bytes,

@@ -53,13 +53,13 @@ fn not_expected(alloc: Global, note: &mut Note, place: &Place) -> Result<(), NoM
     if !expected.is_empty() {
         return note.push(expected);
     }
-    if place.words == "}" && place.brackets.open.is_empty() {
+    if place.words == "}" && place.brackets.stack.is_empty() {
         return note.push(": no `{` is open");
     }
     if is_reserved(place.words) {
         return note.push("; it is a reserved word, which cannot be a name");
     }
-    if place.brackets.open.is_empty() {
+    if place.brackets.stack.is_empty() {
         return did_you_mean(alloc, note, place.words, &PARTS);
     }
     Ok(())
@@ -173,7 +173,7 @@ fn earlier_cause(
     }
     if code == 104 {
         let end = fence_end(place.bytes, place.span);
-        let brackets = Brackets::before(alloc, place.bytes, end)?;
+        let brackets = Brackets::open_before(alloc, place.bytes, end)?;
         return open_placeholder(note, place, &brackets);
     }
     if code == 103 && string_at(place).contains(&b'}') {

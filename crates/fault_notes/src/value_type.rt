@@ -11,7 +11,7 @@ const MOST_TERMS: u32 = 16;
 
 /// The type of a value: one without parts, that of a declaration, or one as it is written.
 #[derive(Clone, Copy)]
-pub enum Type<'a> {
+pub enum Known<'a> {
     Fixed(&'static str),
     Declared(Declared<'a>),
     Written(&'a TypeTree),
@@ -62,29 +62,29 @@ fn item_type<'a>(tree: &'a TypeTree) -> Option<&'a TypeTree> {
 }
 
 /// The type of `name[..]` or `name.member`.
-fn part_type<'a>(scene: &Scene<'a>, text: &str) -> Option<Type<'a>> {
+fn part_type<'a>(scene: &Scene<'a>, text: &str) -> Option<Known<'a>> {
     if let Some((owner, _)) = text.split_once('[') {
         let declared = scene.declared(owner.trim())?;
-        return Some(Type::Written(item_type(declared.tree())?));
+        return Some(Known::Written(item_type(declared.tree())?));
     }
     let (owner, member) = text.split_once('.')?;
     let declared = scene.declared(owner.trim())?;
     match &declared.tree().base {
         BaseType::Struct(ident) => {
             let member = scene.member_type(ident.name.as_str(), member.trim())?;
-            Some(Type::Written(member))
+            Some(Known::Written(member))
         }
         _ => None,
     }
 }
 
 /// The type of an expression without operators.
-fn operand_type<'a>(scene: &Scene<'a>, text: &str) -> Option<Type<'a>> {
+fn operand_type<'a>(scene: &Scene<'a>, text: &str) -> Option<Known<'a>> {
     if let Some(fixed) = fixed_type(text) {
-        return Some(Type::Fixed(fixed));
+        return Some(Known::Fixed(fixed));
     }
     if let Some(declared) = scene.declared(text) {
-        return Some(Type::Declared(declared));
+        return Some(Known::Declared(declared));
     }
     if !is_identifier(text.get(..1)?.as_bytes()) {
         return None;
@@ -93,23 +93,23 @@ fn operand_type<'a>(scene: &Scene<'a>, text: &str) -> Option<Type<'a>> {
 }
 
 /// Whether a type is String or File, perhaps optional.
-fn is_text(found: Option<Type>) -> bool {
+fn is_text(found: Option<Known>) -> bool {
     let tree = match found {
-        Some(Type::Fixed(fixed)) => return fixed == "String" || fixed == "File",
-        Some(Type::Declared(declared)) => declared.tree(),
-        Some(Type::Written(tree)) => tree,
+        Some(Known::Fixed(fixed)) => return fixed == "String" || fixed == "File",
+        Some(Known::Declared(declared)) => declared.tree(),
+        Some(Known::Written(tree)) => tree,
         None => return false,
     };
     matches!(tree.base, BaseType::Str(_) | BaseType::File(_))
 }
 
 /// The type of a sum, whose last operand and what stands before are these.
-fn sum_type<'a>(scene: &Scene<'a>, left: &str, right: &str) -> Type<'a> {
+fn sum_type<'a>(scene: &Scene<'a>, left: &str, right: &str) -> Known<'a> {
     let mut last = right;
     let mut rest = left;
     for _ in 0..MOST_TERMS {
         if is_text(operand_type(scene, without_parens(last))) {
-            return Type::Fixed("String");
+            return Known::Fixed("String");
         }
         match operation_of(rest) {
             Some(sum) => {
@@ -118,34 +118,34 @@ fn sum_type<'a>(scene: &Scene<'a>, left: &str, right: &str) -> Type<'a> {
             }
             None => {
                 if is_text(operand_type(scene, without_parens(rest))) {
-                    return Type::Fixed("String");
+                    return Known::Fixed("String");
                 }
-                return Type::Fixed("Int");
+                return Known::Fixed("Int");
             }
         }
     }
-    Type::Fixed("Int")
+    Known::Fixed("Int")
 }
 
 /// The type of an expression; none where it does not follow from its text and from declarations.
-pub fn type_of<'a>(scene: &Scene<'a>, text: &str) -> Option<Type<'a>> {
+pub fn type_of<'a>(scene: &Scene<'a>, text: &str) -> Option<Known<'a>> {
     let text = without_parens(text);
     let Some(operation) = operation_of(text) else {
         return operand_type(scene, text);
     };
     match operation.operator {
         "+" => Some(sum_type(scene, operation.left, operation.right)),
-        "-" | "*" | "/" | "%" => Some(Type::Fixed("Int")),
-        _ => Some(Type::Fixed("Boolean")),
+        "-" | "*" | "/" | "%" => Some(Known::Fixed("Int")),
+        _ => Some(Known::Fixed("Boolean")),
     }
 }
 
 /// Appends a type as it is at the fault.
-pub fn push_type(note: &mut Note, scene: &Scene, found: Type) -> Result<(), NoMemory> {
+pub fn push_type(note: &mut Note, scene: &Scene, found: Known) -> Result<(), NoMemory> {
     match found {
-        Type::Fixed(fixed) => note.push(fixed),
-        Type::Declared(declared) => scene.push_type(note, declared),
-        Type::Written(tree) => type_text(note, tree),
+        Known::Fixed(fixed) => note.push(fixed),
+        Known::Declared(declared) => scene.push_type(note, declared),
+        Known::Written(tree) => type_text(note, tree),
     }
 }
 

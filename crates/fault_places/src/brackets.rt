@@ -32,12 +32,12 @@ pub struct Opening {
 /// the last command with braces before it ended.
 #[derive(Drop)]
 pub struct Brackets {
-    pub open: Vec<Opening>,
+    pub stack: Vec<Opening>,
     pub command_end: Option<u32>,
     comment: bool,
     escaped: bool,
     /// The byte before, where it means itself.
-    before: u8,
+    previous: u8,
 }
 
 impl Bracket {
@@ -99,13 +99,13 @@ fn asks_for_command(code: &[u8], byte: u8) -> bool {
 impl Brackets {
     /// The brackets that are open before the byte `end` of a document. They are those of any text,
     /// so they need not match.
-    pub fn before(alloc: Global, bytes: &[u8], end: u32) -> Result<Brackets, NoMemory> {
+    pub fn open_before(alloc: Global, bytes: &[u8], end: u32) -> Result<Brackets, NoMemory> {
         let mut brackets = Brackets {
-            open: Vec::new(alloc),
+            stack: Vec::new(alloc),
             command_end: None,
             comment: false,
             escaped: false,
-            before: 0,
+            previous: 0,
         };
         let part = bytes_before(bytes, end);
         for at in 0..end {
@@ -118,13 +118,13 @@ impl Brackets {
 
     /// The innermost bracket.
     pub fn last(&self) -> Option<Opening> {
-        self.open.last().copied()
+        self.stack.last().copied()
     }
 
     /// The last placeholder that is open.
     pub fn placeholder(&self) -> Option<Opening> {
         let mut found = None;
-        for opening in &self.open {
+        for opening in &self.stack {
             if opening.bracket == Bracket::Placeholder {
                 found = Some(*opening);
             }
@@ -133,13 +133,13 @@ impl Brackets {
     }
 
     fn push(&mut self, bracket: Bracket, at: u32) -> Result<(), NoMemory> {
-        Ok(self.open.push(Opening { bracket, at })?)
+        Ok(self.stack.push(Opening { bracket, at })?)
     }
 
     /// Takes the next byte.
     fn step(&mut self, bytes: &[u8], at: u32, byte: u8) -> Result<(), NoMemory> {
         let escaped = self.escaped;
-        let inside = match self.open.last() {
+        let inside = match self.stack.last() {
             Some(opening) => Some(opening.bracket),
             None => None,
         };
@@ -158,13 +158,13 @@ impl Brackets {
             }
             _ => self.step_code(bytes, at, byte)?,
         }
-        self.before = if escaped { 0 } else { byte };
+        self.previous = if escaped { 0 } else { byte };
         Ok(())
     }
 
     /// Whether a byte is the brace of a placeholder.
     fn is_hole(&self, byte: u8) -> bool {
-        byte == b'{' && (self.before == b'~' || self.before == b'$')
+        byte == b'{' && (self.previous == b'~' || self.previous == b'$')
     }
 
     fn step_string(&mut self, at: u32, byte: u8, quote: u8) -> Result<(), NoMemory> {
@@ -173,7 +173,7 @@ impl Brackets {
         } else if byte == b'\\' {
             self.escaped = true;
         } else if byte == quote || byte == b'\n' {
-            self.open.pop();
+            self.stack.pop();
         } else if self.is_hole(byte) {
             return self.push(Bracket::Placeholder, at.saturating_sub(1));
         }
@@ -182,7 +182,7 @@ impl Brackets {
 
     fn step_command(&mut self, at: u32, byte: u8, ends: bool) -> Result<(), NoMemory> {
         if ends {
-            self.open.pop();
+            self.stack.pop();
         } else if self.is_hole(byte) {
             return self.push(Bracket::Placeholder, at.saturating_sub(1));
         }
@@ -195,7 +195,7 @@ impl Brackets {
             return Ok(());
         }
         if byte == b'}' || byte == b']' || byte == b')' {
-            self.open.pop();
+            self.stack.pop();
             return Ok(());
         }
         match bracket_of(byte, asks_for_command(bytes_before(bytes, at), byte)) {
