@@ -39,19 +39,25 @@ fn behind_word(place: &Place) -> &'static str {
 /// What a section or a call takes in place of a mark.
 fn other_mark(place: &Place) -> &'static str {
     let head = before_brace(place);
-    match (place.words, last_word(head)) {
-        ("=", "runtime" | "meta" | "parameter_meta") => ": expected `:`",
-        (",", "input" | "output") => ": declarations stand without commas between them",
-        (":", _) if calls(head) => ": expected `=`",
+    let section = last_word(head);
+    match place.words {
+        "=" if matches!(section, "runtime" | "meta" | "parameter_meta") => ": expected `:`",
+        "," if matches!(section, "input" | "output") => {
+            ": declarations stand without commas between them"
+        }
+        ":" if calls(head) => ": expected `=`",
         _ => "",
     }
 }
 
 /// Where a section or a statement belongs that stands in the other kind of body.
 fn other_body(place: &Place) -> &'static str {
-    match (place.words, last_word(before_word(before_brace(place)))) {
-        ("call" | "scatter", "task") => ": it stands in a workflow, and this is a task",
-        ("command" | "runtime", "workflow") => ": it stands in a task, and this is a workflow",
+    let part = last_word(before_word(before_brace(place)));
+    match place.words {
+        "call" | "scatter" if part == "task" => ": it stands in a workflow, and this is a task",
+        "command" | "runtime" if part == "workflow" => {
+            ": it stands in a task, and this is a workflow"
+        }
         _ => "",
     }
 }

@@ -77,9 +77,11 @@ pub fn later_version(note: &mut Note, place: &Place) -> Result<Option<Span>, NoM
         note.push(": declare the value alone, and export it in the command")?;
         return Ok(Some(place.front_span()));
     }
-    if let ("{", Some(instead)) = (place.words, own_section(place.front)) {
-        note.push_all(&["`", place.front, "`", OF_1_2, instead])?;
-        return Ok(Some(place.front_span()));
+    if place.words == "{" {
+        if let Some(instead) = own_section(place.front) {
+            note.push_all(&["`", place.front, "`", OF_1_2, instead])?;
+            return Ok(Some(place.front_span()));
+        }
     }
     plain_call(note, place)
 }

@@ -88,32 +88,37 @@ fn unexpected(alloc: Global, note: &mut Note, place: &Place) -> Result<Span, NoM
     Ok(place.span)
 }
 
-/// What of WDL this language leaves out.
-fn left_out(note: &mut Note, words: &str, code: u16) -> Result<(), NoMemory> {
-    if code > 121 {
-        note.push("the function ")?;
-    }
-    note.push_quoted(words)?;
-    note.push(match (code, words) {
-        (120, "size" | "ceil" | "floor" | "round") => {
+/// What is said of what gives or takes a Float.
+fn no_float(words: &str) -> &'static str {
+    match words {
+        "size" | "ceil" | "floor" | "round" => {
             ": Float is not supported; make a size an Int input with a default (docs/MOVING.md, \
              \"Disk sizes\")"
         }
-        (120, _) => {
+        _ => {
             ": Float is not supported; compute it in a command, and hand it on as a String \
              (docs/MOVING.md, \"Fractions\")"
         }
-        (121, "read_object" | "read_objects") => {
+    }
+}
+
+/// What is said of what gives or takes an Object.
+fn no_object(words: &str) -> &'static str {
+    match words {
+        "read_object" | "read_objects" => {
             ": Object is not supported; read a map by `read_map`, or a table by `read_tsv`"
         }
-        (121, "write_object" | "write_objects") => {
+        "write_object" | "write_objects" => {
             ": Object is not supported; write a map by `write_map`, or a table by `write_tsv`"
         }
-        (121, _) => { ": Object is not supported; declare a struct (docs/MOVING.md, \"Structs\")" }
-        (122, _) => {
-            " is not supported; use `sed` in a command (docs/MOVING.md, \"Names cut by `sub`\")"
-        }
-        (_, "write_json") => {
+        _ => ": Object is not supported; declare a struct (docs/MOVING.md, \"Structs\")",
+    }
+}
+
+/// What is said of the functions for JSON.
+fn no_json(words: &str) -> &'static str {
+    match words {
+        "write_json" => {
             " is not supported; use `write_lines`, `write_tsv` or `write_map` (docs/MOVING.md, \
              \"JSON\")"
         }
@@ -121,6 +126,22 @@ fn left_out(note: &mut Note, words: &str, code: u16) -> Result<(), NoMemory> {
             " is not supported; use one for lines, tables or maps, as `read_map` \
              (docs/MOVING.md, \"JSON\")"
         }
+    }
+}
+
+/// What of WDL this language leaves out.
+fn left_out(note: &mut Note, words: &str, code: u16) -> Result<(), NoMemory> {
+    if code > 121 {
+        note.push("the function ")?;
+    }
+    note.push_quoted(words)?;
+    note.push(match code {
+        120 => no_float(words),
+        121 => no_object(words),
+        122 => {
+            " is not supported; use `sed` in a command (docs/MOVING.md, \"Names cut by `sub`\")"
+        }
+        _ => no_json(words),
     })
 }
 
