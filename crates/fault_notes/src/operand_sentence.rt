@@ -145,6 +145,24 @@ fn unary(
     is_of(note, operand, ty)
 }
 
+/// A value with an index, up to the bracket that closes it.
+fn index(alloc: Global, note: &mut Note, scene: &Scene, value: &str) -> Result<(), NoMemory> {
+    note.push(": `[ ]` takes an array and an Int, or a map and one of its keys")?;
+    let Some((owner, index)) = value.rsplit_once('[') else {
+        return Ok(());
+    };
+    let operation = Operation {
+        left: owner.trim(),
+        operator: "[ ]",
+        right: index.trim(),
+    };
+    let mut left = Note::new(alloc);
+    push_type_of(&mut left, scene, operation.left)?;
+    let mut right = Note::new(alloc);
+    push_type_of(&mut right, scene, operation.right)?;
+    both(note, operation, left.as_str(), right.as_str())
+}
+
 /// An operation that does not take its operands.
 pub fn operands_differ(alloc: Global, note: &mut Note, scene: &Scene) -> Result<(), NoMemory> {
     scene.quote(note)?;
@@ -158,9 +176,8 @@ pub fn operands_differ(alloc: Global, note: &mut Note, scene: &Scene) -> Result<
     if let Some(operand) = text.strip_prefix('-') {
         return unary(alloc, note, scene, "`-` takes an Int", operand.trim());
     }
-    if text.ends_with(']') {
-        note.push(": `[ ]` takes an array and an Int, or a map and one of its keys")?;
-        return Ok(());
+    if let Some(value) = text.strip_suffix(']') {
+        return index(alloc, note, scene, value);
     }
     note.push(": the operator does not take values of these types")
 }

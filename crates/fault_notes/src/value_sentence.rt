@@ -130,7 +130,7 @@ fn is_of_strings(ty: &str) -> bool {
     )
 }
 
-/// Appends what helps where Strings stand for numbers.
+/// Appends what helps where Strings that are read stand for numbers.
 fn no_numbers(
     alloc: Global,
     note: &mut Note,
@@ -159,7 +159,10 @@ pub fn no_coercion(alloc: Global, note: &mut Note, scene: &Scene) -> Result<(), 
     let mut ty = Note::new(alloc);
     push_type_of(&mut ty, scene, scene.text())?;
     found_of_type(note, scene, ty.as_str())?;
-    no_numbers(alloc, note, wanted, ty.as_str())
+    if scene.words.starts_with("read_") {
+        return no_numbers(alloc, note, wanted, ty.as_str());
+    }
+    Ok(())
 }
 
 /// 304.
