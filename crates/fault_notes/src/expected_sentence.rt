@@ -50,11 +50,12 @@ fn other_mark(place: &Place) -> &'static str {
     }
 }
 
-/// Where a section or a statement belongs that stands in the other kind of body.
+/// What the body of a task, a workflow or a struct does not hold.
 fn other_body(place: &Place) -> &'static str {
     let part = last_word(before_word(before_brace(place)));
     match place.words {
         "call" | "scatter" if part == "task" => ": it stands in a workflow, and this is a task",
+        "=" if part == "struct" => ": a member of a struct has no value",
         "command" | "runtime" if part == "workflow" => {
             ": it stands in a task, and this is a workflow"
         }

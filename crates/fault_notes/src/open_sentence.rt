@@ -185,14 +185,30 @@ fn in_call(note: &mut Note, place: &Place, opening: Opening) -> Result<Option<Sp
     to_close(note, place, place.words, opening, "`,` or ")
 }
 
+/// Whether the line before a place is a type and a name.
+fn declares(place: &Place) -> bool {
+    let line = match place.before.iter().rposition(|byte| *byte == b'\n') {
+        Some(newline) => &place.before[newline + 1..],
+        None => place.before,
+    };
+    let line = str::from_utf8(line).unwrap_or("").trim();
+    let (word, _) = line.split_once(ends_word).unwrap_or((line, ""));
+    begins_type(word) && word != line && !is_reserved(place.front) && !line.contains('=')
+}
+
+/// Whether a character ends the word with which a type begins.
+fn ends_word(c: char) -> bool {
+    !c.is_ascii_alphanumeric()
+}
+
 /// A declaration without a value, where it needs one.
 fn no_value(note: &mut Note, place: &Place) -> Result<Option<Span>, NoMemory> {
     let section = match place.brackets.last() {
         Some(opening) if opening.bracket == Bracket::Brace => word_before(place, opening),
         _ => return Ok(None),
     };
-    let declares = begins_type(place.second()) && place.second_begins();
-    if !declares || section == "input" || is_reserved(place.front) {
+    let front = place.front;
+    if section == "input" || place.words == "=" || front.is_empty() || !declares(place) {
         return Ok(None);
     }
     note.push_all(&["`", place.front, "` has no value: expected `=`"])?;
