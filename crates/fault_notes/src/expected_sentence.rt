@@ -1,7 +1,7 @@
 //! What was expected at a place, where the word or the bracket before it says so.
 
 use crate::later::calls;
-use crate::open_sentence::begins_type;
+use crate::open_sentence::{begins_section, begins_type};
 use crate::place::Place;
 use fault_places::{Bracket, before_word, bytes_before, last_word};
 use wdl_value::{is_identifier, is_reserved};
@@ -50,15 +50,37 @@ fn other_mark(place: &Place) -> &'static str {
     }
 }
 
+/// What the body of a task lacks or does not hold.
+fn in_task(place: &Place, body: &str) -> &'static str {
+    match place.words {
+        "call" | "scatter" => ": it stands in a workflow, and this is a task",
+        "input" | "output" | "command" | "runtime" | "meta" | "parameter_meta" => {
+            ": this task has such a section already"
+        }
+        "}" if !body.contains("command") => ": expected a `command` section before it",
+        _ => "",
+    }
+}
+
+/// What the body of a workflow does not hold.
+fn in_workflow(place: &Place) -> &'static str {
+    match place.words {
+        "command" | "runtime" => ": it stands in a task, and this is a workflow",
+        "input" | "output" | "meta" | "parameter_meta" => {
+            ": this workflow has such a section already"
+        }
+        _ => "",
+    }
+}
+
 /// What the body of a task, a workflow or a struct does not hold.
 fn other_body(place: &Place) -> &'static str {
-    let part = last_word(before_word(before_brace(place)));
-    match place.words {
-        "call" | "scatter" if part == "task" => ": it stands in a workflow, and this is a task",
-        "=" if part == "struct" => ": a member of a struct has no value",
-        "command" | "runtime" if part == "workflow" => {
-            ": it stands in a task, and this is a workflow"
-        }
+    let head = before_brace(place);
+    let body = place.before.strip_prefix(head).unwrap_or(&[]);
+    match last_word(before_word(head)) {
+        "task" => in_task(place, str::from_utf8(body).unwrap_or("")),
+        "workflow" => in_workflow(place),
+        "struct" if place.words == "=" => ": a member of a struct has no value",
         _ => "",
     }
 }
@@ -71,15 +93,20 @@ fn asks_for_value(code: &[u8]) -> bool {
     )
 }
 
+/// Whether a value cannot begin with a text.
+fn ends_value(words: &str) -> bool {
+    matches!(words, "}" | "]" | ")") || begins_section(words) || begins_type(words)
+}
+
 /// What is said behind `is not expected here`; empty where several things were expected.
 pub fn expectation(place: &Place) -> &'static str {
+    if asks_for_value(place.before) && ends_value(place.words) {
+        return ": expected a value before it";
+    }
     for said in [behind_word(place), other_mark(place), other_body(place)] {
         if !said.is_empty() {
             return said;
         }
-    }
-    if matches!(place.words, "}" | "]" | ")") && asks_for_value(place.before) {
-        return ": expected a value before it";
     }
     let declares = is_name(place.front) && place.front_begins();
     if declares && begins_type(place.words) && place.is_in(Bracket::Brace) {

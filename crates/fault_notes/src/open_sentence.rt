@@ -8,7 +8,7 @@ use std::alloc::Global;
 use wdl_value::{NoMemory, Span, is_reserved};
 
 /// Whether a word begins a section or a statement, so that it stands in braces alone.
-fn begins_section(word: &str) -> bool {
+pub fn begins_section(word: &str) -> bool {
     matches!(
         word,
         "input"
@@ -202,7 +202,7 @@ fn ends_word(c: char) -> bool {
 }
 
 /// A declaration without a value, where it needs one.
-fn no_value(note: &mut Note, place: &Place) -> Result<Option<Span>, NoMemory> {
+pub fn no_value(note: &mut Note, place: &Place) -> Result<Option<Span>, NoMemory> {
     let section = match place.brackets.last() {
         Some(opening) if opening.bracket == Bracket::Brace => word_before(place, opening),
         _ => return Ok(None),
@@ -227,9 +227,6 @@ pub fn open_bracket(
 ) -> Result<Option<Span>, NoMemory> {
     if at_end && !closes_another(place) {
         return early_end(alloc, note, place);
-    }
-    if let Some(shown) = no_value(note, place)? {
-        return Ok(Some(shown));
     }
     if begins_section(place.words) {
         return at_section(note, place, place.words, place.span);

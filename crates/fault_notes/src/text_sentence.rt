@@ -4,7 +4,7 @@ use crate::expected_sentence::expectation;
 use crate::front_sentence::{PARTS, word_in_front};
 use crate::later::later_version;
 use crate::near::did_you_mean;
-use crate::open_sentence::{cut_command, open_bracket, open_placeholder};
+use crate::open_sentence::{cut_command, no_value, open_bracket, open_placeholder};
 use crate::place::Place;
 use crate::unclosed::{fence_end, misspelt_command, string_at};
 use fault_places::{Brackets, Note, text_behind, words_at};
@@ -77,6 +77,11 @@ fn unexpected(alloc: Global, note: &mut Note, place: &Place) -> Result<Span, NoM
         return Ok(shown);
     }
     let at_end = text_behind(place.bytes, place.span).is_empty();
+    if !at_end {
+        if let Some(shown) = no_value(note, place)? {
+            return Ok(shown);
+        }
+    }
     if !at_end && !expectation(place).is_empty() {
         not_expected(alloc, note, place)?;
         return Ok(place.span);
