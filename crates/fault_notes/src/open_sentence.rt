@@ -158,11 +158,13 @@ fn in_expression(
     opening: Opening,
 ) -> Result<Option<Span>, NoMemory> {
     if place.words == opening.bracket.closing() {
-        note.push_all(&[
-            "`",
-            place.words,
-            "` is not expected here: expected a value before it",
-        ])?;
+        note.push_all(&["`", place.words, "` is not expected here: expected "])?;
+        note.push(if begins_type(place.front) {
+            "`,` and a type"
+        } else {
+            "a value"
+        })?;
+        note.push(" before it")?;
         return Ok(Some(place.span));
     }
     if is_closing(place.words) {
