@@ -1,7 +1,7 @@
 //! Sentences on scope and types.
 
 use crate::call_sentence::{input_missing, input_unknown, unknown_task};
-use crate::name_sentence::{duplicate, not_a_value, unknown_name, unknown_type};
+use crate::name_sentence::{duplicate, not_a_value, unknown_function, unknown_name, unknown_type};
 use crate::value_sentence::{
     bad_arguments, bad_operands, expected, members_differ, no_coercion, no_member,
 };
@@ -18,7 +18,6 @@ const PLACEHOLDER: &str =
 /// What is said behind the text at a fault.
 fn behind_words(code: u16) -> &'static str {
     match code {
-        302 => "is no function that this language has",
         309 => "can be called in the outputs of a task alone; let a task read the file",
         311 => {
             "is no such value: `returnCodes` is an Int, an array of Int or `\"*\"`, and \
@@ -59,8 +58,9 @@ fn of_words(note: &mut Note, scene: &Scene, code: u16) -> Result<(), NoMemory> {
 fn sentence_on(alloc: Global, note: &mut Note, scene: &Scene, code: u16) -> Result<(), NoMemory> {
     match code {
         301 => unknown_name(alloc, note, scene),
-        303 => no_coercion(note, scene),
-        304 => bad_operands(note, scene),
+        302 => unknown_function(alloc, note, scene),
+        303 => no_coercion(alloc, note, scene),
+        304 => bad_operands(alloc, note, scene),
         305 => bad_arguments(note, scene),
         306 => no_member(alloc, note, scene),
         307 => not_a_value(alloc, note, scene),
@@ -73,7 +73,7 @@ fn sentence_on(alloc: Global, note: &mut Note, scene: &Scene, code: u16) -> Resu
         325 => expected(note, scene, "a Boolean as the condition of `if`"),
         326 => expected(note, scene, "an array to scatter over"),
         329 => unknown_type(alloc, note, scene),
-        302 | 309 | 311 | 312 | 320 | 330 => of_words(note, scene, code),
+        309 | 311 | 312 | 320 | 330 => of_words(note, scene, code),
         _ => note.push(fixed(code)),
     }
 }

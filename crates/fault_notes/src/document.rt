@@ -13,7 +13,8 @@ use std::alloc::Global;
 use wdl_library::Library;
 use wdl_value::{NoMemory, Span};
 
-/// Appends the sentence on a code: what the fault is, and what was expected.
+/// Appends the sentence on a code: what the fault is, and what was expected. It answers the span
+/// whose line is shown, which is that of the cause where this stands before the fault.
 fn sentence(
     alloc: Global,
     note: &mut Note,
@@ -21,13 +22,14 @@ fn sentence(
     bytes: &[u8],
     span: Span,
     library: Option<&Library>,
-) -> Result<(), NoMemory> {
+) -> Result<Span, NoMemory> {
     match code / 100 {
-        1 => text_sentence(note, code, bytes, span),
-        2 => import_sentence(note, code, bytes, span),
-        3 => check_sentence(alloc, note, code, bytes, span, library),
-        _ => note.push(subset_sentence(code)),
+        1 => return text_sentence(alloc, note, code, bytes, span),
+        2 => import_sentence(note, code, bytes, span)?,
+        3 => check_sentence(alloc, note, code, bytes, span, library)?,
+        _ => note.push(subset_sentence(code))?,
     }
+    Ok(span)
 }
 
 /// Appends the sentence, the line of the document and the carets.
@@ -39,14 +41,15 @@ fn tell(
     span: Span,
     library: Option<&Library>,
 ) -> Result<(), NoMemory> {
-    sentence(alloc, note, code, bytes, span, library)?;
+    let shown = sentence(alloc, note, code, bytes, span, library)?;
     note.push("\n")?;
-    excerpt(alloc, note, bytes, span)
+    excerpt(alloc, note, bytes, shown)
 }
 
 /// The note of a fault in the document at a path, for a person: its place with the code and a
 /// sentence, the line of the document in which the span begins, and a line of carets under the
-/// span. Each of the three ends with a newline.
+/// span. Each of the three ends with a newline. Where the sentence names a cause before the span,
+/// such as a placeholder that is not closed, the line and the carets are those of the cause.
 ///
 /// `code` is one of 101 to 330, 601 to 613 or 620 to 622; `bytes` are those of the document, and
 /// `span` is the part of it in which the rule of the code is broken. For the codes from 301 on the

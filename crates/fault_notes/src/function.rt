@@ -1,4 +1,4 @@
-//! The functions as they are called.
+//! The functions as they are called, and what they give.
 
 /// How a function is called, with the types of its arguments (OpenWDL 1.1, "Standard Library"): P
 /// is Boolean, Int, String or File, and X and Y are any types. Empty for any other name.
@@ -39,5 +39,21 @@ pub fn usage_of(name: &str) -> &'static str {
         "write_tsv" => "write_tsv(Array[Array[String]])",
         "write_map" => "write_map(Map[String, String])",
         _ => "",
+    }
+}
+
+/// The type of what a function gives, where it is the same at each call.
+pub fn result_of(name: &str) -> Option<&'static str> {
+    match name {
+        "min" | "max" | "length" | "read_int" => Some("Int"),
+        "range" => Some("Array[Int]"),
+        "defined" | "read_boolean" => Some("Boolean"),
+        "sep" | "basename" | "read_string" => Some("String"),
+        "prefix" | "suffix" | "quote" | "squote" | "read_lines" => Some("Array[String]"),
+        "read_tsv" => Some("Array[Array[String]]"),
+        "read_map" => Some("Map[String, String]"),
+        "stdout" | "stderr" | "write_lines" | "write_tsv" | "write_map" => Some("File"),
+        "glob" => Some("Array[File]"),
+        _ => None,
     }
 }

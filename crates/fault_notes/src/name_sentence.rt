@@ -1,6 +1,8 @@
 //! Sentences on names.
 
+use crate::later::{OF_1_2, is_later_function};
 use crate::listed::{it_has, list};
+use crate::near::{TYPES, did_you_mean, foreign_type, near_function, nearest};
 use fault_places::{Entry, Note, Part, Scene, part_named, position_of};
 use std::alloc::Global;
 use wdl_value::{NoMemory, Span, is_identifier};
@@ -54,7 +56,30 @@ pub fn unknown_name(alloc: Global, note: &mut Note, scene: &Scene) -> Result<(),
             "` is a task or a workflow, and no value; call it, and name an output of the call",
         ]);
     }
-    note.push_all(&["the name `", name, "` is not known here"])
+    note.push_all(&["the name `", name, "` is not known here"])?;
+    near_entry(alloc, note, scene, name)
+}
+
+/// Appends the name of the task or workflow around a fault that is nearest to one.
+fn near_entry(alloc: Global, note: &mut Note, scene: &Scene, name: &str) -> Result<(), NoMemory> {
+    let (first, _) = name.split_once('.').unwrap_or((name, ""));
+    let mut names = Vec::new(alloc);
+    for entry in &scene.entries {
+        if let Some(ident) = entry.name() {
+            names.push(ident.name.as_str())?;
+        }
+    }
+    did_you_mean(alloc, note, first, names.as_slice())
+}
+
+/// 302.
+pub fn unknown_function(alloc: Global, note: &mut Note, scene: &Scene) -> Result<(), NoMemory> {
+    let name = scene.words;
+    if is_later_function(name) {
+        return note.push_all(&["`", name, "`", OF_1_2]);
+    }
+    note.push_all(&["`", name, "` is no function that this language has"])?;
+    near_function(alloc, note, name)
 }
 
 /// 307.
@@ -106,6 +131,25 @@ fn structs(alloc: Global, note: &mut Note, scene: &Scene) -> Result<(), NoMemory
     list(note, names.as_slice())
 }
 
+/// The type or struct that is nearest to a name.
+fn near_type<'a>(
+    alloc: Global,
+    scene: &Scene<'a>,
+    name: &str,
+) -> Result<Option<&'a str>, NoMemory> {
+    if let Some(own) = foreign_type(name) {
+        return Ok(Some(own));
+    }
+    let mut names: Vec<&'a str> = Vec::new(alloc);
+    for own in TYPES {
+        names.push(own)?;
+    }
+    for seen in scene.doc.structs.as_slice() {
+        names.push(seen.name.as_str())?;
+    }
+    nearest(alloc, name, names.as_slice())
+}
+
 /// 329.
 pub fn unknown_type(alloc: Global, note: &mut Note, scene: &Scene) -> Result<(), NoMemory> {
     let name = scene.words;
@@ -115,6 +159,13 @@ pub fn unknown_type(alloc: Global, note: &mut Note, scene: &Scene) -> Result<(),
             name,
             "`: the keys of a map are Boolean, Int, String or File",
         ]);
+    }
+    if name == "Directory" {
+        note.push_all(&["`", name, "`", OF_1_2])?;
+        return note.push(": use a File, such as a tar archive, or a String with its path");
+    }
+    if let Some(near) = near_type(alloc, scene, name)? {
+        return note.push_all(&["`", name, "` is no type; did you mean `", near, "`?"]);
     }
     if scene.doc.structs.is_empty() {
         return note.push_all(&["`", name, "` is no type: this document sees no struct"]);

@@ -1,10 +1,21 @@
 //! Sentences on tokens and grammar.
 
-use fault_places::{Note, text_behind, words_at};
+use crate::expected_sentence::expectation;
+use crate::front_sentence::{PARTS, word_in_front};
+use crate::later::later_version;
+use crate::near::did_you_mean;
+use crate::open_sentence::{cut_command, no_value, open_bracket, open_placeholder};
+use crate::place::Place;
+use crate::unclosed::{fence_end, misspelt_command, string_at};
+use fault_places::{Brackets, Note, text_behind, words_at};
+use std::alloc::Global;
 use wdl_value::{NoMemory, Span, is_reserved};
 
 /// The most bytes of a document.
 const MOST_BYTES: u32 = 1_048_576;
+
+/// The byte order mark.
+const BYTE_ORDER_MARK: &str = "\u{FEFF}";
 
 fn stray(note: &mut Note, words: &str) -> Result<(), NoMemory> {
     match words.as_bytes() {
@@ -15,6 +26,10 @@ fn stray(note: &mut Note, words: &str) -> Result<(), NoMemory> {
             "` is no number: no digit, letter or `_` stands right behind a number, and a decimal \
              number has no leading zero",
         ]),
+        [b';'] => note.push("`;` is no part of the language: a declaration ends without it"),
+        _ if words == BYTE_ORDER_MARK => {
+            note.push("the file begins with a byte order mark: save it without one")
+        }
         _ => note.push_all(&["`", words, "` is no part of the language"]),
     }
 }
@@ -30,16 +45,93 @@ fn too_long(note: &mut Note, words: &str, span: Span) -> Result<(), NoMemory> {
     ])
 }
 
-fn unexpected(note: &mut Note, words: &str, at_end: bool) -> Result<(), NoMemory> {
-    note.push_quoted(words)?;
+/// A token that nothing else is said of.
+fn not_expected(alloc: Global, note: &mut Note, place: &Place) -> Result<(), NoMemory> {
+    note.push_quoted(place.words)?;
     note.push(" is not expected here")?;
-    note.push(if at_end {
-        ", or the document ends too early behind it"
-    } else if is_reserved(words) {
-        "; it is a reserved word, which cannot be a name"
-    } else {
-        ""
-    })
+    let expected = expectation(place);
+    if !expected.is_empty() {
+        return note.push(expected);
+    }
+    if place.words == "}" && place.brackets.stack.is_empty() {
+        return note.push(": no `{` is open");
+    }
+    if is_reserved(place.words) {
+        return note.push("; it is a reserved word, which cannot be a name");
+    }
+    if place.brackets.stack.is_empty() {
+        return did_you_mean(alloc, note, place.words, &PARTS);
+    }
+    Ok(())
+}
+
+/// 110, and the span that it is about.
+fn unexpected(alloc: Global, note: &mut Note, place: &Place) -> Result<Span, NoMemory> {
+    if let Some(shown) = later_version(note, place)? {
+        return Ok(shown);
+    }
+    if let Some(shown) = word_in_front(alloc, note, place)? {
+        return Ok(shown);
+    }
+    if let Some(shown) = cut_command(note, place)? {
+        return Ok(shown);
+    }
+    let at_end = text_behind(place.bytes, place.span).is_empty();
+    if !at_end {
+        if let Some(shown) = no_value(note, place)? {
+            return Ok(shown);
+        }
+    }
+    if !at_end && !expectation(place).is_empty() {
+        not_expected(alloc, note, place)?;
+        return Ok(place.span);
+    }
+    if let Some(shown) = open_bracket(alloc, note, place, at_end)? {
+        return Ok(shown);
+    }
+    not_expected(alloc, note, place)?;
+    Ok(place.span)
+}
+
+/// What is said of what gives or takes a Float.
+fn no_float(words: &str) -> &'static str {
+    match words {
+        "size" | "ceil" | "floor" | "round" => {
+            ": Float is not supported; make a size an Int input with a default (docs/MOVING.md, \
+             \"Disk sizes\")"
+        }
+        _ => {
+            ": Float is not supported; compute it in a command, and hand it on as a String \
+             (docs/MOVING.md, \"Fractions\")"
+        }
+    }
+}
+
+/// What is said of what gives or takes an Object.
+fn no_object(words: &str) -> &'static str {
+    match words {
+        "read_object" | "read_objects" => {
+            ": Object is not supported; read a map by `read_map`, or a table by `read_tsv`"
+        }
+        "write_object" | "write_objects" => {
+            ": Object is not supported; write a map by `write_map`, or a table by `write_tsv`"
+        }
+        _ => ": Object is not supported; declare a struct (docs/MOVING.md, \"Structs\")",
+    }
+}
+
+/// What is said of the functions for JSON.
+fn no_json(words: &str) -> &'static str {
+    match words {
+        "write_json" => {
+            " is not supported; use `write_lines`, `write_tsv` or `write_map` (docs/MOVING.md, \
+             \"JSON\")"
+        }
+        _ => {
+            " is not supported; use one for lines, tables or maps, as `read_map` \
+             (docs/MOVING.md, \"JSON\")"
+        }
+    }
 }
 
 /// What of WDL this language leaves out.
@@ -49,10 +141,12 @@ fn left_out(note: &mut Note, words: &str, code: u16) -> Result<(), NoMemory> {
     }
     note.push_quoted(words)?;
     note.push(match code {
-        120 => ": Float is not supported; compute it in a command, and hand it on as a String",
-        121 => ": Object is not supported; declare a struct",
-        122 => " is not supported; use `sed` in a command",
-        _ => " is not supported; use one for lines, tables or maps, as `read_map`",
+        120 => no_float(words),
+        121 => no_object(words),
+        122 => {
+            " is not supported; use `sed` in a command (docs/MOVING.md, \"Names cut by `sub`\")"
+        }
+        _ => no_json(words),
     })
 }
 
@@ -72,9 +166,50 @@ fn fixed(code: u16) -> &'static str {
     }
 }
 
-/// Appends the sentence on a code of 101 to 123.
-pub fn text_sentence(note: &mut Note, code: u16, bytes: &[u8], span: Span) -> Result<(), NoMemory> {
-    let words = words_at(bytes, span);
+/// What is said behind the sentence on a document of another version.
+fn other_version(words: &str) -> &'static str {
+    match words {
+        "1.0" => {
+            "; most documents of version 1.0 need only that header (docs/MOVING.md, \"Versions\")"
+        }
+        "1.2" | "1.3" | "development" => {
+            "; write it, and what came with a later version is refused by name"
+        }
+        "task" | "workflow" | "import" => {
+            "; without a version it is draft-2: write that header, put the inputs into \
+             `input { .. }`, and give each output of a workflow a type and a name \
+             (docs/MOVING.md, \"Versions\")"
+        }
+        _ => "",
+    }
+}
+
+/// A lexical mistake whose cause stands before its place, and the span of that.
+fn earlier_cause(
+    alloc: Global,
+    note: &mut Note,
+    code: u16,
+    place: &Place,
+) -> Result<Option<Span>, NoMemory> {
+    if let Some(shown) = cut_command(note, place)? {
+        return Ok(Some(shown));
+    }
+    if let Some(shown) = misspelt_command(alloc, note, place)? {
+        return Ok(Some(shown));
+    }
+    if code == 104 {
+        let end = fence_end(place.bytes, place.span);
+        let brackets = Brackets::open_before(alloc, place.bytes, end)?;
+        return open_placeholder(note, place, &brackets);
+    }
+    if code == 103 && string_at(place).contains(&b'}') {
+        return Ok(None);
+    }
+    open_placeholder(note, place, &place.brackets)
+}
+
+/// The sentence on a code that depends on its text alone.
+fn plain(note: &mut Note, code: u16, words: &str, span: Span) -> Result<(), NoMemory> {
     match code {
         102 => stray(note, words),
         106 => note.push_all(&[
@@ -83,8 +218,32 @@ pub fn text_sentence(note: &mut Note, code: u16, bytes: &[u8], span: Span) -> Re
             "` is too large: expected at most 9223372036854775807",
         ]),
         107 => too_long(note, words, span),
-        110 => unexpected(note, words, text_behind(bytes, span).is_empty()),
+        112 => note.push_all(&[fixed(code), other_version(words)]),
         120..=123 => left_out(note, words, code),
         _ => note.push(fixed(code)),
     }
+}
+
+/// Appends the sentence on a code of 101 to 123, and answers the span that it is about: the one of
+/// the fault, or the one of its cause.
+pub fn text_sentence(
+    alloc: Global,
+    note: &mut Note,
+    code: u16,
+    bytes: &[u8],
+    span: Span,
+) -> Result<Span, NoMemory> {
+    let words = words_at(bytes, span);
+    if code == 110 {
+        let place = Place::new(alloc, bytes, span, words)?;
+        return unexpected(alloc, note, &place);
+    }
+    if matches!(code, 102 | 103 | 104 | 105) {
+        let place = Place::new(alloc, bytes, span, words)?;
+        if let Some(shown) = earlier_cause(alloc, note, code, &place)? {
+            return Ok(shown);
+        }
+    }
+    plain(note, code, words, span)?;
+    Ok(span)
 }

@@ -2,6 +2,8 @@
 
 use crate::function::usage_of;
 use crate::listed::list;
+use crate::operand_sentence::operands_differ;
+use crate::value_type::push_type_of;
 use fault_places::{Declared, Entry, Note, Scene, text_behind, type_text};
 use std::alloc::Global;
 use wdl_ast::{Argument, Call, Declaration, Ident, InputDeclaration, TypeTree};
@@ -110,22 +112,65 @@ fn push_wanted(note: &mut Note, wanted: Wanted) -> Result<(), NoMemory> {
     note.push("`, ")
 }
 
+/// What stands at a fault, with its type where that is known.
+fn found_of_type(note: &mut Note, scene: &Scene, ty: &str) -> Result<(), NoMemory> {
+    note.push("found ")?;
+    scene.quote(note)?;
+    if ty.is_empty() {
+        return Ok(());
+    }
+    note.push_all(&[" of type `", ty, "`"])
+}
+
+/// Whether a type is made of Strings alone, so that no part of it becomes an Int.
+fn is_of_strings(ty: &str) -> bool {
+    matches!(
+        ty,
+        "String" | "Array[String]" | "Array[Array[String]]" | "Map[String, String]"
+    )
+}
+
+/// Appends what helps where Strings that are read stand for numbers.
+fn no_numbers(
+    alloc: Global,
+    note: &mut Note,
+    wanted: Option<Wanted>,
+    found: &str,
+) -> Result<(), NoMemory> {
+    let Some(wanted) = wanted else {
+        return Ok(());
+    };
+    let mut ty = Note::new(alloc);
+    type_text(&mut ty, wanted.ty)?;
+    if is_of_strings(found) && ty.as_str().contains("Int") {
+        note.push("; no String is converted to Int: a command can write each number to a file ")?;
+        note.push("of its own, for `read_int`")?;
+    }
+    Ok(())
+}
+
 /// 303.
-pub fn no_coercion(note: &mut Note, scene: &Scene) -> Result<(), NoMemory> {
-    match wanted_at(scene) {
+pub fn no_coercion(alloc: Global, note: &mut Note, scene: &Scene) -> Result<(), NoMemory> {
+    let wanted = wanted_at(scene);
+    match wanted {
         Some(wanted) => push_wanted(note, wanted)?,
         None => note.push("this value has not the type that is wanted here: ")?,
     }
-    found(note, scene)
+    let mut ty = Note::new(alloc);
+    push_type_of(&mut ty, scene, scene.text())?;
+    found_of_type(note, scene, ty.as_str())?;
+    if scene.words.starts_with("read_") {
+        return no_numbers(alloc, note, wanted, ty.as_str());
+    }
+    Ok(())
 }
 
 /// 304.
-pub fn bad_operands(note: &mut Note, scene: &Scene) -> Result<(), NoMemory> {
+pub fn bad_operands(alloc: Global, note: &mut Note, scene: &Scene) -> Result<(), NoMemory> {
     if scene.before.ends_with("if") {
         return expected(note, scene, "a Boolean behind `if`");
     }
-    scene.quote(note)?;
-    note.push(": the operator does not take values of these types")
+    operands_differ(alloc, note, scene)
 }
 
 /// 305.

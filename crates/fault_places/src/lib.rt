@@ -4,6 +4,7 @@
 //! The crate also has the [`Note`] into which all this is written.
 #![tactic(auto)]
 
+mod brackets;
 mod callable;
 mod entry;
 mod heading;
@@ -15,13 +16,14 @@ mod scene;
 mod source_line;
 mod written_type;
 
+pub use brackets::{Bracket, Brackets, Opening};
 pub use callable::{Part, imported, part_named, push_parts};
 pub use entry::Entry;
 pub use heading::head;
 pub use laws::columns_count_characters;
 pub use note::Note;
-pub use position::{Position, position_of};
-pub use quoted::{text_behind, words_at};
+pub use position::{Position, bytes_before, position_of};
+pub use quoted::{before_word, last_word, text_behind, words_at};
 pub use scene::{Declared, Scene};
 pub use source_line::excerpt;
 pub use written_type::type_text;

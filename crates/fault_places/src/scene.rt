@@ -3,10 +3,10 @@
 use crate::callable::{Part, callee, part_at};
 use crate::entry::{Entry, push_part};
 use crate::note::Note;
-use crate::quoted::{text_before, words_at};
+use crate::quoted::{text_at, text_before, words_at};
 use crate::written_type::type_text;
 use std::alloc::Global;
-use wdl_ast::{Call, TypeTree};
+use wdl_ast::{Call, Section, StructSection, TypeTree};
 use wdl_library::{Doc, Library};
 use wdl_value::{NoMemory, Span, StructDef};
 
@@ -31,6 +31,35 @@ pub struct Scene<'a> {
 pub struct Declared<'a> {
     tree: &'a TypeTree,
     at: u32,
+}
+
+impl<'a> Declared<'a> {
+    /// The type that stands there.
+    pub fn tree(self) -> &'a TypeTree {
+        self.tree
+    }
+}
+
+/// The type of a member in a section of structs with that name.
+fn member_in<'a>(doc: &'a Doc, name: &str, member: &str) -> Option<&'a TypeTree> {
+    for section in doc.document.sections.as_slice() {
+        if let Section::Struct(declared) = section {
+            if declared.name.name.is(name) {
+                return member_of(declared, member);
+            }
+        }
+    }
+    None
+}
+
+/// The type of a member of a struct.
+fn member_of<'a>(declared: &'a StructSection, member: &str) -> Option<&'a TypeTree> {
+    for each in declared.members.as_slice() {
+        if each.name.name.is(member) {
+            return Some(&each.ty);
+        }
+    }
+    None
 }
 
 /// Appends what follows a type outside the block in which its name is declared.
@@ -85,6 +114,21 @@ impl<'a> Scene<'a> {
         note.push_all(&["`", shown])?;
         note.push(more)?;
         note.push("`")
+    }
+
+    /// The whole text at the fault; empty where it is not UTF-8.
+    pub fn text(&self) -> &'a str {
+        text_at(self.bytes, self.span)
+    }
+
+    /// The type of a member of the struct of that name, as the library declares it.
+    pub fn member_type(&self, name: &str, member: &str) -> Option<&'a TypeTree> {
+        for doc in self.library.docs.as_slice() {
+            if let Some(tree) = member_in(doc, name, member) {
+                return Some(tree);
+            }
+        }
+        None
     }
 
     /// The first input, declaration, call, item or output of that name.

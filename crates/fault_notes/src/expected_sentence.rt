@@ -1,0 +1,116 @@
+//! What was expected at a place, where the word or the bracket before it says so.
+
+use crate::later::calls;
+use crate::open_sentence::{begins_section, begins_type};
+use crate::place::Place;
+use fault_places::{Bracket, before_word, bytes_before, last_word};
+use wdl_value::{is_identifier, is_reserved};
+
+/// The code before the innermost brace; nothing where that is another bracket.
+pub fn before_brace<'a>(place: &Place<'a>) -> &'a [u8] {
+    match place.brackets.last() {
+        Some(opening) if opening.bracket == Bracket::Brace => {
+            bytes_before(place.bytes, opening.at)
+        }
+        _ => &[],
+    }
+}
+
+/// Whether a text can be a name.
+fn is_name(words: &str) -> bool {
+    is_identifier(words.as_bytes()) && !is_reserved(words)
+}
+
+/// What a reserved word asks for behind it.
+fn behind_word(place: &Place) -> &'static str {
+    match place.front {
+        "scatter" | "if" if place.words != "(" && place.front_begins() => {
+            ": expected `(` before it"
+        }
+        "import" => ": expected the path of a document, in quotes",
+        "input" if calls(before_brace(place)) => ": expected `:` before it",
+        "call" | "task" | "workflow" | "struct" | "as" | "alias" if !is_name(place.words) => {
+            ": expected a name before it"
+        }
+        _ => "",
+    }
+}
+
+/// What a section or a call takes in place of a mark.
+fn other_mark(place: &Place) -> &'static str {
+    let head = before_brace(place);
+    let section = last_word(head);
+    match place.words {
+        "=" if matches!(section, "runtime" | "meta" | "parameter_meta") => ": expected `:`",
+        "," if matches!(section, "input" | "output") => {
+            ": declarations stand without commas between them"
+        }
+        ":" if calls(head) => ": expected `=`",
+        _ => "",
+    }
+}
+
+/// What the body of a task lacks or does not hold.
+fn in_task(place: &Place, body: &str) -> &'static str {
+    match place.words {
+        "call" | "scatter" => ": it stands in a workflow, and this is a task",
+        "input" | "output" | "command" | "runtime" | "meta" | "parameter_meta" => {
+            ": this task has such a section already"
+        }
+        "}" if !body.contains("command") => ": expected a `command` section before it",
+        _ => "",
+    }
+}
+
+/// What the body of a workflow does not hold.
+fn in_workflow(place: &Place) -> &'static str {
+    match place.words {
+        "command" | "runtime" => ": it stands in a task, and this is a workflow",
+        "input" | "output" | "meta" | "parameter_meta" => {
+            ": this workflow has such a section already"
+        }
+        _ => "",
+    }
+}
+
+/// What the body of a task, a workflow or a struct does not hold.
+fn other_body(place: &Place) -> &'static str {
+    let head = before_brace(place);
+    let body = place.before.strip_prefix(head).unwrap_or(&[]);
+    match last_word(before_word(head)) {
+        "task" => in_task(place, str::from_utf8(body).unwrap_or("")),
+        "workflow" => in_workflow(place),
+        "struct" if place.words == "=" => ": a member of a struct has no value",
+        _ => "",
+    }
+}
+
+/// Whether code asks for a value behind it.
+fn asks_for_value(code: &[u8]) -> bool {
+    matches!(
+        code.last(),
+        Some(b'=' | b',' | b':' | b'+' | b'-' | b'*' | b'/' | b'%' | b'&' | b'|' | b'!')
+    )
+}
+
+/// Whether a value cannot begin with a text.
+fn ends_value(words: &str) -> bool {
+    matches!(words, "}" | "]" | ")") || begins_section(words) || begins_type(words)
+}
+
+/// What is said behind `is not expected here`; empty where several things were expected.
+pub fn expectation(place: &Place) -> &'static str {
+    if asks_for_value(place.before) && ends_value(place.words) {
+        return ": expected a value before it";
+    }
+    for said in [behind_word(place), other_mark(place), other_body(place)] {
+        if !said.is_empty() {
+            return said;
+        }
+    }
+    let declares = is_name(place.front) && place.front_begins();
+    if declares && begins_type(place.words) && place.is_in(Bracket::Brace) {
+        return ": a type stands before its name";
+    }
+    ""
+}
