@@ -2,7 +2,7 @@ use wdl_flow::Terms;
 use wdl_value::Request;
 
 /// A request of a flow, with the terms of its job.
-#[derive(Debug, Drop)]
+#[derive(Drop)]
 pub struct AskedJob {
     pub request: Request,
     pub terms: Terms,
