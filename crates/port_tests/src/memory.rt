@@ -103,7 +103,7 @@ fn shelf(alloc: Global, fails: Items<u64>) -> Result<MemoryShelf, Want> {
 /// Whether a shelf whose second call fails reads the first of two files with one path.
 fn reads_the_first(alloc: Global, shelf: &mut MemoryShelf) -> bool {
     let is_first = match shelf.read(alloc, "a") {
-        Ok(bytes) => bytes.as_slice() == b"first",
+        Ok(bytes) => bytes.as_slice() == b"first".as_slice(),
         Err(_) => false,
     };
     let is_refused = matches!(&shelf.read(alloc, "a"), Err(ReadFault::Failed));
@@ -131,7 +131,7 @@ fn takes_what_fits(sink: &mut MemorySink) -> bool {
         && takes(sink, b"defg", Some(2))
         && takes(sink, b"f", None)
         && takes(sink, b"", Some(0))
-        && sink.bytes.as_slice() == b"abcde"
+        && sink.bytes.as_slice() == b"abcde".as_slice()
         && sink.faults == 2
 }
 
@@ -165,7 +165,7 @@ fn given(launcher: &TableLauncher, alloc: Global, name: &str, attempt: u32) -> R
 
 /// Whether a launcher gives these statuses for places and attempts.
 fn gives_the_first(launcher: &TableLauncher, alloc: Global) -> Result<bool, Want> {
-    let rows = [
+    let rows: [(&str, u32, u8); 5] = [
         ("b", 0, 1),
         ("a", 0, 2),
         ("c", 0, 100),
