@@ -265,7 +265,7 @@ version 1.1
 task step {
   input { Int i }
   command <<<
-    (sleep 0.4; echo late >>"$PWD/lines") &
+    (sleep 0.2; echo late >>"$PWD/lines") &
     mkdir closed && echo ~{i} >closed/file && chmod 500 closed
     echo ~{i} >>lines
     sleep 0.02
@@ -281,12 +281,12 @@ task all {
   output { String r = read_string(stdout()) }
 }
 workflow w {
-  scatter (i in range(6)) { call step { input: i = i } }
+  scatter (i in range(5)) { call step { input: i = i } }
   call all { input: r = step.r }
   output { String r = all.r }
 }
 END_OF_FILE
-undisturbed='0 {"w.r":"0\t0\n1\t1\n2\t2\n3\t3\n4\t4\n5\t5"}'
+undisturbed='0 {"w.r":"0\t0\n1\t1\n2\t2\n3\t3\n4\t4"}'
 wrong=0
 stuck=0
 starter=$default
@@ -300,8 +300,8 @@ while [ "$kills" -lt 40 ]; do
   [ $((kills % 5)) != 0 ] || rm -rf "$root"
   $starter "$program" run --workers "$workers" --root "$root" steps.wdl >/dev/null 2>&1 </dev/null &
   run=$!
-  # Up to half a second.
-  sleep "0.$(printf %03d $(($(od -An -N2 -tu2 /dev/urandom) % 500)))"
+  # Up to 0.6 seconds.
+  sleep "0.$(printf %03d $(($(od -An -N2 -tu2 /dev/urandom) % 600)))"
   if [ $((kills % 8)) -lt 4 ] && has setsid; then group=-; else group=; fi
   kill -s "${signal:-TERM}" -- "$group$run" 2>/dev/null
   wait "$run" 2>/dev/null

@@ -22,6 +22,8 @@ pub(crate) enum Step {
 pub(crate) enum Refusal {
     /// The shell is not named in UTF-8.
     NoShell,
+    /// There is no `sh` for the guard of the run.
+    NoGuard,
     /// What stands in the place of the directory was left by no job.
     NotOfJob,
     /// A folder between the root and the directory belongs to another user.
@@ -52,6 +54,9 @@ impl fmt::Display for Refusal {
     fn fmt<W: fmt::Write>(&self, f: &mut Formatter<W>) -> fmt::Result {
         match *self {
             Refusal::NoShell => f.write_str("the name in WDL_SHELL is not UTF-8"),
+            Refusal::NoGuard => f.write_str(
+                "`sh`, which ends the commands of a run that is ended, is not on the PATH",
+            ),
             Refusal::NotOfJob => f.write_str(
                 "the directory is there and no job left it; remove it, or name another root \
                  by --root",

@@ -5,7 +5,7 @@ use crate::trouble::Trouble;
 use run_guard::{Guard, RootLock, Taken, fresh_mark, jobs_in, start, take};
 use std::alloc::{AllocError, Global};
 use std::fs::{File, Files};
-use std::io::Write;
+use std::io::{ErrorKind, Write};
 use std::process::{OpenProcess, Processes};
 use std::random::RandomSource;
 use std::sync::Wait;
@@ -214,7 +214,10 @@ where
     let trash = folder_of(alloc, root, fresh.as_str())?;
     gather(rt, alloc, root, trash.as_str())?;
     let mark = mark_below(alloc, own, fresh)?;
-    let guard = start(rt, alloc, mark, trash.as_str())?;
+    let guard = match start(rt, alloc, mark, trash.as_str()) {
+        Err(e) if e.kind() == ErrorKind::NotFound => return Err(Trouble::Refused(Refusal::NoGuard)),
+        other => other?,
+    };
     Ok(Hold::Root(Root {
         _lock: lock,
         guard,
