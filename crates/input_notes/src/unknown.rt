@@ -8,10 +8,12 @@ use wdl_typed::{FlowDef, TInput};
 /// The input of a workflow that a member of an inputs file names.
 pub(crate) fn input_named<'a>(flow: &'a FlowDef, member: &str) -> Option<&'a TInput> {
     let name = member.strip_prefix(flow.name.as_str())?.strip_prefix('.')?;
-    flow.inputs
-        .as_slice()
-        .iter()
-        .find(|input| input.name.is(name))
+    for input in flow.inputs.as_slice() {
+        if input.name.is(name) {
+            return Some(input);
+        }
+    }
+    None
 }
 
 /// Appends an input as a member of an inputs file, in backquotes.
