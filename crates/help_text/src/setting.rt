@@ -41,6 +41,13 @@ pub(crate) fn command_named(name: &str) -> Option<Command> {
     }
 }
 
+/// Returns the names of the commands.
+pub(crate) fn command_names() -> &'static [&'static str] {
+    &[
+        "run", "check", "inputs", "cwl", "bundle", "load", "help", "version",
+    ]
+}
+
 /// Returns the command that other programs know by a name.
 pub(crate) fn command_elsewhere(name: &str) -> Option<&'static str> {
     match name {

@@ -55,13 +55,13 @@ fn push_other(note: &mut Note, command: Command, setting: Setting) -> Result<(),
 }
 
 fn push_beside(note: &mut Note, command: Command, name: &str) -> Result<(), NoMemory> {
-    match name {
-        "--version" | "-V" => note.push_all(&["`", name, "`: expected alone: `wdl --version`"]),
-        _ => {
-            let command = command_name(command);
-            note.push_all(&["`", name, "`: expected alone: `wdl ", command, " --help`"])
-        }
+    note.push_name(name)?;
+    note.push(": expected alone: `wdl ")?;
+    if name == "--version" || name == "-V" {
+        return note.push("--version`");
     }
+    note.push(command_name(command))?;
+    note.push(" --help`")
 }
 
 fn push_no_value(note: &mut Note, setting: Setting, found: Option<&str>) -> Result<(), NoMemory> {

@@ -1,7 +1,7 @@
 //! The note on a command line that is not valid.
 
 use crate::arguments::slip_in;
-use crate::setting::{COMMANDS, command_elsewhere, command_name, command_named};
+use crate::setting::{COMMANDS, command_elsewhere, command_name, command_named, command_names};
 use crate::slip_sentence::push_slip;
 use note_text::{Note, nearest_of};
 use std::alloc::Global;
@@ -18,16 +18,17 @@ fn push_unknown(alloc: Global, note: &mut Note, word: &str) -> Result<(), NoMemo
         note.push_given(word)?;
         return note.push("`");
     }
-    let names = [
-        "run", "check", "inputs", "cwl", "bundle", "load", "help", "version",
-    ];
     let near = match command_elsewhere(word) {
         Some(name) => Some(name),
-        None => nearest_of(alloc, word, names.as_slice())?,
+        None => nearest_of(alloc, word, command_names())?,
     };
     note.push(": unknown command")?;
     match near {
-        Some(name) => note.push_all(&["; did you mean `", name, "`?"]),
+        Some(name) => {
+            note.push("; did you mean `")?;
+            note.push(name)?;
+            note.push("`?")
+        }
         None => note.push_all(&[", expected one of ", COMMANDS]),
     }
 }

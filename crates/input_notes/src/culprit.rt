@@ -154,7 +154,12 @@ fn in_pair<'a>(
 
 /// Whether a struct declares a member.
 fn declares(declared: &[Member], name: &str) -> bool {
-    declared.iter().any(|member| member.name.is(name))
+    for member in declared {
+        if member.name.is(name) {
+            return true;
+        }
+    }
+    false
 }
 
 /// The name of the first member of the object that the struct does not declare.

@@ -15,7 +15,9 @@ use wdl_value::{Member, StructDef, Ty, bare_type};
 /// Appends `: expected TYPE, found `.
 fn push_expected(alloc: Global, note: &mut Note, expected: &Ty) -> Result<(), NoMemory> {
     let expected = type_text(alloc, expected)?;
-    note.push_all(&[": expected ", expected.as_str(), ", found "])
+    note.push(": expected ")?;
+    note.push(expected.as_str())?;
+    note.push(", found ")
 }
 
 /// How a value of the type is written, where that is not plain.
@@ -38,26 +40,29 @@ fn push_unknown(
     owner: &str,
     declared: &[Member],
 ) -> Result<(), NoMemory> {
-    note.push_all(&[": unknown member of ", owner])?;
+    note.push(": unknown member of ")?;
+    note.push(owner)?;
     let mut near = Nearest::new(name);
     for member in declared {
         near.compare(alloc, member.name.as_str())?;
     }
     match near.name() {
-        Some(near) => note.push_all(&["; did you mean `", near, "`?"]),
+        Some(near) => {
+            note.push("; did you mean ")?;
+            note.push_name(near)?;
+            note.push("?")
+        }
         None => push_members(note, declared),
     }
 }
 
 /// Appends the names of members.
 fn push_members(note: &mut Note, declared: &[Member]) -> Result<(), NoMemory> {
-    note.push(", expected ")?;
-    for (number, member) in declared.iter().enumerate() {
-        note.push_all(&[
-            if number == 0 { "`" } else { ", `" },
-            member.name.as_str(),
-            "`",
-        ])?;
+    let mut before = ", expected ";
+    for member in declared {
+        note.push(before)?;
+        note.push_name(member.name.as_str())?;
+        before = ", ";
     }
     Ok(())
 }
@@ -76,7 +81,9 @@ fn push_misfit(alloc: Global, note: &mut Note, misfit: Misfit<'_>) -> Result<(),
         }
         Misfit::Key { found, expected } => {
             let expected = type_text(alloc, expected)?;
-            note.push_all(&[": expected keys of type ", expected.as_str(), ", found "])?;
+            note.push(": expected keys of type ")?;
+            note.push(expected.as_str())?;
+            note.push(", found ")?;
             note.push_quoted(found)
         }
         Misfit::Unknown {
@@ -104,6 +111,8 @@ pub(crate) fn push_input(
             expected: &input.ty,
         },
     };
-    note.push_all(&["input `", path.as_str(), "`"])?;
+    note.push("input `")?;
+    note.push(path.as_str())?;
+    note.push("`")?;
     push_misfit(alloc, note, misfit)
 }

@@ -23,10 +23,8 @@ fn push_no_object(alloc: Global, note: &mut Note, text: &[u8]) -> Result<(), NoM
         return note.push("the inputs file is no JSON object");
     };
     let found = shown(alloc, &json)?;
-    note.push_all(&[
-        "the inputs file: expected a JSON object, found ",
-        found.as_str(),
-    ])
+    note.push("the inputs file: expected a JSON object, found ")?;
+    note.push(found.as_str())
 }
 
 /// Appends a fault that no member has.

@@ -13,18 +13,26 @@ const MARK: &[u8] = b"\xef\xbb\xbf";
 /// The line of a byte of a text, from 1 on.
 pub(crate) fn line_of(text: &[u8], at: usize) -> usize {
     let before = text.get(..at).unwrap_or(text);
-    let ends = before.iter().filter(|byte| **byte == b'\n').count();
-    ends.saturating_add(1)
+    let mut line = 1usize;
+    for byte in before {
+        if *byte == b'\n' {
+            line = line.saturating_add(1);
+        }
+    }
+    line
 }
 
 /// The column of a byte of a text, from 1 on; at the end of the text that of its last byte.
 fn column_of(text: &[u8], at: usize) -> usize {
     let before = text.get(..at).unwrap_or(text);
-    let column = before
-        .iter()
-        .rev()
-        .take_while(|byte| **byte != b'\n')
-        .count();
+    let mut column = 0usize;
+    for byte in before {
+        column = if *byte == b'\n' {
+            0
+        } else {
+            column.saturating_add(1)
+        };
+    }
     if at < text.len() {
         column.saturating_add(1)
     } else {

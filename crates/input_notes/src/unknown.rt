@@ -8,15 +8,21 @@ use wdl_typed::{FlowDef, TInput};
 /// The input of a workflow that a member of an inputs file names.
 pub(crate) fn input_named<'a>(flow: &'a FlowDef, member: &str) -> Option<&'a TInput> {
     let name = member.strip_prefix(flow.name.as_str())?.strip_prefix('.')?;
-    flow.inputs
-        .as_slice()
-        .iter()
-        .find(|input| input.name.is(name))
+    for input in flow.inputs.as_slice() {
+        if input.name.is(name) {
+            return Some(input);
+        }
+    }
+    None
 }
 
 /// Appends an input as a member of an inputs file, in backquotes.
 fn push_input(note: &mut Note, flow: &FlowDef, input: &str) -> Result<(), NoMemory> {
-    note.push_all(&["`", flow.name.as_str(), ".", input, "`"])
+    note.push("`")?;
+    note.push(flow.name.as_str())?;
+    note.push(".")?;
+    note.push(input)?;
+    note.push("`")
 }
 
 /// Appends the members that an inputs file may have.
@@ -57,7 +63,9 @@ pub(crate) fn push_unknown(
     note.push("input ")?;
     note.push_name(member)?;
     if flow.inputs.as_slice().is_empty() {
-        return note.push_all(&[": the workflow `", flow.name.as_str(), "` has no inputs"]);
+        note.push(": the workflow ")?;
+        note.push_name(flow.name.as_str())?;
+        return note.push(" has no inputs");
     }
     note.push(": unknown")?;
     if let Some(name) = meant(alloc, flow, member)? {
