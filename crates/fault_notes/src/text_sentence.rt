@@ -218,7 +218,10 @@ fn plain(note: &mut Note, code: u16, words: &str, span: Span) -> Result<(), NoMe
             "` is too large: expected at most 9223372036854775807",
         ]),
         107 => too_long(note, words, span),
-        112 => note.push_all(&[fixed(code), other_version(words)]),
+        112 => {
+            note.push(fixed(code))?;
+            note.push(other_version(words))
+        }
         120..=123 => left_out(note, words, code),
         _ => note.push(fixed(code)),
     }
