@@ -98,19 +98,38 @@ fn ends_value(words: &str) -> bool {
     matches!(words, "}" | "]" | ")") || begins_section(words) || begins_type(words)
 }
 
-/// What is said behind `is not expected here`; empty where several things were expected.
-pub fn expectation(place: &Place) -> &'static str {
-    if asks_for_value(place.before) && ends_value(place.words) {
-        return ": expected a value before it";
+/// What the section or the body around a place has to do with it.
+fn around(place: &Place) -> &'static str {
+    let said = other_mark(place);
+    if said.is_empty() {
+        other_body(place)
+    } else {
+        said
     }
-    for said in [behind_word(place), other_mark(place), other_body(place)] {
-        if !said.is_empty() {
-            return said;
-        }
-    }
+}
+
+/// What is said of a type behind its name.
+fn late_type(place: &Place) -> &'static str {
     let declares = is_name(place.front) && place.front_begins();
     if declares && begins_type(place.words) && place.is_in(Bracket::Brace) {
         return ": a type stands before its name";
     }
     ""
+}
+
+/// What is said behind `is not expected here`; empty where several things were expected.
+pub fn expectation(place: &Place) -> &'static str {
+    if asks_for_value(place.before) && ends_value(place.words) {
+        return ": expected a value before it";
+    }
+    let said = behind_word(place);
+    if !said.is_empty() {
+        return said;
+    }
+    let said = around(place);
+    if said.is_empty() {
+        late_type(place)
+    } else {
+        said
+    }
 }

@@ -4,8 +4,10 @@ use crate::place::Place;
 use fault_places::{Bracket, Note, before_word, last_word};
 use wdl_value::{NoMemory, Span, is_identifier};
 
-/// What is said behind the name of what came with version 1.2.
-pub const OF_1_2: &str = " is of WDL 1.2, and this is 1.1";
+/// Appends the name of what came with version 1.2, and what to do without it.
+pub fn of_1_2(note: &mut Note, name: &str, instead: &str) -> Result<(), NoMemory> {
+    note.push_all(&["`", name, "` is of WDL 1.2, and this is 1.1", instead])
+}
 
 /// What takes the place of a section of version 1.2.
 fn own_section(word: &str) -> Option<&'static str> {
@@ -42,12 +44,8 @@ fn plain_call(note: &mut Note, place: &Place) -> Result<Option<Span>, NoMemory> 
     if !is_identifier(place.words.as_bytes()) || !calls(head) {
         return Ok(None);
     }
-    note.push_all(&[
-        "expected `input:` before `",
-        place.words,
-        "`: a call without it",
-        OF_1_2,
-    ])?;
+    note.push_all(&["expected `input:` before `", place.words, "`: "])?;
+    note.push("a call without it is of WDL 1.2, and this is 1.1")?;
     Ok(Some(place.span))
 }
 
@@ -73,13 +71,16 @@ pub fn later_version(note: &mut Note, place: &Place) -> Result<Option<Span>, NoM
         return Ok(Some(place.span));
     }
     if place.front == "env" && is_identifier(place.words.as_bytes()) {
-        note.push_all(&["`env`", OF_1_2])?;
-        note.push(": declare the value alone, and export it in the command")?;
+        of_1_2(
+            note,
+            "env",
+            ": declare the value alone, and export it in the command",
+        )?;
         return Ok(Some(place.front_span()));
     }
     if place.words == "{" {
         if let Some(instead) = own_section(place.front) {
-            note.push_all(&["`", place.front, "`", OF_1_2, instead])?;
+            of_1_2(note, place.front, instead)?;
             return Ok(Some(place.front_span()));
         }
     }

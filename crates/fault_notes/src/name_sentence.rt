@@ -1,6 +1,6 @@
 //! Sentences on names.
 
-use crate::later::{OF_1_2, is_later_function};
+use crate::later::{is_later_function, of_1_2};
 use crate::listed::{it_has, list};
 use crate::near::{TYPES, did_you_mean, foreign_type, near_function, nearest};
 use fault_places::{Entry, Note, Part, Scene, part_named, position_of};
@@ -76,7 +76,7 @@ fn near_entry(alloc: Global, note: &mut Note, scene: &Scene, name: &str) -> Resu
 pub fn unknown_function(alloc: Global, note: &mut Note, scene: &Scene) -> Result<(), NoMemory> {
     let name = scene.words;
     if is_later_function(name) {
-        return note.push_all(&["`", name, "`", OF_1_2]);
+        return of_1_2(note, name, "");
     }
     note.push_all(&["`", name, "` is no function that this language has"])?;
     near_function(alloc, note, name)
@@ -161,8 +161,11 @@ pub fn unknown_type(alloc: Global, note: &mut Note, scene: &Scene) -> Result<(),
         ]);
     }
     if name == "Directory" {
-        note.push_all(&["`", name, "`", OF_1_2])?;
-        return note.push(": use a File, such as a tar archive, or a String with its path");
+        return of_1_2(
+            note,
+            name,
+            ": use a File, such as a tar archive, or a String with its path",
+        );
     }
     if let Some(near) = near_type(alloc, scene, name)? {
         return note.push_all(&["`", name, "` is no type; did you mean `", near, "`?"]);

@@ -118,8 +118,8 @@ fn binary(
     push_type_of(&mut left, scene, operation.left)?;
     let mut right = Note::new(alloc);
     push_type_of(&mut right, scene, operation.right)?;
-    let taken = taken(operation.operator, left.as_str(), right.as_str());
-    note.push_all(&[": `", operation.operator, "` takes ", taken])?;
+    note.push_all(&[": `", operation.operator, "` takes "])?;
+    note.push(taken(operation.operator, left.as_str(), right.as_str()))?;
     operands(note, operation, left.as_str(), right.as_str())
 }
 

@@ -6,7 +6,7 @@ use crate::later::later_version;
 use crate::near::did_you_mean;
 use crate::open_sentence::{cut_command, no_value, open_bracket, open_placeholder};
 use crate::place::Place;
-use crate::unclosed::{fence_end, misspelt_command, string_at};
+use crate::unclosed::{fence_end, misspelt_command, rest_of_line, string_at};
 use fault_places::{Brackets, Note, text_behind, words_at};
 use std::alloc::Global;
 use wdl_value::{NoMemory, Span, is_reserved};
@@ -184,6 +184,17 @@ fn other_version(words: &str) -> &'static str {
     }
 }
 
+/// Whether a brace follows that would close a placeholder, so that this is not the mistake. The
+/// mark of another placeholder cannot stand in one.
+fn closes_placeholder(code: u16, place: &Place) -> bool {
+    match code {
+        102 if place.words == "~" || place.words == "$" => false,
+        102 => rest_of_line(place).contains(&b'}'),
+        103 => string_at(place).contains(&b'}'),
+        _ => true,
+    }
+}
+
 /// A lexical mistake whose cause stands before its place, and the span of that.
 fn earlier_cause(
     alloc: Global,
@@ -202,7 +213,7 @@ fn earlier_cause(
         let brackets = Brackets::open_before(alloc, place.bytes, end)?;
         return open_placeholder(note, place, &brackets);
     }
-    if code == 103 && string_at(place).contains(&b'}') {
+    if closes_placeholder(code, place) {
         return Ok(None);
     }
     open_placeholder(note, place, &place.brackets)
@@ -218,7 +229,10 @@ fn plain(note: &mut Note, code: u16, words: &str, span: Span) -> Result<(), NoMe
             "` is too large: expected at most 9223372036854775807",
         ]),
         107 => too_long(note, words, span),
-        112 => note.push_all(&[fixed(code), other_version(words)]),
+        112 => {
+            note.push(fixed(code))?;
+            note.push(other_version(words))
+        }
         120..=123 => left_out(note, words, code),
         _ => note.push(fixed(code)),
     }

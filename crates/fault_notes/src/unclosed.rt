@@ -11,6 +11,15 @@ fn bytes_behind(bytes: &[u8], span: Span) -> &[u8] {
     bytes.get(span.end as usize..).unwrap_or(&[])
 }
 
+/// What stands behind a place in its line.
+pub fn rest_of_line<'a>(place: &Place<'a>) -> &'a [u8] {
+    let behind = bytes_behind(place.bytes, place.span);
+    match behind.iter().position(|byte| *byte == b'\n') {
+        Some(newline) => &behind[..newline],
+        None => behind,
+    }
+}
+
 /// What stands between the quote of a string that is not closed and the end of its line: the fault
 /// is at that end, or at the quote where the document ends.
 pub fn string_at<'a>(place: &Place<'a>) -> &'a [u8] {
