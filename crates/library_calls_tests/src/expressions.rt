@@ -331,63 +331,31 @@ fn unlimited(
     Ok("")
 }
 
-/// The first row of the tables whose answer is another than it says; empty where there is none.
-fn first_misread(alloc: Global, tables: &[(&'static str, Table)]) -> Result<&'static str, Fail> {
-    for rows in tables {
-        let row = misread(alloc, rows.0, rows.1)?;
-        if row != "" {
-            return Ok(row);
-        }
-    }
-    Ok("")
-}
-
 #[test]
 fn the_longest_expression_or_type_is_read(rt: HostRuntime) -> Result<(), Fail> {
-    let tables = [
-        (EXPRESSIONS, Table::Expressions),
-        (CHOICES, Table::Expressions),
-        (TYPES, Table::Types),
-        (SHAPES, Table::Shapes),
-    ];
-    assert_eq!(rt; first_misread(rt.alloc(), &tables)?, "");
+    let alloc = rt.alloc();
+    assert_eq!(rt; misread(alloc, EXPRESSIONS, Table::Expressions)?, "");
+    assert_eq!(rt; misread(alloc, CHOICES, Table::Expressions)?, "");
+    assert_eq!(rt; misread(alloc, TYPES, Table::Types)?, "");
+    assert_eq!(rt; misread(alloc, SHAPES, Table::Shapes)?, "");
     Ok(())
 }
 
 #[test]
 fn the_first_token_that_fits_nothing_is_named(rt: HostRuntime) -> Result<(), Fail> {
-    let tables = [
-        (MISFITS, Table::Expressions),
-        (STRING_MISFITS, Table::Expressions),
-        (TYPE_MISFITS, Table::Types),
-    ];
-    assert_eq!(rt; first_misread(rt.alloc(), &tables)?, "");
+    let alloc = rt.alloc();
+    assert_eq!(rt; misread(alloc, MISFITS, Table::Expressions)?, "");
+    assert_eq!(rt; misread(alloc, STRING_MISFITS, Table::Expressions)?, "");
+    assert_eq!(rt; misread(alloc, TYPE_MISFITS, Table::Types)?, "");
     Ok(())
-}
-
-/// The first row of the tables that does not keep the limit of its table; empty where there is
-/// none.
-fn first_unlimited(
-    alloc: Global,
-    tables: &[(&'static str, usize, Table)],
-) -> Result<&'static str, Fail> {
-    for rows in tables {
-        let row = unlimited(alloc, rows.0, rows.1, rows.2)?;
-        if row != "" {
-            return Ok(row);
-        }
-    }
-    Ok("")
 }
 
 #[test]
 fn a_depth_past_its_limit_is_refused(rt: HostRuntime) -> Result<(), Fail> {
-    let tables = [
-        (NESTS, 63, Table::Expressions),
-        (DOUBLE_NESTS, 31, Table::Expressions),
-        (TYPE_NESTS, 7, Table::Types),
-    ];
-    assert_eq!(rt; first_unlimited(rt.alloc(), &tables)?, "");
+    let alloc = rt.alloc();
+    assert_eq!(rt; unlimited(alloc, NESTS, 63, Table::Expressions)?, "");
+    assert_eq!(rt; unlimited(alloc, DOUBLE_NESTS, 31, Table::Expressions)?, "");
+    assert_eq!(rt; unlimited(alloc, TYPE_NESTS, 7, Table::Types)?, "");
     Ok(())
 }
 

@@ -2,7 +2,7 @@ use crate::documents::{document, statements};
 use sqlite_items::{Boxed, Items};
 use std::alloc::Global;
 use std::test::Fail;
-use wdl_ast::{Declaration, Expr, Statement};
+use wdl_ast::{Declaration, Statement};
 use wdl_check_expr::{CheckFault, Scope, check_as};
 use wdl_check_rules::Local;
 use wdl_check_types::written_type;
@@ -43,15 +43,6 @@ fn shown(alloc: Global, expr: TExpr) -> Result<String, Fail> {
     Ok(String::from_str(alloc, word)?)
 }
 
-/// What an expression becomes at a type.
-fn cast(alloc: Global, scope: &Scope, text: &str, value: &Expr, ty: &Ty) -> Result<String, Fail> {
-    match check_as(alloc, scope, value, ty) {
-        Ok(expr) => shown(alloc, expr),
-        Err(CheckFault::Bad { code, span }) => refusal(alloc, text, code, span),
-        Err(CheckFault::NoMemory) => Ok(String::from_str(alloc, "no memory")?),
-    }
-}
-
 /// What the value of a declaration becomes at its type, and the name that it declares.
 fn checked(
     alloc: Global,
@@ -59,11 +50,14 @@ fn checked(
     text: &str,
     declaration: &Declaration,
 ) -> Result<(String, Bound), Fail> {
-    let first = declaration.name.name.copy(alloc)?;
     let ty = written_type(alloc, &declaration.ty, scope.locals).map_err(|_| "no type")?;
-    let answer = cast(alloc, scope, text, &declaration.value, &ty)?;
+    let answer = match check_as(alloc, scope, &declaration.value, &ty) {
+        Ok(expr) => shown(alloc, expr)?,
+        Err(CheckFault::Bad { code, span }) => refusal(alloc, text, code, span)?,
+        Err(CheckFault::NoMemory) => String::from_str(alloc, "no memory")?,
+    };
     let key = Key {
-        first,
+        first: declaration.name.name.copy(alloc)?,
         second: None,
     };
     Ok((answer, Bound { key, ty }))

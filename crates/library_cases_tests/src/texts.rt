@@ -1,7 +1,7 @@
 use command_text::dedent;
 use std::alloc::Global;
 use std::test::Fail;
-use wdl_ast::{Document, Fence, Kind, Mark, Quote, Token, tokens_of};
+use wdl_ast::{Fence, Kind, Mark, Quote, Token, tokens_of};
 use wdl_parse_doc::{ParseFault, parse};
 use wdl_value::{Items, Part, Span, Template, Text};
 use wdl_words::{WordFault, read_words};
@@ -46,17 +46,14 @@ fn line(alloc: Global, template: &Template) -> Result<String, Fail> {
     Ok(line)
 }
 
-fn dedented(alloc: Global, given: &str) -> Result<String, Fail> {
-    let found = dedent(alloc, &template(alloc, given)?)?;
-    line(alloc, &found)
-}
-
 #[test]
 fn dedent_joins_neighbouring_parts(rt: HostRuntime) -> Result<(), Fail> {
     let alloc = rt.alloc();
     let rows = [("\n  a\r|\n  b", "a\nb"), ("  a| b|~0||c", "a b|~0|c")];
     for (given, wanted) in rows {
-        assert_eq!(rt; dedented(alloc, given)?.as_str(), wanted);
+        let found = dedent(alloc, &template(alloc, given)?)?;
+        let found = line(alloc, &found)?;
+        assert_eq!(rt; found.as_str(), wanted);
     }
     Ok(())
 }
@@ -109,30 +106,21 @@ fn tokens(alloc: Global, row: &str) -> Result<Items<Token>, Fail> {
     Ok(tokens)
 }
 
-fn shown_tokens(alloc: Global, document: &Document, wanted: usize) -> Result<String, Fail> {
-    let found = tokens_of(alloc, document)?.len();
-    let answer = if found == wanted {
-        "ok"
-    } else {
-        "other tokens"
-    };
-    Ok(String::from_str(alloc, answer)?)
-}
-
-fn shown_fault(alloc: Global, fault: ParseFault) -> Result<String, Fail> {
-    match fault {
-        ParseFault::Bad { code, span } => Ok(format!(in alloc; "{code} at {}", span.start)?),
-        ParseFault::NoMemory => Ok(String::from_str(alloc, "no memory")?),
-    }
-}
-
 /// Whether the document has as many tokens as the row, or its error: the code, and the number of
 /// the token.
 fn reading(alloc: Global, row: &str) -> Result<String, Fail> {
     let tokens = tokens(alloc, row)?;
     match parse(alloc, tokens.as_slice()) {
-        Ok(document) => shown_tokens(alloc, &document, tokens.len()),
-        Err(fault) => shown_fault(alloc, fault),
+        Ok(document) => {
+            let words = tokens_of(alloc, &document)?;
+            if words.len() == tokens.len() {
+                Ok(format!(in alloc; "ok")?)
+            } else {
+                Ok(format!(in alloc; "other tokens")?)
+            }
+        }
+        Err(ParseFault::Bad { code, span }) => Ok(format!(in alloc; "{code} at {}", span.start)?),
+        Err(ParseFault::NoMemory) => Ok(format!(in alloc; "no memory")?),
     }
 }
 

@@ -100,46 +100,29 @@ fn shelf(alloc: Global, fails: Items<u64>) -> Result<MemoryShelf, Want> {
     Ok(MemoryShelf::new(files, fails))
 }
 
-/// Whether a shelf whose second call fails reads the first of two files with one path.
-fn reads_the_first(alloc: Global, shelf: &mut MemoryShelf) -> bool {
-    let is_first = match shelf.read(alloc, "a") {
-        Ok(bytes) => bytes.as_slice() == b"first".as_slice(),
-        Err(_) => false,
-    };
-    let is_refused = matches!(&shelf.read(alloc, "a"), Err(ReadFault::Failed));
-    let is_missing = matches!(&shelf.read(alloc, "b"), Err(ReadFault::Failed));
-    is_first && is_refused && is_missing && shelf.faults == 2
-}
-
 #[test]
 fn a_shelf_reads_the_first_file_and_fails_at_its_calls(rt: HostRuntime) -> Result<(), Fail> {
     let alloc = rt.alloc();
     let mut shelf = shelf(alloc, calls(alloc, 2)?)?;
-    assert!(rt; reads_the_first(alloc, &mut shelf));
+    let bytes = shelf.read(alloc, "a")?;
+    assert_eq!(rt; bytes.as_slice(), b"first".as_slice());
+    assert!(rt; matches!(&shelf.read(alloc, "a"), Err(ReadFault::Failed)));
+    assert!(rt; matches!(&shelf.read(alloc, "b"), Err(ReadFault::Failed)));
+    assert_eq!(rt; shelf.faults, 2);
     Ok(())
-}
-
-/// Whether a sink takes so many of these bytes, or refuses them.
-fn takes(sink: &mut MemorySink, bytes: &[u8], wanted: Option<usize>) -> bool {
-    sink.write(bytes).ok() == wanted
-}
-
-/// Whether a sink of five bytes whose second call fails takes what fits.
-fn takes_what_fits(sink: &mut MemorySink) -> bool {
-    takes(sink, b"abc", Some(3))
-        && takes(sink, b"d", None)
-        && takes(sink, b"defg", Some(2))
-        && takes(sink, b"f", None)
-        && takes(sink, b"", Some(0))
-        && sink.bytes.as_slice() == b"abcde".as_slice()
-        && sink.faults == 2
 }
 
 #[test]
 fn a_sink_takes_what_fits(rt: HostRuntime) -> Result<(), Fail> {
     let alloc = rt.alloc();
     let mut sink = MemorySink::new(alloc, 5, calls(alloc, 2)?)?;
-    assert!(rt; takes_what_fits(&mut sink));
+    assert_eq!(rt; sink.write(b"abc"), Ok(3));
+    assert!(rt; sink.write(b"d").is_err());
+    assert_eq!(rt; sink.write(b"defg"), Ok(2));
+    assert!(rt; sink.write(b"f").is_err());
+    assert_eq!(rt; sink.write(b""), Ok(0));
+    assert_eq!(rt; sink.bytes.as_slice(), b"abcde".as_slice());
+    assert_eq!(rt; sink.faults, 2);
     Ok(())
 }
 
@@ -163,27 +146,15 @@ fn given(launcher: &TableLauncher, alloc: Global, name: &str, attempt: u32) -> R
     }
 }
 
-/// Whether a launcher gives these statuses for places and attempts.
-fn gives_the_first(launcher: &TableLauncher, alloc: Global) -> Result<bool, Want> {
-    let rows: [(&str, u32, u8); 5] = [
-        ("b", 0, 1),
-        ("a", 0, 2),
-        ("c", 0, 100),
-        ("b", 1, 100),
-        ("d", 0, 100),
-    ];
-    for (name, attempt, status) in rows {
-        if given(launcher, alloc, name, attempt)? != status {
-            return Ok(false);
-        }
-    }
-    Ok(true)
-}
-
 #[test]
 fn a_table_gives_the_first_row(rt: HostRuntime) -> Result<(), Fail> {
     let alloc = rt.alloc();
-    assert!(rt; gives_the_first(&table(alloc)?, alloc)?);
+    let table = table(alloc)?;
+    assert_eq!(rt; given(&table, alloc, "b", 0)?, 1);
+    assert_eq!(rt; given(&table, alloc, "a", 0)?, 2);
+    assert_eq!(rt; given(&table, alloc, "c", 0)?, 100);
+    assert_eq!(rt; given(&table, alloc, "b", 1)?, 100);
+    assert_eq!(rt; given(&table, alloc, "d", 0)?, 100);
     Ok(())
 }
 
@@ -233,34 +204,24 @@ fn kept(alloc: Global, keeper: &mut MapKeeper) -> Result<Vec<u8>, Want>
     }
 }
 
-/// Starts a keeper whose sixth call fails, and says whether it keeps four entries and refuses a
-/// fifth.
-fn keeps_four(alloc: Global, keeper: &mut MapKeeper) -> Result<bool, Want>
-    requires { keeper.old.path ≡ None }
-{
-    start(alloc, keeper)?;
-    let mut all = put(alloc, keeper, "b", 0, 1)?;
-    all &= put(alloc, keeper, "a", 1, 2)?;
-    all &= put(alloc, keeper, "a", 0, 3)?;
-    all &= put(alloc, keeper, "b", 0, 4)?;
-    let fifth = put(alloc, keeper, "b", 0, 5)?;
-    Ok(all && !fifth && keeper.faults == 1)
-}
-
-/// Starts a keeper, and says whether it gives these rows in their order.
-fn gives_rows(alloc: Global, keeper: &mut MapKeeper) -> Result<bool, Want>
-    requires { keeper.old.path ≡ None }
-{
-    start(alloc, keeper)?;
-    Ok(kept(alloc, keeper)?.as_slice() == [3u8, 2, 4].as_slice())
-}
-
 #[test]
 fn a_keeper_keeps_its_rows_in_order(rt: HostRuntime) -> Result<(), Fail> {
     let alloc = rt.alloc();
     let mut keeper = MapKeeper::new(alloc, calls(alloc, 6)?);
-    assert!(rt; keeps_four(alloc, &mut keeper)?);
-    assert!(rt; gives_rows(alloc, &mut keeper.again(Items::new(alloc)))?);
+    start(alloc, &mut keeper)?;
+    let mut all = put(alloc, &mut keeper, "b", 0, 1)?;
+    all &= put(alloc, &mut keeper, "a", 1, 2)?;
+    all &= put(alloc, &mut keeper, "a", 0, 3)?;
+    all &= put(alloc, &mut keeper, "b", 0, 4)?;
+    assert!(rt; all);
+    assert!(rt; !put(alloc, &mut keeper, "b", 0, 5)?);
+    assert_eq!(rt; keeper.faults, 1);
+    let mut keeper = keeper.again(Items::new(alloc));
+    start(alloc, &mut keeper)?;
+    assert_eq!(rt;
+        kept(alloc, &mut keeper)?.as_slice(),
+        [3u8, 2, 4].as_slice()
+    );
     Ok(())
 }
 

@@ -5,7 +5,7 @@ use std::alloc::Global;
 use std::test::Fail;
 use wdl_json::{InputFault, flow_inputs, outputs_text};
 use wdl_typed::{FlowDef, TInput};
-use wdl_value::{Boxed, Env, Items, Name, Span, Ty};
+use wdl_value::{Boxed, Items, Name, Span, Ty};
 
 fn named(alloc: Global, word: &str) -> Result<Ty, Fail> {
     match word {
@@ -70,29 +70,22 @@ fn flow(alloc: Global, text: &str) -> Result<FlowDef, Fail> {
     })
 }
 
-fn shown(alloc: Global, flow: &Name, env: Env) -> Result<String, Fail> {
-    let text = outputs_text(alloc, flow, env.as_slice())?;
-    Ok(String::from_str(alloc, text.as_str())?)
-}
-
-/// The code of a fault, and its name if it has one.
-fn shown_fault(alloc: Global, fault: InputFault) -> Result<String, Fail> {
-    match fault {
-        InputFault::Bad {
-            code,
-            name: Some(name),
-        } => Ok(format!(in alloc; "{} {}", code, name.as_str())?),
-        InputFault::Bad { code, name: None } => Ok(format!(in alloc; "{}", code)?),
-        InputFault::NoMemory => Ok(String::from_str(alloc, "no memory")?),
-    }
-}
-
 /// The inputs that a text gives as JSON, or the code and the name of the fault.
 fn answer(alloc: Global, inputs: &str, text: &str) -> Result<String, Fail> {
     let flow = flow(alloc, inputs)?;
     match flow_inputs(alloc, text.as_bytes(), &flow, &[]) {
-        Ok(env) => shown(alloc, &flow.name, env),
-        Err(fault) => shown_fault(alloc, fault),
+        Ok(env) => {
+            let text = outputs_text(alloc, &flow.name, env.as_slice())?;
+            Ok(String::from_str(alloc, text.as_str())?)
+        }
+        Err(
+            InputFault::Bad {
+                code,
+                name: Some(name),
+            },
+        ) => Ok(format!(in alloc; "{} {}", code, name.as_str())?),
+        Err(InputFault::Bad { code, name: None }) => Ok(format!(in alloc; "{}", code)?),
+        Err(InputFault::NoMemory) => Ok(String::from_str(alloc, "no memory")?),
     }
 }
 

@@ -25,19 +25,14 @@ fn map_of(alloc: Global, first: i64, second: i64) -> Result<Value, NoMemory> {
     Ok(Value::Map(rows))
 }
 
-/// The type `Map[Int, String?]`.
-fn map_type(alloc: Global) -> Result<Boxed<Ty>, NoMemory> {
-    let text = Boxed::new(alloc, Ty::Str)?;
-    let value = Boxed::new(alloc, Ty::Opt(text))?;
-    let key = Boxed::new(alloc, Ty::Int)?;
-    Ok(Boxed::new(alloc, Ty::Map { key, value })?)
-}
-
 /// Whether a map of these keys fits `Map[Int, String?]`.
 fn map_fits(alloc: Global, first: i64, second: i64) -> Result<bool, NoMemory> {
-    let ty = map_type(alloc)?;
-    let map = map_of(alloc, first, second)?;
-    Ok(fits(&map, ty.get(), &Items::new(alloc)))
+    let value = Ty::Opt(Boxed::new(alloc, Ty::Str)?);
+    let ty = Ty::Map {
+        key: Boxed::new(alloc, Ty::Int)?,
+        value: Boxed::new(alloc, value)?,
+    };
+    Ok(fits(&map_of(alloc, first, second)?, &ty, &Items::new(alloc)))
 }
 
 #[test]
@@ -124,17 +119,17 @@ fn long(alloc: Global) -> Result<Key, Fail> {
 }
 
 /// `long[1]`.
-fn item_of_long(alloc: Global) -> Result<Boxed<TExpr>, Fail> {
+fn item_of_long(alloc: Global) -> Result<TExpr, Fail> {
     let list = Boxed::new(alloc, TExpr::Get(long(alloc)?))?;
     let index = Boxed::new(alloc, TExpr::Lit(Value::Int(1)))?;
-    Ok(Boxed::new(alloc, TExpr::At(list, index))?)
+    Ok(TExpr::At(list, index))
 }
 
 /// `length(long)`.
-fn length_of_long(alloc: Global) -> Result<Boxed<TExpr>, Fail> {
+fn length_of_long(alloc: Global) -> Result<TExpr, Fail> {
     let mut args = Items::new(alloc);
     args.push(TExpr::Get(long(alloc)?))?;
-    Ok(Boxed::new(alloc, TExpr::Apply(Func::Length, args))?)
+    Ok(TExpr::Apply(Func::Length, args))
 }
 
 fn is_too_large<'s>(alloc: Global, expr: &TExpr, env: &'s [Bind], dir: &'s Text) -> bool {
@@ -151,7 +146,7 @@ fn is_too_large<'s>(alloc: Global, expr: &TExpr, env: &'s [Bind], dir: &'s Text)
 fn a_list_past_its_limit_is_not_read(rt: HostRuntime) -> Result<(), Fail> {
     let alloc = rt.alloc();
     let (env, dir) = ([long_list(alloc)?], Text::empty(alloc));
-    assert!(rt; is_too_large(alloc, item_of_long(alloc)?.get(), &env, &dir));
-    assert!(rt; is_too_large(alloc, length_of_long(alloc)?.get(), &env, &dir));
+    assert!(rt; is_too_large(alloc, &item_of_long(alloc)?, &env, &dir));
+    assert!(rt; is_too_large(alloc, &length_of_long(alloc)?, &env, &dir));
     Ok(())
 }

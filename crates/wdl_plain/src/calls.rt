@@ -23,7 +23,7 @@ use wdl_value::{Items, Name, NoMemory};
 
 /// Calls, and whether they have ended, found by a look-up in logarithmic time. Of two with one name
 /// the first counts.
-#[derive(Drop)]
+#[derive(Debug, Drop)]
 pub struct Calls {
     ends: Items<Ended>,
     marks: Places,

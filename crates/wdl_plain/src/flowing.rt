@@ -17,7 +17,7 @@ pub const COUNT_LIMIT: u64 = 1_000_000;
 
 /// What statements give: names, calls, jobs, faults, the places that wait for an answer, and how
 /// many instances of statements were entered.
-#[derive(Drop)]
+#[derive(Debug, Drop)]
 pub struct Flowing {
     pub names: Items<Known>,
     pub calls: Items<Ended>,

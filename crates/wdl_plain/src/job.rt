@@ -2,7 +2,7 @@ use wdl_flow::Terms;
 use wdl_value::Request;
 
 /// A request of a flow, with the terms of its job.
-#[derive(Drop)]
+#[derive(Debug, Drop)]
 pub struct AskedJob {
     pub request: Request,
     pub terms: Terms,

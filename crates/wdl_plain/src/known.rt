@@ -4,14 +4,14 @@ use std::alloc::Global;
 use wdl_value::{Key, Name, NoMemory, Value};
 
 /// A name with its value, or missing.
-#[derive(Drop)]
+#[derive(Debug, Drop)]
 pub struct Known {
     pub key: Key,
     pub value: Option<Value>,
 }
 
 /// A call, and whether it has ended.
-#[derive(Drop)]
+#[derive(Debug, Drop)]
 pub struct Ended {
     pub call: Name,
     pub ended: bool,

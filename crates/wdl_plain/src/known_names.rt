@@ -24,7 +24,7 @@ use wdl_value::{Items, Key, Name, NoMemory, Value};
 
 /// Names with their values, or missing, found by a look-up in logarithmic time. Of two with one key
 /// the first that has a value counts.
-#[derive(Drop)]
+#[derive(Debug, Drop)]
 pub struct KnownNames {
     knowns: Items<Known>,
     marks: Places,

@@ -10,7 +10,7 @@ use std::alloc::Global;
 use wdl_value::{Items, NoMemory, Place, Segment};
 
 /// What a statement sees: names, calls, and the place of its body's instance.
-#[derive(Drop)]
+#[derive(Debug, Drop)]
 pub struct Sight {
     pub names: KnownNames,
     pub calls: Calls,
@@ -18,7 +18,7 @@ pub struct Sight {
 }
 
 /// How many names and calls are seen, and how long the place is.
-#[derive(Clone, Copy)]
+#[derive(Clone, Copy, Debug)]
 pub struct SightMark {
     pub names: usize,
     pub calls: usize,

@@ -47,7 +47,7 @@ use wdl_value::{Env, Place, Segment, Steps, Value};
 
 /// How many blocks and calls may still stand in one another, and how deep workflows may still call
 /// workflows.
-#[derive(Clone, Copy)]
+#[derive(Clone, Copy, Debug)]
 pub struct Reach {
     pub levels: u32,
     pub calls: u32,
