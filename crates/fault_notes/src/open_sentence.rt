@@ -105,9 +105,11 @@ fn to_close(
     opening: Opening,
     more: &str,
 ) -> Result<Option<Span>, NoMemory> {
-    let closing = opening.bracket.closing();
     note.push_all(&["`", words, "` is not expected here: expected "])?;
-    note.push_all(&[more, "`", closing, "` to close "])?;
+    note.push(more)?;
+    note.push("`")?;
+    note.push(opening.bracket.closing())?;
+    note.push("` to close ")?;
     place.push_opening(note, opening)?;
     if opening.bracket == Bracket::Placeholder {
         return Ok(Some(place.span_of(opening)));

@@ -26,11 +26,13 @@ fn push_key(note: &mut Note, key: &Key) -> Result<(), NoMemory> {
 /// Appends expressions with commas between them.
 #[cycle(expression)]
 fn push_list(note: &mut Note, items: &[TExpr]) -> Result<(), NoMemory> {
-    let mut comma = "";
+    let mut is_first = true;
     for item in items {
-        note.push(comma)?;
+        if !is_first {
+            note.push(", ")?;
+        }
+        is_first = false;
         push_expr(note, item)?;
-        comma = ", ";
     }
     Ok(())
 }
