@@ -1,4 +1,7 @@
 #!/bin/sh
 # Runs the program. Status 126: there is none for this machine.
-program=$("$(dirname -- "$(readlink -f -- "$0")")/tools/program.sh") || exit 126
+own=$0
+[ ! -h "$own" ] || own=$(readlink -f -- "$own") || exit 126
+case $own in */*) ;; *) own=./$own ;; esac
+program=$("${own%/*}/tools/program.sh") || exit 126
 exec "$program" "$@"

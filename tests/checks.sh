@@ -2,9 +2,20 @@
 
 top=$(CDPATH= cd -- "$(dirname -- "$0")/.." && pwd) || exit 1
 work=$(mktemp -d) || exit 1
-trap 'rm -rf "$work"' EXIT
 passed=0
 failed=0
+skipped=0
+# What a user may have set is not tested.
+unset WDL_NOTES WDL_SHELL WDL_MOUNTS WDL_IMAGE WDL_IMAGE_SHELL WDL_NODE_SHELL WDL_SRUN_ARGS WDL_APPTAINER_ARGS WDL_DOCKER_ARGS
+
+# clean_up: what is done when the script ends. `also` is what goes beside `work`.
+also=
+clean_up() {
+  chmod -R u+w "$work"
+  rm -rf "$work" ${also:+"$also"}
+}
+trap clean_up EXIT
+trap 'exit 1' HUP INT TERM
 
 pass() { passed=$((passed + 1)); }
 
@@ -14,13 +25,25 @@ fail() {
   echo "FAILED $*"
 }
 
+# skip WHAT WHY: counts what cannot be checked on this machine, and says so.
+skip() {
+  skipped=$((skipped + 1))
+  echo "skipped: $1: $2"
+}
+
 # same NAME WANTED GOT
 same() {
   if [ "$2" = "$3" ]; then pass; else fail "$1: $3, wanted $2"; fi
 }
 
-# conclude: the last line, 'N passed, M failed'. It fails where a check failed.
+# has TOOL..: whether these programs are installed.
+has() {
+  for tool in "$@"; do command -v "$tool" >/dev/null 2>&1 || return; done
+}
+
+# conclude: the last line, 'N passed, M failed', and ', K skipped' where something was. It fails where a check failed.
 conclude() {
-  echo "$passed passed, $failed failed"
+  [ "$skipped" = 0 ] && rest= || rest=", $skipped skipped"
+  echo "$passed passed, $failed failed$rest"
   [ "$failed" = 0 ]
 }

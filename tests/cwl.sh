@@ -1,17 +1,21 @@
 #!/bin/sh
-# Translates the examples of examples/cwl with the built program, and documents that break each rule of the subset. Where cwltool is
-# installed, it validates each document and runs it with the object of `cwl --inputs`, and the files that it leaves are compared with those
-# of `wdl run`. Its last line is 'N passed, M failed'; it ends non-zero where a check failed.
+# Translates the examples of examples/cwl and tests/cwl with the built program, and documents that break each rule of the subset. Where cwltool
+# is installed, it validates each document and runs it with the object of `cwl --inputs`, and the contents of the files that it leaves are
+# compared with those of `wdl run`. Toil, where it is installed, runs one document. Its last line is 'N passed, M failed'; it ends non-zero where a check failed.
 #
 #   tests/cwl.sh PROGRAM
 . "$(dirname -- "$0")/checks.sh"
 program=${1:?the program, with its whole path}
 examples=$top/examples
 cd "$work" || exit 1
+# The runners leave folders of their own, which go with the script.
+mkdir temporary || exit 1
+TMPDIR=$work/temporary
+export TMPDIR
 
-# same_files RUN CWL: whether the files that both outputs name have the same contents, output by output.
-same_files() {
-  python3 - "$1" "$2" <<'END'
+# contents OUTPUTS: the contents of the files that these outputs name, as JSON; the names of the files are left out.
+contents() {
+  python3 - "$1" <<'END'
 import json, sys
 
 def contents(value):
@@ -19,38 +23,64 @@ def contents(value):
         return None
     if isinstance(value, list):
         return [contents(item) for item in value]
-    path = value["path"] if isinstance(value, dict) else value
+    path = value.get("path") or value["location"].removeprefix("file://") if isinstance(value, dict) else value
     with open(path, "rb") as file:
-        return file.read()
+        return file.read().decode("utf-8", "surrogateescape")
 
 with open(sys.argv[1]) as file:
-    run = {name.split(".", 1)[1]: contents(value) for name, value in json.load(file).items()}
-with open(sys.argv[2]) as file:
-    cwl = {name: contents(value) for name, value in json.load(file).items()}
-sys.exit(run != cwl)
+    print(json.dumps({name.split(".", 1)[-1]: contents(value) for name, value in json.load(file).items()}, sort_keys=True))
 END
 }
 
-# translated NAME [INPUTS]: the document NAME of examples/cwl with the inputs NAME.json or INPUTS.json, in both ways.
+# written DOCUMENT INPUTS: writes process.cwl and object.json, and runs the document with `wdl run`.
+written() {
+  "$program" cwl "$1" >process.cwl 2>err && "$program" cwl --inputs "$2" "$1" >object.json 2>>err || {
+    fail "$1 is not translated: $(cat err)"
+    return 1
+  }
+  rm -rf "$work/run"
+  "$program" run --inputs "$2" --root "$work/run" "$1" >run.json 2>err || {
+    fail "$1 does not run: $(cat err)"
+    return 1
+  }
+}
+
+# by_cwltool NAME WANTED: cwltool takes process.cwl as valid, and the files that it leaves have these contents.
+by_cwltool() {
+  [ "$cwltool" ] || return
+  cwltool --validate process.cwl >log 2>&1 && pass || fail "$1 is not valid CWL: $(tail -n 3 log)"
+  # Outputs stay where the jobs left them: cwltool 3.1.20230209 moves those of one name onto each other.
+  cwltool --quiet --relax-path-checks --leave-outputs --leave-tmpdir --tmpdir-prefix "$work/tmp-" --tmp-outdir-prefix "$work/out-" \
+    process.cwl object.json >cwl.json 2>log &&
+    same "$1 under cwltool" "$2" "$(contents cwl.json)" || fail "$1 fails under cwltool: $(tail -n 3 log)"
+}
+
+# by_toil NAME WANTED: the files that Toil leaves have these contents.
+by_toil() {
+  [ "$toil" ] || return
+  toil-cwl-runner --relax-path-checks --logOff --jobStore "$work/store" --workDir "$work" --outdir "$work/toil" \
+    process.cwl object.json >toil.json 2>log &&
+    same "$1 under Toil" "$2" "$(contents toil.json)" || fail "$1 fails under Toil: $(tail -n 3 log)"
+}
+
+# translated NAME [INPUTS]: the document NAME of examples/cwl with the inputs NAME.json or INPUTS.json, in both ways. Its process is the text
+# of tests/cwl/NAME.cwl.
 translated() {
-  document=$examples/cwl/$1.wdl
   inputs=${2:-$1}
   sed "s|@examples@|$examples|g" "$examples/cwl/$inputs.json" >inputs.json
-  "$program" cwl "$document" >process.cwl 2>err && "$program" cwl --inputs inputs.json "$document" >object.json 2>>err || {
-    fail "$inputs is not translated: $(cat err)"
-    return
-  }
-  "$program" run --inputs inputs.json --root "$work/run-$inputs" "$document" >run.json 2>err || {
-    fail "$inputs does not run: $(cat err)"
-    return
-  }
-  pass
-  [ "$cwltool" ] || return
-  cwltool --validate process.cwl >log 2>&1 && pass || fail "$inputs is not valid CWL: $(tail -n 3 log)"
-  # Outputs stay where the jobs left them: cwltool 3.1.20230209 moves those of one name onto each other.
-  cwltool --quiet --leave-outputs --leave-tmpdir --tmpdir-prefix "$work/tmp-" --tmp-outdir-prefix "$work/out-" process.cwl object.json >cwl.json 2>log &&
-    same_files run.json cwl.json && pass ||
-    fail "$inputs differs under cwltool: $(tail -n 3 log)"
+  written "$examples/cwl/$1.wdl" inputs.json || return
+  same "the process of $1" "$(cat "$top/tests/cwl/$1.cwl")" "$(cat process.cwl)"
+  [ "$python" ] && by_cwltool "$inputs" "$(contents run.json)"
+}
+
+# kept NAME: the document NAME of tests/cwl leaves files with the contents that NAME.out says.
+kept() {
+  sed "s|@files@|$work/files|g" "$top/tests/cwl/$1.json" >inputs.json
+  written "$top/tests/cwl/$1.wdl" inputs.json || return
+  [ "$python" ] || return
+  wanted=$(cat "$top/tests/cwl/$1.out")
+  same "$1 under wdl run" "$wanted" "$(contents run.json)"
+  by_cwltool "$1" "$wanted"
 }
 
 # breaks RULE AT TEXT: a document of this text is not in the subset, by this rule at these bytes.
@@ -60,10 +90,11 @@ breaks() {
   [ $? = 8 ] && [ ! -s out ] && [ "$(cat err)" = "not in the subset: $1 at w.wdl:$2" ] && pass || fail "rule $1: $(cat err)"
 }
 
-if command -v cwltool >/dev/null 2>&1 && command -v python3 >/dev/null 2>&1; then cwltool=yes; else
-  cwltool=
-  echo "cwltool is not installed: the documents are made, and not run by it"
-fi
+has python3 && python=yes || python=
+cwltool=
+toil=
+if [ "$python" ] && has cwltool; then cwltool=yes; else skip "cwltool on the documents" "it is not installed"; fi
+if [ "$python" ] && has toil-cwl-runner; then toil=yes; else skip "Toil on the documents" "it is not installed"; fi
 echo "examples"
 translated trim
 translated report
@@ -71,6 +102,15 @@ translated report report_plain
 translated search_all
 translated sample
 translated sample sample_off
+
+echo "names and outputs"
+mkdir files
+echo blank >"files/sp ace (1).txt"
+echo percent >"files/100%.txt"
+echo accent >"files/é;^.txt"
+kept outputs
+kept names
+by_toil names "$wanted"
 
 echo "rules"
 copy='task copy { input { File f } command <<< cat ~{f} > o >>> output { File o = "o" } }

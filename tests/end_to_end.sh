@@ -1,10 +1,10 @@
 #!/bin/sh
 # Runs the built program on real files with the real `sh`, and compares status, output and error line: the examples, the statuses, and the
-# documents of docs/CODES.md and docs/MOVING.md. Its last line is 'N passed, M failed'; it ends non-zero where a check failed.
+# documents of docs/CODES.md. Its last line is 'N passed, M failed'; it ends non-zero where a check failed.
 #
 #   tests/end_to_end.sh [PROGRAM]
 #
-# PROGRAM, with its whole path, stands in for the one that ./wdl runs.
+# PROGRAM, with its whole path, stands in for the one that ./wdl runs, and then ./wdl is not tried.
 . "$(dirname -- "$0")/checks.sh"
 program=${1:-$("$top/tools/program.sh")} || exit 1
 cd "$work" || exit 1
@@ -58,43 +58,8 @@ checks() {
   expect "$1" "$2" "$3" "$4" check w.wdl
 }
 
-echo "words"
-usage='usage: wdl run [--inputs FILE] [--workers N] [--root DIR] [--journal FILE] FILE | check FILE | inputs FILE | cwl [--inputs FILE] FILE | load N | bundle FILE\n'
-document bare.wdl 'workflow w { }'
-expect "no words" 2 '' "$usage"
-expect "another command" 2 '' "$usage" walk bare.wdl
-expect "no file" 2 '' "$usage" run
-expect "an empty file name" 2 '' "$usage" check ''
-expect "two files" 2 '' "$usage" run bare.wdl bare.wdl
-expect "an option that there is not" 2 '' "$usage" run --fast bare.wdl
-expect "an option of another command" 2 '' "$usage" check --root /tmp bare.wdl
-expect "an option twice" 2 '' "$usage" run --root /tmp --root /tmp bare.wdl
-expect "an option without its value" 2 '' "$usage" run bare.wdl --inputs
-expect "help behind other words" 2 '' "$usage" run bare.wdl --help
-expect "a file that is named help" 5 '' 'cannot read help\n' check help
-expect "the inputs of a workflow without any" 0 '{}\n' '' inputs bare.wdl
-expect "a root that is relative" 2 '' "$usage" run --root tmp bare.wdl
-long=$(awk 'BEGIN { while (length(s) < 511) s = s "a"; print s }')
-expect "a root of 512 bytes" 0 '{}\n' '' run --root "/$long" bare.wdl
-expect "a root of 513 bytes" 2 '' "$usage" run --root "/a$long" bare.wdl
-expect "a root of slashes alone" 2 '' "$usage" run --root // bare.wdl
-expect "no workers" 2 '' "$usage" run --workers 0 bare.wdl
-expect "65 workers" 2 '' "$usage" run --workers 65 bare.wdl
-expect "a word that is no text" 2 '' "$usage" check "$(printf '\377')"
-expect "one worker" 0 '{}\n' '' run --workers 1 bare.wdl
-expect "a file behind --" 0 'ok\n' '' check -- bare.wdl
-expect "64 workers" 0 '{}\n' '' run --workers 64 bare.wdl
-expect "a journal" 0 '{}\n' '' run --journal journal bare.wdl
-expect "a journal that is a directory" 10 '' 'journal fault\n' run --journal . bare.wdl
-expect "load 1" 0 'calls 1 jobs 1 last 2\n' '' load 1
-expect "load 5" 0 'calls 5 jobs 5 last 7\n' '' load 5
-expect "load 10000" 0 'calls 10000 jobs 10000 last 983\n' '' load 10000
-expect "load 0" 2 '' "$usage" load 0
-expect "load 10001" 2 '' "$usage" load 10001
-expect "bundle" 0 'version 1.1\nworkflow w {\n}\n' '' bundle bare.wdl
-expect "bundle without a file" 2 '' "$usage" bundle
-
 echo "files"
+document bare.wdl 'workflow w { }'
 expect "a file that is not there" 5 '' 'cannot read missing.wdl\n' run missing.wdl
 expect "a directory as the file" 5 '' 'cannot read .\n' check .
 expect "an inputs file that is not there" 5 '' 'cannot read missing.json\n' run --inputs missing.json bare.wdl
@@ -120,21 +85,18 @@ if [ -w /dev/full ]; then
   [ $? = 6 ] && [ "$(cat err)" = "cannot write" ] && pass || fail "a full device"
   "$program" check missing.wdl >out 2>/dev/full
   [ $? = 6 ] && [ ! -s out ] && pass || fail "a full device for the line"
+else
+  skip "a full device" "/dev/full is not there"
 fi
 awk 'BEGIN { print "version 1.1\nworkflow w {"; for (i = 0; i < 20000; i++) print "Int a" i " = 1"; print "}" }' >large.wdl
 expect "a large document" 0 'ok\n' '' check large.wdl
 (ulimit -v 16000 && exec "$program" check large.wdl) >out 2>err
 [ $? = 7 ] && [ ! -s out ] && [ "$(cat err)" = "no memory" ] && pass || fail "little memory: $(cat err)"
+awk 'BEGIN { print "version 1.1\nworkflow w {"; for (i = 20000; i; i--) print "Int a" i " = a" (i - 1); print "Int a0 = 7 output { Int o = a20000 } }" }' >chain.wdl
+expect "a chain of 20,000 declarations, the last one first" 0 '{"w.o":7}\n' '' run --root "$root" chain.wdl
 
 echo "documents"
-checks "a number too large" 3 '' 'w.wdl:33..52: 106 NumberTooLarge\n' 'workflow w { Int x = 9223372036854775808 }'
-checks "a float" 3 '' 'w.wdl:25..30: 120 FloatUsed\n' 'workflow w { Float x = 1.0 }'
-checks "an object" 3 '' 'w.wdl:33..39: 121 ObjectUsed\n' 'workflow w { Int x = object {} }'
-checks "a call of sub" 3 '' 'w.wdl:36..39: 122 SubUsed\n' 'workflow w { String x = sub("a", "b", "c") }'
-checks "a call of size" 3 '' 'w.wdl:33..37: 120 FloatUsed\n' 'workflow w { Int x = size("f") }'
 checks "an unknown name" 3 '' 'w.wdl:33..34: 301 UnknownName\n' 'workflow w { Int x = y }'
-checks "a word that begins no expression" 3 '' 'w.wdl:33..37: 110 Unexpected\n' 'workflow w { Int x = then }'
-checks "a word that begins no type" 3 '' 'w.wdl:31..35: 110 Unexpected\n' 'workflow w { Array[then] x = [] }'
 runs "a choice as the last operand" 0 '{"w.s":"--x a"}\n' '' 'workflow w { input { Boolean b = true } output { String s = "--x " + if b then "a" else "b" + "c" } }'
 printf 'version 1.1\r\ntask t {\r\n  command <<<\r\n    printf %%s a\r\n    printf %%s b\r\n  >>>\r\n  output { String s = read_string(stdout()) }\r\n}\r\nworkflow w { call t output { String s = t.s } }\r\n' >crlf.wdl
 expect "the line ends of Windows" 0 '{"w.s":"ab"}\n' '' run --root "$root" crlf.wdl
@@ -153,7 +115,7 @@ checks "a name of 129 letters" 3 '' 'w.wdl:21..150: 107 TooLong\n' "workflow a$l
 document whole.wdl "$(awk 'BEGIN { printf "%1048550s", "" }')workflow w { }"
 expect "a document of 1,048,576 bytes" 0 'ok\n' '' check whole.wdl
 printf '\n' >>whole.wdl
-refused "a document of 1,048,577 bytes" 3 ': 107 TooLong' check whole.wdl
+expect "a document of 1,048,577 bytes" 3 '' 'whole.wdl:1048576..1048577: 107 TooLong\n' check whole.wdl
 open=$(awk 'BEGIN { while (length(s) < 63) s = s "("; print s }')
 close=$(echo "$open" | tr '(' ')')
 checks "63 pairs of parentheses" 0 'ok\n' '' "workflow w { Int x = ${open}1$close }"
@@ -202,7 +164,7 @@ done <code_rows
 # The codes without an example are those that are tested above and below.
 [ "$(awk '$3 == "words" { printf "%s ", $1 }' code_rows)" = "101 107 111 205 328 407 " ] && pass || fail "codes without an example"
 # The page has exactly the codes and words that the program can print.
-sed -n 's/.*[^0-9]\([1-5][0-9][0-9]\)\( => "\| \)\([A-Z][A-Za-z0-9]*\)".*/\1 \3/p' "$top/crates/report_text/src/code.rt" >words
+sed -nE 's/.*[^0-9]([1-5][0-9][0-9])( => "| )([A-Z][A-Za-z0-9]*)".*/\1 \3/p' "$top/crates/report_text/src/code.rt" >words
 awk '{ print $1, $2 }' code_rows | cmp -s - words && pass || fail "the codes of the page: $(awk '{ print $1, $2 }' code_rows | diff - words)"
 
 echo "inputs"
@@ -365,27 +327,20 @@ bundled() {
 for file in "$top"/examples/expected/*.json; do example "$(basename "$file" .json)"; done
 for file in "$top"/examples/*.wdl "$top"/examples/parts/*.wdl; do expect "the check of $file" 0 'ok\n' '' check "$file"; done
 for file in "$top"/examples/*.wdl "$top"/examples/*/*.wdl "$top"/examples/moving/*/after.wdl; do bundled "$file"; done
-expect "the example hello" 0 '{"w.r":"hi"}\n' '' run "$top/examples/hello.wdl"
-[ "$(cat /tmp/wdl-run/say/_stdout)" = hi ] && pass || fail "the default directory"
+# The root that is taken where none is given may be in use.
+if mkdir /tmp/wdl-run 2>/dev/null; then
+  also=/tmp/wdl-run
+  expect "the example hello" 0 '{"w.r":"hi"}\n' '' run "$top/examples/hello.wdl"
+  [ "$(cat /tmp/wdl-run/say/_stdout)" = hi ] && pass || fail "the default root"
+  rm -rf "$also"
+  also=
+else
+  expect "the example hello" 0 '{"w.r":"hi"}\n' '' run --root "$root" "$top/examples/hello.wdl"
+  skip "the default root" "/tmp/wdl-run is in use"
+fi
 if [ $# = 0 ]; then
   "$top/examples/run.sh" count_words "$root" >out 2>&1
   cmp -s out "$top/examples/expected/count_words.json" && pass || fail "examples/run.sh: $(cat out)"
 fi
-
-echo "scripts"
-# script NAME [PAGE]: a script of tests/, whose last line counts its own checks.
-script() {
-  sh "$top/tests/$1.sh" "$program" ${2+"$top/$2"} >out 2>&1 && pass || fail "tests/$*: $(cat out)"
-}
-script program
-script moving
-script workers
-script security
-script notes
-script page examples/FIRST.md
-script cwl
-grep '^cwltool' out
-script journal
-grep '^skipped' out
 
 conclude

@@ -12,17 +12,12 @@ clean_up() {
   chmod -R u+w "$work"
   rm -rf "$work"
 }
-trap clean_up EXIT
-trap 'exit 1' HUP INT TERM
 cd "$work" || exit 1
 root=$work/run
 
-# note WORDS..: says what is not tested on this machine.
-note() { echo "skipped: $*"; }
-
-if command -v sqlite3 >/dev/null 2>&1; then sqlite3=yes; else
+if has sqlite3; then sqlite3=yes; else
   sqlite3=
-  note "sqlite3 is not installed"
+  skip "what sqlite3 reads of journals" "it is not installed"
 fi
 
 count() { wc -l <"$1" | tr -d ' '; }
@@ -213,7 +208,7 @@ for moment in $(seq 1 20); do
 done
 for signal in INT TERM; do
   # A background process of sh ignores SIGINT, unless env sets it back.
-  env "--default-signal=$signal" true 2>/dev/null || { note "SIG$signal: env has no --default-signal" && continue; }
+  env "--default-signal=$signal" true 2>/dev/null || { skip "runs that get SIG$signal" "env has no --default-signal" && continue; }
   for group in '' -; do
     fresh
     begin env "--default-signal=$signal" "$program"
@@ -279,8 +274,8 @@ for moment in $(seq 1 10); do
   beside left
   beside right
   tries=0
-  until [ -s left.status ] || [ -s right.status ] || [ "$tries" = 3000 ]; do
-    sleep 0.01
+  until [ -s left.status ] || [ -s right.status ] || [ "$tries" = 6000 ]; do
+    sleep 0.05
     tries=$((tries + 1))
   done
   : >go
@@ -358,7 +353,7 @@ if $as_other true 2>/dev/null; then
   refused "a journal that is read-only" "$work/open/read_only" $as_other
   program=$kept_program root=$kept_root
 else
-  note "a read-only folder: root cannot be another user"
+  skip "a read-only folder" "root cannot become another user here"
 fi
 
 # Each row takes some 120 kB.
@@ -382,7 +377,7 @@ run --workers 1 w.wdl
 goes_on "once it may grow"
 
 mkdir "$disk"
-if mount -t tmpfs -o size=1m tmpfs "$disk" 2>/dev/null; then
+if has umount && mount -t tmpfs -o size=1m tmpfs "$disk" 2>/dev/null; then
   # on_disk: the run with the journal on that disk.
   on_disk() {
     "$program" run --workers 1 --journal "$disk/j" --root "$root" w.wdl >out 2>err </dev/null
@@ -407,7 +402,7 @@ if mount -t tmpfs -o size=1m tmpfs "$disk" 2>/dev/null; then
   goes_on "once there is room"
   umount "$disk"
 else
-  note "a full disk: no disk can be mounted"
+  skip "a full disk" "no disk can be mounted"
 fi
 
 conclude

@@ -18,13 +18,18 @@ answers() {
   fail "$1: status $got: $(cat "$work/out" "$work/err"), wanted $2"
 }
 
-# The rows of the table are the folders, each once.
+# The rows of the table are the folders, each once, but for that of tests/move.sh.
 sed -n 's/^| .* | `\([a-z_]*\)` | \(.*\) |$/\1 \2/p' "$page" >"$work/rows"
 while read -r folder code; do
   answers "$folder/before.wdl" "$code"
   answers "$folder/after.wdl" ok
 done <"$work/rows"
-[ "$(cut -d ' ' -f 1 "$work/rows" | sort)" = "$(ls)" ] && pass || fail "the table and the folders differ"
+[ "$(cut -d ' ' -f 1 "$work/rows" | sort)" = "$(ls | grep -vx public)" ] && pass || fail "the table and the folders differ"
+
+# outputs FILE TEXT: a run of the document ends with these outputs.
+outputs() { same "$1" "$2" "$("$program" run --root "$work/run" "$1" 2>&1 </dev/null)"; }
+outputs compare/before.wdl '{"filter.enough":true}'
+outputs compare/after.wdl '{"filter.enough":false}'
 
 # A line that names a file of examples/moving stands before a block with its text.
 mkdir "$work/quoted"

@@ -27,15 +27,25 @@ noted() {
   status=$?
 }
 
-# on_terminal WORDS..: runs the program on a terminal of its own; what is seen there is in `seen`, with <clear> where the line is cleared.
+# on_terminal NAME WANTED WORDS..: runs the program on a terminal of its own, and compares what is seen there, with <clear> where the line is cleared, with a file.
+esc=$(printf '\033')
+if has script; then terminal=script; elif has python3; then terminal=python3; else
+  terminal=
+  skip "notes on a terminal" "neither script nor python3 is installed"
+fi
 on_terminal() {
-  if command -v script >/dev/null 2>&1; then
-    script -qec "'$program' $*" /dev/null </dev/null >raw 2>&1
-  else
-    python3 -c 'import pty, sys; pty.spawn(sys.argv[1:])' "$program" "$@" </dev/null >raw 2>&1
-  fi
-  esc=$(printf '\033')
+  name=$1 wanted=$2
+  shift 2
+  case $terminal in
+    script) script -qec "'$program' $*" /dev/null </dev/null >raw 2>&1 ;;
+    python3) python3 -c 'import pty, sys; pty.spawn(sys.argv[1:])' "$program" "$@" </dev/null >raw 2>&1 ;;
+    *) return ;;
+  esac
   tr -d '\r' <raw | sed "s/$esc\[K/<clear>/g" | timeless >seen
+  if cmp -s "$wanted" seen; then pass; else
+    fail "$name, on a terminal"
+    diff "$wanted" seen
+  fi
 }
 
 # Times stand for any times, and ROOT for the folder of the jobs.
@@ -59,11 +69,7 @@ three_ways() {
   alone "$@"
   same "$name, without a terminal" "$number $line" "$status $(cat err)"
   forget
-  on_terminal "$@"
-  if cmp -s want seen; then pass; else
-    fail "$name, on a terminal"
-    diff want seen
-  fi
+  on_terminal "$name" want "$@"
   forget
   noted "$@"
   same "$name, with WDL_NOTES=1" "$number $(as_lines want)" "$status $(cat err out | timeless)"
@@ -114,8 +120,7 @@ same "no workflow" "3 none.wdl:1:1: error 327 NoWorkflow" "$status $(sed -n '1s/
 printf 'version 1.1\nworkflow w {\n  Int x = 1\n}\n' >declares.wdl
 noted cwl declares.wdl
 same "of the CWL subset" "8 declares.wdl:3:3: error 602" "$status $(sed -n '1s/\(: error [0-9]*\): .*/\1/p' err)"
-on_terminal cwl declares.wdl
-same "of the CWL subset, on a terminal" "$(cat err)" "$(cat seen)"
+on_terminal "of the CWL subset" err cwl declares.wdl
 alone cwl declares.wdl
 same "of the CWL subset, without a terminal" "8 not in the subset: 602 at declares.wdl:27..36" "$status $(cat err)"
 
@@ -324,8 +329,7 @@ refuses() {
   noted run --root "$root" --inputs i.json two.wdl
   same "$code: two lines, the line last" "4 2 $line" "$status $(wc -l <err) $(tail -n 1 err)"
   tells "$code" err "$@"
-  on_terminal run --root "$root" --inputs i.json two.wdl
-  same "$code, on a terminal" "$(cat err)" "$(cat seen)"
+  on_terminal "$code" err run --root "$root" --inputs i.json two.wdl
 }
 echo '{"two.status":7' >i.json
 refuses 401 'inputs: 401 NotJson' 'the inputs file is no JSON' 'line 2, column 0'
@@ -343,8 +347,7 @@ alone run --root "$root" killed.wdl
 same "404, without a terminal" "4 inputs: 404 InputMissing killed.how" "$status $(cat err)"
 noted run --root "$root" killed.wdl
 tells 404 err '`killed.how`' 'String'
-on_terminal run --root "$root" killed.wdl
-same "404, on a terminal" "$(cat err)" "$(cat seen)"
+on_terminal 404 err run --root "$root" killed.wdl
 
 echo "inputs, help and the version"
 cat >lanes.wdl <<'END'
@@ -375,13 +378,12 @@ for words in help --help -h 'help run' 'run --help' 'run -h' version --version -
   same "$words: status and errors" "0 " "$status $(cat err)"
   [ -s out ] && [ -z "$(tail -c 1 out)" ] && [ "$(awk 'length > 80' out | wc -l)" -eq 0 ] && pass || fail "$words: $(cat out)"
   # shellcheck disable=SC2086
-  on_terminal $words
-  same "$words, on a terminal" "$(cat out)" "$(cat seen)"
+  on_terminal "$words" out $words
 done
 "$program" --version >out
 grep -qx 'wdl [0-9]*\.[0-9]*\.[0-9]*' out && pass || fail "the version: $(cat out)"
 "$program" help >out
-for command in run check inputs cwl bundle; do grep -q "^ *\(wdl \)\?$command\b" out && pass || fail "help: no $command in $(cat out)"; done
+for command in run check inputs cwl bundle; do grep -Eq "^ *(wdl )?$command( |\$)" out && pass || fail "help: no $command in $(cat out)"; done
 for command in run check inputs cwl bundle; do
   "$program" help "$command" >out
   tells "help $command" out "wdl $command" 'status  meaning' example:

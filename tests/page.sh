@@ -5,13 +5,11 @@
 #   tests/page.sh PROGRAM PAGE
 #
 # A line that ends with 'Save this as `NAME`:' stands before the block with that file. In a block of `console` each line behind `$ ` is a command, and the lines below it
-# are what is seen; `wdl` is the program, with notes; times stand for any times,
-# and `/home/you` for the folder in which the commands are run.
+# are what is seen; `wdl` is the program, with notes; times stand for any times, `/home/you` for the folder in which the commands are run, and `/tmp/first` for
+# another one, so that the reader's own is left alone.
 . "$(dirname -- "$0")/checks.sh"
 program=${1:?the program, with its whole path}
 page=${2:?the page, with its whole path}
-trap 'rm -rf "$work" /tmp/first' EXIT
-rm -rf /tmp/first
 
 mkdir "$work/bin" "$work/steps" "$work/here" || exit 1
 ln -s "$program" "$work/bin/wdl" || exit 1
@@ -30,7 +28,7 @@ awk -v to="$work/steps/" '
   END { print count > (to "count") }' "$page"
 
 cd "$work/here" || exit 1
-timeless() { sed "s|$work/here|/home/you|g"';s/[0-9][0-9.]* \(ms\|s\|min\)\b/N s/g' "$1"; }
+timeless() { sed -E -e "s|$work/here|/home/you|g; s|$work/first|/tmp/first|g" -e 's/[0-9][0-9.]* (ms|s|min)([ ,]|$)/N s\2/g' "$1"; }
 status=0
 for step in $(seq 1 "$(cat "$work/steps/count")"); do
   at=$work/steps/$step
@@ -39,7 +37,7 @@ for step in $(seq 1 "$(cat "$work/steps/count")"); do
     continue
   fi
   sh -c "(exit $status)
-$(cat "$at.sh")" >"$work/seen" 2>&1 </dev/null
+$(sed "s|/tmp/first|$work/first|g" "$at.sh")" >"$work/seen" 2>&1 </dev/null
   status=$?
   timeless "$work/seen" >"$work/seen.times"
   timeless "$at.want" >"$work/want.times"

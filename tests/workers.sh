@@ -15,7 +15,7 @@ run() {
 }
 
 echo "jobs at once"
-# Each of two jobs ends only after it has seen the other one begin: one worker alone gives up after two seconds.
+# Each of two jobs ends only after it has seen the other one begin, or has looked as often as the file `looks` says.
 cat >crossing.wdl <<END
 version 1.1
 task meet {
@@ -25,7 +25,7 @@ task meet {
     i=0
     while [ ! -e "$work/~{other}" ]; do
       i=\$((i + 1))
-      [ "\$i" -lt 20 ] || exit 1
+      [ "\$i" -lt "\$(cat '$work/looks')" ] || exit 1
       sleep 0.1
     done
   >>>
@@ -37,9 +37,11 @@ workflow crossing {
   output { Boolean both = left.met && right.met }
 }
 END
+echo 6000 >looks
 run 2 crossing.wdl
 same "two workers meet" '0 {"crossing.both":true}' "$status $(cat out)"
 rm -f left right
+echo 10 >looks
 run 1 crossing.wdl
 same "one worker meets nobody" 1 "$status"
 # Each of 64 jobs ends only once all of them have begun.
@@ -53,7 +55,7 @@ task meet {
     tries=0
     until set -- "$work/begun_at_once"/* && [ \$# -ge 64 ]; do
       tries=\$((tries + 1))
-      [ "\$tries" -lt 200 ] || exit 1
+      [ "\$tries" -lt 2000 ] || exit 1
       sleep 0.3
     done
   >>>
@@ -211,36 +213,53 @@ for workers in 1 3 8; do
 done
 
 echo "after a failure"
-# The job that fails ends first. With two workers the other one is waited for, and the job behind that one does not begin.
+# The job `bad` ends first, since `slow` waits for the file `told`. With two workers `slow` is waited for, and the job behind it does not begin.
 cat >failing.wdl <<END
 version 1.1
 task step {
-  input { String name Int status String wait }
+  input { String name Int status = 0 Int looks = 0 }
   command <<<
     echo "~{name}" >>"$work/begun"
-    sleep ~{wait}
+    i=0
+    until [ -e "$work/told" ] || [ "\$i" -ge ~{looks} ]; do
+      i=\$((i + 1))
+      sleep 0.1
+    done
     echo "~{name}" >>"$work/ended"
     exit ~{status}
   >>>
   output { String out = name }
 }
 workflow failing {
-  call step as bad { input: name = "bad", status = 3, wait = "0.1" }
-  call step as slow { input: name = "slow", status = 0, wait = "0.6" }
-  call step as third after slow { input: name = "third", status = 0, wait = "0" }
+  call step as bad { input: name = "bad", status = 3 }
+  call step as slow { input: name = "slow", looks = 6000 }
+  call step as third after slow { input: name = "third" }
   output { String all = bad.out + slow.out + third.out }
 }
 END
-run 2 failing.wdl
-same "a failed job" "1 failed bad: status 3" "$status $(cat err)"
+# until_told WORDS..: runs the document, and makes `told` once the notes have the end of `bad`. The file `ended_with` has the status and the last line of the errors.
+until_told() {
+  rm -f told
+  { WDL_NOTES=1 "$program" run --workers 2 --root "$work/run" "$@" 2>&1 >out </dev/null; echo "ended $?"; } |
+    while read -r line; do
+      case $line in
+        *' bad: status 3'* | *' bad: not launched'*) : >told ;;
+        'ended '*) echo "${line#ended } $last" ;;
+      esac
+      last=$line
+    done >ended_with
+}
+rm -rf run
+until_told failing.wdl
+same "a failed job" "1 failed bad: status 3" "$(cat ended_with)"
 same "what began" "bad slow" "$(sort begun | tr '\n' ' ' | sed 's/ $//')"
 same "what was waited for" "bad slow" "$(sort ended | tr '\n' ' ' | sed 's/ $//')"
 # A job that is not launched, since something else stands in the place of its directory, stops the run in the same way, and the answer of the other is kept.
 rm -rf begun ended run journal
 mkdir -p run/bad
 echo notes >run/bad/notes
-"$program" run --workers 2 --journal journal --root "$work/run" failing.wdl >out 2>err </dev/null
-same "a job that is not launched" "9 cannot launch bad" "$? $(cat err)"
+until_told --journal journal failing.wdl
+same "a job that is not launched" "9 cannot launch bad" "$(cat ended_with)"
 same "what was begun and waited for then" "slow slow" "$(cat begun ended | tr '\n' ' ' | sed 's/ $//')"
 rm -r run/bad
 sed 's/status = 3/status = 0/' failing.wdl >mended.wdl

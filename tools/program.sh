@@ -1,15 +1,31 @@
 #!/bin/sh
-# Prints the path of the program for these sources: the one that was built here; else the one in dist/, if it was built from the same sources, which
-# is unpacked at its first use; else one that is proved and built now.
-top=$(CDPATH= cd -- "$(dirname -- "$0")/.." && pwd) || exit 126
+# program.sh [--shipped]: prints the path of the program for these sources: the one that was built here; else the one in dist/, if it was built from the same
+# sources, which is unpacked at its first use; else one that is proved and built now. With --shipped it is the one in dist/, or none.
+case $0 in */*) tools=${0%/*} ;; *) tools=. ;; esac
+top=$(CDPATH= cd -P -- "$tools/.." && pwd) || exit 126
 cache=${XDG_CACHE_HOME:-${HOME:-/nonexistent}/.cache}/zinniamorn
 shipped=$top/dist/wdl-x86_64-linux.gz
 say() { echo "wdl: $*" >&2; }
 origin() { awk -v key="$1" '$1 == key { print $2 }' "$top/dist/origin" 2>/dev/null; }
 
+[ "${1-}" = --shipped ] && built= || built=$top/out/built
+. "$top/tools/known.sh"
+noted=
+if [ "$built" ]; then
+  known && exit
+  trap forget EXIT
+  trap 'exit 1' HUP INT TERM
+  watch
+fi
 sources=$("$top/tools/sources.sh") || { say "cannot read the sources in $top/crates"; exit 126; }
-for place in "$top/out/built" "$top/out/shipped" "$cache"; do
-  [ -x "$place/$sources/wdl" ] && echo "$place/$sources/wdl" && exit
+# found PROGRAM: prints its path, and ends.
+found() {
+  remember "$1"
+  echo "$1"
+  exit
+}
+for place in ${built:+"$built"} "$top/out/shipped" "$cache"; do
+  [ ! -x "$place/$sources/wdl" ] || found "$place/$sources/wdl"
 done
 
 # unpack FILE: unpacks the shipped program into FILE. It fails where that program is damaged or does not start on this machine.
@@ -27,10 +43,12 @@ if [ "$(origin sources)" = "$sources" ]; then
     new=
   done
   [ "$new" ] || { say "cannot unpack the program: neither $top/out nor $cache is writable (XDG_CACHE_HOME can name another folder)"; exit 126; }
-  unpack "$new" && mv "$new" "$place/$sources/wdl" && echo "$place/$sources/wdl" && exit
+  unpack "$new" && mv "$new" "$place/$sources/wdl" && found "$place/$sources/wdl"
   rm -f "$new"
   rmdir "$place/$sources" 2>/dev/null
 else
   say "dist/ has no program for these sources"
 fi
+[ "$built" ] || exit 126
+forget
 exec "$top/tools/build.sh"

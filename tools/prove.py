@@ -1,169 +1,162 @@
 #!/usr/bin/env python3
-"""Proves crates as `rt ci` does, and keeps each result by the sum of its sources, so that nothing is proved twice.
+"""Proves crates as `rt ci` does, and keeps each result by the sum of all that it depends on, so that nothing is proved twice.
 
-    tools/prove.py [--lanes N] [--libraries] [NAME..]
+    tools/prove.py [--lanes N] [--libraries] [--kept] [NAME..]
+    tools/prove.py --check-kept
+    tools/prove.py --costs [--log LOG]
 
-NAMEs are crates; without one, all are meant. Of each it proves the crate with all libraries below it, then proves and runs its tests, and tries
-its must-fail edits; with --libraries it proves only. Results stand in $WDL_KEPT (/tmp/wdl-kept), logs beside them. Each library is also laid down
-in crates/NAME/out/rlib, where `rt check` of the crates above finds it, so a run with nothing to do serves a fresh clone in seconds. Two runs
-share their results, and wait for each other crate by crate. It is for work on the repository: the verdict is that of `rt ci`."""
-import argparse, copy, fcntl, hashlib, importlib.machinery, importlib.util, os, shutil, subprocess, sys, threading, time
-from concurrent.futures import FIRST_COMPLETED, ThreadPoolExecutor, wait
+NAMEs are crates; without one, all are meant. First all that `rt ci` wants of the files is checked
+(not with --libraries where nothing is to be proved). Of each crate and of all libraries below it the
+proof is done; of each crate its tests, its must-fail edits and its runs too, but not with --libraries. Results stand in $WDL_KEPT (/tmp/wdl-kept),
+logs beside them. Each library is also laid down in crates/NAME/out/rlib, where `rt check` of the crates above finds it, so a run with nothing to do
+serves a fresh clone in seconds. Two runs share their results, and wait for each other crate by crate.
 
-words = argparse.ArgumentParser(description=__doc__, formatter_class=argparse.RawDescriptionHelpFormatter)
-words.add_argument("--lanes", type=int, default=os.cpu_count())
-words.add_argument("--libraries", action="store_true")
-words.add_argument("names", nargs="*")
-asked = words.parse_args()
-root = os.path.dirname(os.path.dirname(os.path.abspath(__file__)))
-kept = os.environ.get("WDL_KEPT", "/tmp/wdl-kept")
-os.makedirs(kept, exist_ok=True)
-os.chdir(root)
+--kept is for the work of a day: nothing is proved twice that a change does not reach (kept_work.py). What is made so counts for no other run.
 
+--check-kept proves nothing. It ends with 0 exactly where `rt ci` would pass: its checks of the files are done, and for all else there are results for
+these sources, this toolchain and this tool. The program that was built with them is then laid down as crates/wdl/out/wdl.
 
-def load():
-    """The toolchain's `rt`, as a module."""
-    path = os.path.realpath(shutil.which("rt") or "/opt/rattle/bin/rt")
-    sys.argv = ["rt"]
-    loader = importlib.machinery.SourceFileLoader("rt", path)
-    module = importlib.util.module_from_spec(importlib.util.spec_from_loader("rt", loader))
-    loader.exec_module(module)
-    return module
+--costs writes docs/COSTS.md from the kept results (costs.py). Where a result has none, they are taken from LOG, the output of a run."""
+import argparse, os, signal, sys, time
+
+sys.dont_write_bytecode = True
+import costs, kept_work, proving
+from proving import by_name, crates, kept, rt
 
 
-rt = load()
-rt.rtlib.stop = rt.stop
-rt.Crate.cuts_libraries = True
-rt.Crate.allowed = rt.handles_of(root)
-rt.rtlib.Crate = rt.Crate
-rt.rtlib.guarded()
-stamps, stamp = {}, rt.Crate.stamp
+def arguments():
+    words = argparse.ArgumentParser(description=__doc__, formatter_class=argparse.RawDescriptionHelpFormatter)
+    words.add_argument("--lanes", type=int, default=os.cpu_count())
+    for name in ("--libraries", "--kept", "--check-kept", "--costs"):
+        words.add_argument(name, action="store_true")
+    words.add_argument("--log")
+    words.add_argument("names", nargs="*")
+    asked = words.parse_args()
+    for name in asked.names:
+        if name not in by_name:
+            words.error(f"crates.txt has no crate {name}")
+    return asked
 
 
-def stamp_once(crate):
-    """The sum of a crate's sources and of those below it, found once: the sources may not change during a run."""
-    if crate.folder not in stamps:
-        stamps[crate.folder] = stamp(crate)
-    return stamps[crate.folder]
-
-
-rt.Crate.stamp = stamp_once
-crates = sorted(rt.rtlib.crates_below(root), key=lambda it: len(it.below()))
-by_name = {it.name: it for it in crates}
-printing = threading.Lock()
-
-
-def entry(crate, what):
-    """The folder of a result."""
-    text = crate.stamp().encode()
-    if what == "edits":
-        for file in rt.edits_of(crate)[0]:
-            with open(file, "rb") as it:
-                text += os.path.basename(file).encode() + it.read()
-    return f"{kept}/{crate.name}-{what}-{hashlib.sha256(text).hexdigest()[:24]}"
-
-
-def give(crate):
-    """Lays down a library that was proved."""
-    if crate.is_program or crate.is_built():
-        return
-    shutil.rmtree(f"{crate.folder}/out/rlib", ignore_errors=True)
-    os.makedirs(f"{crate.folder}/out", exist_ok=True)
-    shutil.copytree(f"{entry(crate, 'proof')}/rlib", f"{crate.folder}/out/rlib")
-    with open(f"{crate.folder}/out/rlib/stamp", "w", encoding="utf-8") as it:
-        it.write(crate.stamp())
-
-
-def prove(crate, jobs):
-    """Proves a crate from nothing."""
-    if rt.rtlib.fmt(crate.folder, "--check", crate.out):
-        rt.say("run rt fmt in the crate's folder", crate.out)
-        return False
-    rt.rtlib.stop_on_text(crate, "verdict")
-    rt.stop_on_words(crate)
-    return not crate.ci(["--jobs", str(jobs)], False)
-
-
-def run_tests(crate, jobs):
-    """Proves a crate's tests, and runs them: in a process of their own, since `rt` writes what they say to its own output."""
-    if crate.ci(["--jobs", str(jobs)], True):
-        return False
-    program = f"{crate.folder}/out/{crate.name}_tests"
-    ran = subprocess.run([rt.rtlib.RUNNER, "--seconds", "60", program], cwd="/tmp", stdout=crate.out, stderr=crate.out)
-    return ran.returncode == 0
-
-
-def try_edits(crate):
-    good, bad = rt.edits_of(crate)
-    tried = rt.must_fail_all(crate, good, ["--jobs", "1"])
-    print(*(text for _, text in tried), sep="\n", file=crate.out)
-    return all(refused for refused, _ in tried) and not bad
-
-
-def do(crate, what, jobs):
-    """Does one task unless its result is kept, and returns whether it went well."""
-    place = entry(crate, what)
-    with open(f"{place}.lock", "w") as lock:
-        fcntl.flock(lock, fcntl.LOCK_EX)
-        began, well = time.time(), os.path.exists(f"{place}/ok")
-        if not well:
-            crate = copy.copy(crate)
-            os.makedirs(f"{crate.folder}/out", exist_ok=True)
-            with open(f"{kept}/{crate.name}.{what}.log", "w+", errors="replace") as crate.out:
-                try:
-                    well = prove(crate, jobs) if what == "proof" else run_tests(crate, jobs) if what == "tests" else try_edits(crate)
-                except SystemExit:
-                    pass
-            if well:
-                shutil.rmtree(f"{place}.new", ignore_errors=True)
-                os.makedirs(f"{place}.new")
-                if what == "proof" and not crate.is_program:
-                    shutil.copytree(f"{crate.folder}/out/rlib", f"{place}.new/rlib")
-                open(f"{place}.new/ok", "w").close()
-                os.rename(f"{place}.new", place)
-            with printing:
-                print(f"{time.strftime('%H:%M:%S')} {crate.name} {what} {'ok' if well else 'FAILED'} {time.time() - began:.0f} s", flush=True)
-        if well and what == "proof":
-            give(by_name[crate.name])
-        return well
-
-
-def tasks_of(names):
-    """The tasks, lowest crates first: what each waits for, and its size."""
-    tasks = {}
+def tasks_of(names, libraries, kinds):
+    """The steps, lowest crates first: those that each waits for, and its size."""
+    meant, tasks = {by_name[it] for it in names}, {}
+    below = {low for it in meant for low in it.below()}
     for crate in crates:
-        if any(crate is by_name[it] or crate in by_name[it].below() for it in names):
-            below, lines = [(it.name, "proof") for it in crate.below()], crate.count(rb"\n")
-            tasks[crate.name, "proof"] = below, lines
-            if crate.name in names and not asked.libraries:
-                own = [*below, (crate.name, "proof")]
-                tasks.update({(crate.name, "tests"): (own, lines)} if crate.has_tests() else {})
-                tasks.update({(crate.name, "edits"): (own, lines)} if rt.edits_of(crate)[0] else {})
+        if crate in meant or crate in below:
+            lines = crate.count(rb"\n")
+            waits = [(it.name, "proof") for it in crate.below()]
+            tasks[crate.name, "proof"] = waits, lines
+            for kind in kinds(crate) if crate in meant and not libraries else []:
+                if kind != "proof":
+                    tasks[crate.name, kind] = [*waits, (crate.name, "proof")], lines
     return tasks
 
 
-def main():
-    tasks = tasks_of(asked.names or [*by_name])
+def in_order(tasks):
+    """The steps, first those with the longest chain of others behind them."""
     behind = dict.fromkeys(tasks, 0)
     for key in reversed([*tasks]):
         behind[key] += tasks[key][1]
         for it in tasks[key][0]:
             behind[it] = max(behind[it], behind[key])
-    left, running, done = sorted(tasks, key=lambda it: -behind[it]), {}, {}
-    with ThreadPoolExecutor(asked.lanes) as pool:
-        while left or running:
-            for key in [it for it in left if any(done.get(below) is False for below in tasks[it][0])]:
-                left.remove(key)
-                done[key] = False
-            ready = [it for it in left if all(below in done for below in tasks[it][0])]
-            for key in ready[: asked.lanes - len(running)]:
-                left.remove(key)
-                running[pool.submit(do, by_name[key[0]], key[1], max(1, min(4, asked.lanes // len(ready))))] = key
-            for it in wait(running, return_when=FIRST_COMPLETED).done if running else ():
-                done[running.pop(it)] = it.result()
-    failed = [f"{name} ({what})" for name, what in tasks if not done[name, what]]
-    print(f"{len(tasks) - len(failed)} passed, {len(failed)} failed", *failed, sep="\n  ")
-    return bool(failed)
+    return sorted(tasks, key=lambda it: -behind[it])
 
 
-sys.exit(main())
+class Run:
+    """Steps that are done side by side, each in a process of its own: as many as there are lanes and memory holds."""
+
+    def __init__(self, tasks, lanes, steps):
+        self.tasks, self.lanes, self.steps = tasks, lanes, steps
+        self.left, self.running, self.done, self.looked_up = in_order(tasks), {}, {}, set()
+
+    def all(self):
+        """Does all steps, and returns those that failed or were not begun, since one below them failed."""
+        try:
+            while self.left or self.running:
+                self.give_up_above_failures()
+                self.begin()
+                if self.running:
+                    self.end_one()
+        finally:
+            for pid in self.running:
+                os.kill(pid, signal.SIGTERM)
+        return [key for key in self.tasks if not self.done[key]]
+
+    def give_up_above_failures(self):
+        for key in [it for it in self.left if any(self.done.get(below) is False for below in self.tasks[it][0])]:
+            self.left.remove(key)
+            self.done[key] = False
+
+    def begin(self):
+        """Begins what is ready, and passes over what is kept."""
+        ready = [it for it in self.left if all(below in self.done for below in self.tasks[it][0])]
+        jobs = max(1, min(4, self.lanes // max(1, len(ready))))
+        for key in ready:
+            crate, kind = by_name[key[0]], key[1]
+            if key not in self.looked_up and self.steps.is_kept(crate, kind):
+                self.left.remove(key)
+                self.finish(key, True)
+            elif len(self.running) < self.lanes and (not self.running or rt.need(crate) < self.room()):
+                self.left.remove(key)
+                pid = proving.in_child(f"{kept}/{crate.name}.{kind}.log", lambda: self.steps.do(crate, kind, jobs))
+                self.running[pid] = key, time.time()
+            self.looked_up.add(key)
+
+    def room(self):
+        """The memory that the running steps are not likely to take. (They may have begun with little.)"""
+        return rt.free() - sum(rt.need(by_name[name]) / 2 for (name, _), _ in self.running.values())
+
+    def end_one(self):
+        pid, status, used = os.wait4(-1, 0)
+        (name, kind), began = self.running.pop(pid)
+        say = "FAILED" if status else "ok"
+        spent = f"{time.time() - began:.0f} s, {used.ru_utime + used.ru_stime:.0f} s of processors"
+        print(f"{time.strftime('%H:%M:%S')} {name} {kind} {say} {spent}", flush=True)
+        self.finish((name, kind), not status)
+
+    def finish(self, key, well):
+        self.done[key] = well
+        if well and key[1] == "proof":
+            self.steps.lay(by_name[key[0]])
+
+
+def check_kept():
+    missing = [f"{it.name} ({kind})" for it in crates for kind in proving.kinds(it) if not proving.is_kept(it, kind)]
+    if missing:
+        print("no result is kept of", *missing, sep="\n  ")
+        return 1
+    passes, said = proving.gate({*by_name}, lambda name, kind: proving.is_kept(by_name[name], kind))
+    if not passes:
+        print(said, end="")
+        return 1
+    for crate in crates:
+        if crate.is_program:
+            proving.lay(crate)
+    print(f"{sum(len(proving.kinds(it)) for it in crates)} results are kept for these sources, and rt ci passes with them: {said.splitlines()[-1]}")
+    return 0
+
+
+def main():
+    asked = arguments()
+    signal.signal(signal.SIGTERM, lambda *_: sys.exit(143))
+    if asked.check_kept:
+        return check_kept()
+    if asked.costs:
+        return costs.write(asked.log)
+    names = asked.names or [*by_name]
+    steps = kept_work if asked.kept else proving
+    tasks = tasks_of(names, asked.libraries, steps.kinds)
+    if not asked.libraries or not all(proving.is_kept(by_name[name], kind) for name, kind in tasks):
+        passes, said = proving.gate({name for name, _ in tasks}, lambda *_: True)
+        if not passes:
+            print(said, end="")
+            return 1
+    failed = Run(tasks, asked.lanes, steps).all()
+    how = ", over kept work" if asked.kept else ""
+    print(f"{len(tasks) - len(failed)} passed, {len(failed)} failed{how}", *(f"{name} ({kind})" for name, kind in failed), sep="\n  ")
+    return 1 if failed else 0
+
+
+if __name__ == "__main__":
+    sys.exit(main())

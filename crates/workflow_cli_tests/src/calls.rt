@@ -1,7 +1,7 @@
 use std::test::Fail;
 use workflow_cases::first_mistake;
 
-/// One call, calls that need one another, and calls that wait.
+/// One call, calls that need one another, calls that wait, and a call of an imported task.
 const CALLS: &str = r#"say
 text workflow w { call say { input: s = "hi" } output { String r = say.r } }
 file w.wdl
@@ -44,7 +44,17 @@ $ run --workers 1 w.wdl
 > 0 2 +say -say +b -b
 > {}
 > /tmp/wdl-run/say echo a
-> /tmp/wdl-run/b echo b"#;
+> /tmp/wdl-run/b echo b
+
+say
+file lib.wdl
+version import "lib.wdl" workflow w { call lib.say { input: s = "hi" } output { String r = say.r } }
+file w.wdl
+answer say 0 0 hi
+$ run w.wdl
+> 0 1 +say -say
+> {"w.r":"hi"}
+> /tmp/wdl-run/say echo hi"#;
 
 /// Calls in blocks.
 const BLOCKS: &str = r#"say

@@ -8,15 +8,7 @@ mod bundles;
 #[cfg(test)]
 mod calls;
 #[cfg(test)]
-mod cwl;
-#[cfg(test)]
-mod documents;
-#[cfg(test)]
 mod ends;
-#[cfg(test)]
-mod forms;
-#[cfg(test)]
-mod inputs;
 #[cfg(test)]
 mod lanes;
 #[cfg(test)]
@@ -24,11 +16,7 @@ mod left;
 #[cfg(test)]
 mod loads;
 #[cfg(test)]
-mod notes;
-#[cfg(test)]
 mod progress;
-#[cfg(test)]
-mod records;
 #[cfg(test)]
 mod refusals;
 #[cfg(test)]

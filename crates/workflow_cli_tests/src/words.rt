@@ -85,7 +85,23 @@ version workflow w { Int x = y }
 file w.wdl
 $ run w.wdl
 room 100 0
-> 6 0";
+> 6 0
+
+version workflow w { }
+file w.wdl
+$ inputs w.wdl
+room 1 100
+> 6 0
+>. {
+> ! cannot write
+
+version workflow w { }
+file w.wdl
+$ bundle w.wdl
+room 7 100
+> 6 0
+>. version
+> ! cannot write";
 
 #[test]
 fn what_is_cut_has_status_6(rt: HostRuntime) -> Result<(), Fail> {

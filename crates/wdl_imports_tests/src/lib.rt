@@ -1,6 +1,0 @@
-//! Tests of libraries, in a crate of their own: the gate proves a crate once more for the tests in
-//! it.
-#![tactic(auto)]
-
-#[cfg(test)]
-mod libraries;
