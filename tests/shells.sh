@@ -1,5 +1,294 @@
-# The shells of examples/shells, and what a job's directory may hold, with the built program. tests/end_to_end.sh reads this file: the
-# functions and the variables `program`, `top`, `work` and `root` are its own.
+# The shells of examples/shells, and what a job's directory may hold, with the built program.
+# tests/end_to_end.sh reads this file: the functions and the variables `program`, `top`, `work` and
+# `root` are its own. Without it the scripts alone are tested, as `sh tests/shells.sh`; the last line
+# is then 'N passed, M failed', and it ends non-zero where a check failed.
+if [ -z "${program-}" ]; then
+  . "$(dirname -- "$0")/checks.sh"
+  cd "$work" || exit 1
+fi
+
+echo "the scripts alone"
+# Programs on the PATH that write their arguments into the file `recorded`, one a line, and end
+# with 7. Where WAITS is set they wait for TERM. What `stop`, `rm` and `image exists` are given, and
+# a TERM, is written into `noted`.
+scripts=$top/examples/shells
+mkdir recorders
+cat >recorders/srun <<'EOF'
+#!/bin/sh
+case ${0##*/}:$1 in
+  docker:stop | docker:rm | podman:stop | podman:rm | podman:image)
+    printf '%s\n' "$*" >>"$RECORDS/noted"
+    [ "$1" != image ] || [ "$3" = "${PRESENT-}" ]
+    exit
+    ;;
+esac
+printf '[%s]\n' "$@" >"$RECORDS/new"
+if [ "${WAITS-}" ]; then
+  trap 'echo TERM >>"$RECORDS/noted"; kill $!; exit 9' TERM
+  sleep 20 &
+  mv "$RECORDS/new" "$RECORDS/recorded"
+  wait
+fi
+mv "$RECORDS/new" "$RECORDS/recorded"
+exit 7
+EOF
+# The user's number is 1000, or USER_NUMBER.
+printf '#!/bin/sh\necho "${USER_NUMBER:-1000}"\n' >recorders/id
+chmod +x recorders/srun recorders/id
+for name in docker podman apptainer; do cp recorders/srun recorders/$name; done
+here=$(pwd -P)
+line='echo "a  b"'\''c'\'' $PWD; exit 3'
+
+# in_job COMMAND..: runs it in the directory of the job. numbered FILE: a name that holds a number.
+in_job() { (cd "$job" && exec env RECORDS="$here" PATH="$here/recorders:$PATH" "$@") >out 2>err </dev/null; }
+numbered() { sed 's/\(wdl-[a-z]*-\)[0-9a-f]\{16\}/\1NUMBER/' "$1" 2>/dev/null; }
+
+# told SCRIPT WORDS.. -- SETTINGS..: with these variables the script gives its client the words and
+# the command, ends with its status, and leaves nothing in the job's directory.
+told() {
+  script=$1
+  shift
+  : >wanted
+  while [ "$1" != -- ]; do
+    printf '[%s]\n' "$1" >>wanted
+    shift
+  done
+  shift
+  printf '[%s]\n' -c "$line" >>wanted
+  rm -f recorded noted
+  in_job "$@" "$scripts/$script" -c "$line"
+  got=$?
+  numbered recorded >is
+  if [ "$got" = 7 ] && [ ! -s out ] && [ ! -s err ] && cmp -s is wanted && [ ! -e "$job/.wdl-pipe" ]; then pass; else
+    fail "$script with $*: status $got: $(cat err)"
+    diff wanted is
+  fi
+}
+
+# untold SCRIPT STATUS ERR SETTINGS..: with these variables it starts nothing, and writes ERR.
+untold() {
+  script=$1 status=$2 said=$3
+  shift 3
+  rm -f recorded noted
+  in_job "$@" "$scripts/$script" -c "$line"
+  got=$?
+  if [ "$got" = "$status" ] && [ "$(cat err)" = "$said" ] && [ ! -s out ] && [ ! -e recorded ]; then pass; else
+    fail "$script with $*: status $got: $(cat err)"
+  fi
+}
+
+# ended SIGNAL STATUS SCRIPT NOTED: a signal to the script ends its client. NOTED is a printf format,
+# whose lines come in any order.
+ended() {
+  signal=$1 status=$2 script=$3
+  printf "$4" | sort >wanted
+  rm -f recorded number
+  : >noted
+  (
+    tries=0
+    while [ ! -e recorded ] && [ "$tries" -lt 50 ]; do tries=$((tries + 1)) && sleep 0.1; done
+    kill -s "$signal" "$(cat number)"
+  ) &
+  set -- sh -c 'echo $$ >"$0" && exec "$@"' "$here/number" "$scripts/$script" -c "$line"
+  (in_job WAITS=yes WDL_IMAGE=a:1 "$@"; exit $?) 2>/dev/null
+  got=$?
+  wait
+  tries=0
+  while numbered noted | sort >is && ! cmp -s is wanted && [ "$tries" -lt 50 ]; do tries=$((tries + 1)) && sleep 0.1; done
+  [ "$got" = "$status" ] && cmp -s is wanted && pass && return
+  fail "$script ended by $signal: status $got: $(cat err)"
+  diff wanted is
+}
+
+# What a client is told of every job: this one is that of the place scatter-0/1/align.
+export WDL_PLACE=scatter-0/1/align WDL_ATTEMPT=0 WDL_TASK=align
+mkdir -p run/scatter-0/1/align
+run=$here/run
+job=$run/scatter-0/1/align
+of_srun='--quiet --nodes=1 --ntasks=1 --job-name=scatter-0/1/align'
+of_docker='run --rm --init --name wdl-align-NUMBER --user 1000:1000 --env HOME=/tmp'
+of_podman='run --rm --init --name wdl-align-NUMBER --userns=keep-id --user 1000:1000 --env HOME=/tmp --security-opt label=disable'
+own="type=bind,source=$job,target=$job"
+
+# OpenWDL 1.1, "Units of Storage": KB is 1000 bytes and KiB is 1024, whatever the case, and the B may
+# be left out. A megabyte of srun has 1,048,576 bytes; what is asked for is the least.
+while IFS='|' read -r value mebibytes bytes; do
+  told slurm $of_srun "--mem=${mebibytes}M" sh -- WDL_RUNTIME_memory="$value"
+  told apptainer exec --bind "$job:$job" --pwd "$job" --memory "$bytes" a.sif sh -- \
+    WDL_RUNTIME_memory="$value" WDL_IMAGE=a.sif
+done <<'END'
+8 GB|7630|8000000000
+8GiB|8192|8589934592
+8G|7630|8000000000
+8192 MB|7813|8192000000
+8589934592|8192|8589934592
+0.5 GB|477|500000000
+ .5 gib |512|536870912
+1.5Kb|1|1500
+1048577 B|2|1048577
+2 Ti|2097152|2199023255552
+1TB|953675|1000000000000
+007.00 m|7|7000000
+3. ki|1|3072
+0.1234561 KB|1|124
+END
+while read -r value cores cpu; do
+  told slurm $of_srun "--cpus-per-task=$cores" sh -- WDL_RUNTIME_cpu="$value"
+  told docker $of_docker --mount "$own" --workdir "$job" --cpus "$cpu" --entrypoint sh a:1 -- \
+    WDL_RUNTIME_cpu="$value" WDL_IMAGE=a:1
+done <<'END'
+1.5 2 1.5
+2 2 2
+0.5 1 0.5
+.25 1 0.25
+16.0 16 16
+08 8 8
+1.000000001 2 1.000001
+0.9999999 1 1
+END
+told docker $of_docker --mount "$own" --workdir "$job" --memory 8000000000 --entrypoint sh a:1 -- \
+  WDL_RUNTIME_memory='8 GB' WDL_IMAGE=a:1
+told podman $of_podman --mount "$own" --workdir "$job" --cpus 1.5 --memory 512000000 --entrypoint sh a:1 -- \
+  WDL_RUNTIME_memory='512 MB' WDL_RUNTIME_cpu=1.5 WDL_IMAGE=a:1 PRESENT=a:1
+told apptainer exec --bind "$job:$job" --pwd "$job" --cpus 1.5 --memory 512000000 a.sif sh -- \
+  WDL_RUNTIME_memory='512 MB' WDL_RUNTIME_cpu=1.5 WDL_IMAGE=a.sif
+for limits in no slurm; do
+  told apptainer exec --bind "$job:$job" --pwd "$job" a.sif sh -- \
+    WDL_LIMITS=$limits WDL_RUNTIME_memory='512 MB' WDL_RUNTIME_cpu=1.5 WDL_IMAGE=a.sif
+done
+told docker $of_docker --mount "$own" --workdir "$job" --entrypoint sh a:1 -- \
+  WDL_LIMITS=no WDL_RUNTIME_memory='512 MB' WDL_RUNTIME_cpu=1.5 WDL_IMAGE=a:1
+told docker $of_docker --mount "$own" --workdir "$job" --cpus 2 --entrypoint sh a:1 -- \
+  WDL_LIMITS=slurm WDL_RUNTIME_cpu=2 WDL_IMAGE=a:1
+amount='expected an amount above zero, such as 8 GB, 512 MiB or 8589934592 (bytes)'
+for script in slurm docker podman apptainer; do
+  for value in two '' 0 '0.0 GB' -8 '8 XB' '8 GB GB' 8.5.5 '8,5 GB' 1e3 '*' 99999999999999999999 '9000000 TB'; do
+    untold $script 125 "$script: \`memory\`: $amount, found \"$value\"" WDL_RUNTIME_memory="$value" WDL_IMAGE=a:1
+  done
+  for value in two '' 0 -1 '4 cores' 1.5.5 1,5 .; do
+    untold $script 125 "$script: \`cpu\`: expected a number above zero, such as 2 or 1.5, found \"$value\"" \
+      WDL_RUNTIME_cpu="$value" WDL_IMAGE=a:1
+  done
+done
+
+# srun: more of what a task asks for, which comes after WDL_SRUN_ARGS.
+told slurm $of_srun --time=5 --mem=1G '*' --cpus-per-task=2 --mem=1908M --gres=gpu:a100:2 --gpus=3 /bin/bash -- \
+  WDL_SRUN_ARGS=' --time=5  --mem=1G *' WDL_RUNTIME_cpu=2 WDL_RUNTIME_memory='2 GB' WDL_RUNTIME_gres=gpu:a100:2 \
+  WDL_RUNTIME_gpus=3 WDL_RUNTIME_gpu=true WDL_NODE_SHELL=/bin/bash
+told slurm $of_srun --gpus=1 sh -- WDL_RUNTIME_gpu=true
+told slurm $of_srun --gpus=2 sh -- WDL_RUNTIME_gpu=2
+told slurm $of_srun sh -- WDL_RUNTIME_gpu=false WDL_RUNTIME_disks=many
+untold slurm 125 'slurm: `gpu`: expected true, false or a number, found "yes"' WDL_RUNTIME_gpu=yes
+
+# Images: `container`, else `docker`, else WDL_IMAGE; of a list the first.
+list=$(printf 'b:2\nc:3')
+while IFS='|' read -r container docker image docker_image apptainer_image; do
+  [ "$container" != LIST ] || container=$list
+  [ "$docker" != LIST ] || docker=$list
+  set -- WDL_RUNTIME_container="$container" WDL_RUNTIME_docker="$docker" WDL_IMAGE="$image"
+  told docker $of_docker --mount "$own" --workdir "$job" --entrypoint sh "$docker_image" -- "$@"
+  told apptainer exec --bind "$job:$job" --pwd "$job" "$apptainer_image" sh -- "$@"
+done <<'END'
+a:1|b:1|c:1|a:1|docker://a:1
+|b:1|c:1|b:1|docker://b:1
+||c:1|c:1|c:1
+LIST|b:1|c:1|b:2|docker://b:2
+|LIST||b:2|docker://b:2
+*||c:1|c:1|c:1
+docker://quay.io/a/b:1|||quay.io/a/b:1|docker://quay.io/a/b:1
+END
+told apptainer exec --bind "$job:$job" --pwd "$job" '/images/a b.sif' bash -- \
+  WDL_RUNTIME_container='/images/a b.sif' WDL_IMAGE_SHELL=bash
+told apptainer exec --bind "$job:$job" --pwd "$job" a.sif sh -- WDL_RUNTIME_docker=a.sif
+told apptainer exec --bind "$job:$job" --pwd "$job" oras://a/b sh -- WDL_RUNTIME_container=oras://a/b
+# podman: what is there, or has a registry, is as it is; else it is one of Docker's.
+while read -r given present image; do
+  told podman $of_podman --mount "$own" --workdir "$job" --entrypoint sh "$image" -- WDL_RUNTIME_container="$given" PRESENT="$present"
+done <<'END'
+a:1 a:1 a:1
+a:1 - docker.io/a:1
+a/b:1 - docker.io/a/b:1
+docker://a/b - docker.io/a/b
+quay.io/a/b:1 - quay.io/a/b:1
+localhost/a - localhost/a
+here:5000/a - here:5000/a
+END
+told podman run --rm --init --name wdl-align-NUMBER --user 0:0 --env HOME=/tmp --security-opt label=disable \
+  --mount "$own" --workdir "$job" --network=none --entrypoint bash quay.io/a -- \
+  USER_NUMBER=0 WDL_IMAGE=quay.io/a WDL_PODMAN_ARGS=--network=none WDL_IMAGE_SHELL=bash
+for script in docker podman apptainer; do
+  untold $script 2 "$script: WDL_IMAGE names no image" WDL_RUNTIME_cpu=1 WDL_RUNTIME_container=
+  untold $script 125 "$script: \`container\`: expected an image, found \"--privileged\"" WDL_RUNTIME_docker=--privileged
+done
+
+# Mounts: the folder of --root, and input files elsewhere, each once, by paths with anything in them.
+odd="data, of:mine \"b\" 'c'"
+mkdir -p "$odd" data run/other
+for name in "$odd/a b" "$odd/c" data/d data/e data/f data/g run/other/plain; do : >"$name"; done
+ln -s "$here/data/e" run/other/link
+ln -s ../../data/f run/other/relative
+ln -s "$here/data/g" run/other/twice
+inputs() { printf '%s\0' "$@" >inputs; }
+inputs "$here/data/d" "$here/$odd/a b" "$run/other/plain" "$here//data/./d" "$run/other/link" "$run/other/relative" \
+  "$here/data/e" "$here/data/gone" relative "$run/other/twice" "$run/other/gone"
+odd_field="$here/data, of:mine \"\"b\"\" 'c'/a b"
+read_only() { echo "type=bind,source=$1,target=$1,readonly"; }
+odd_mount="type=bind,\"source=$odd_field\",\"target=$odd_field\",readonly"
+mounting() { told "$@" -- WDL_INPUTS="$here/inputs" WDL_ROOT="$run" WDL_IMAGE=a:1 PRESENT=a:1; }
+mounting docker $of_docker --mount "$(read_only "$run")" --mount "$(read_only "$here/data/d")" --mount "$odd_mount" \
+  --mount "$(read_only "$here/data/e")" --mount "$(read_only "$here/data/f")" --mount "$(read_only "$here/data/g")" \
+  --mount "$own" --workdir "$job" --entrypoint sh a:1
+mounting podman $of_podman --mount "$(read_only "$run")" --mount "$(read_only "$here/data/d")" --mount "$odd_mount" \
+  --mount "$(read_only "$here/data/e")" --mount "$(read_only "$here/data/f")" --mount "$(read_only "$here/data/g")" \
+  --mount "$own" --workdir "$job" --entrypoint sh a:1
+mounting apptainer exec --bind "$run:$run:ro" --bind "$here/data/d:$here/data/d:ro" \
+  --mount "type=bind,\"source=$odd_field\",\"destination=$odd_field\",ro" --bind "$here/data/e:$here/data/e:ro" \
+  --bind "$here/data/f:$here/data/f:ro" --bind "$here/data/g:$here/data/g:ro" --bind "$job:$job" --pwd "$job" a:1 sh
+# What WDL_MOUNTS has is mounted once.
+told docker $of_docker --mount "$(read_only "$here")" --mount "$(read_only /data)" --mount "$own" --workdir "$job" --entrypoint sh a:1 -- \
+  WDL_MOUNTS="$here/:/data::$here/data" WDL_INPUTS="$here/inputs" WDL_ROOT="$run//" WDL_IMAGE=a:1
+line_path=$(printf '%s/data/x\ny' "$here")
+: >"$line_path"
+inputs "$line_path"
+told docker $of_docker --mount "type=bind,\"source=$line_path\",\"target=$line_path\",readonly" \
+  --mount "$own" --workdir "$job" --entrypoint sh a:1 -- WDL_INPUTS="$here/inputs" WDL_IMAGE=a:1
+untold docker 125 'docker: WDL_MOUNTS: expected a whole path, found "data"' WDL_MOUNTS=/a:data WDL_IMAGE=a:1
+untold docker 125 'docker: WDL_INPUTS: cannot read /no/such/file' WDL_INPUTS=/no/such/file WDL_IMAGE=a:1
+# The job's directory too may have such a path.
+mkdir -p "$odd/t"
+job="$here/$odd/t"
+odd_field="$here/data, of:mine \"\"b\"\" 'c'/t"
+told docker $of_docker --mount "type=bind,\"source=$odd_field\",\"target=$odd_field\"" --workdir "$job" --entrypoint sh a:1 -- WDL_IMAGE=a:1
+told apptainer exec --mount "type=bind,\"source=$odd_field\",\"destination=$odd_field\"" --pwd "$job" a:1 sh -- WDL_IMAGE=a:1
+job=$run/scatter-0/1/align
+
+# Other words, a link to a script, and no client.
+for script in slurm docker podman apptainer; do
+  in_job "$scripts/$script" -c
+  [ $? = 2 ] && [ "$(cat err)" = "usage: $script -c COMMAND" ] && pass || fail "$script without a command: $(cat err)"
+  ln -s "$scripts/$script" "link to $script"
+done
+told '../../../../../../../../'"$here/link to slurm" $of_srun sh --
+mkdir tools
+for name in sh env readlink; do ln -s "$(command -v $name)" tools/$name; done
+untold docker 127 'docker: there is no program docker on the PATH' WDL_IMAGE=a:1 PATH="$here/tools"
+
+# Ends: by each signal, and where the script itself is killed.
+stops='stop -t 5 wdl-align-NUMBER\nTERM\nrm --force wdl-align-NUMBER\n'
+for pair in HUP:129 INT:130 TERM:143; do
+  ended ${pair%:*} ${pair#*:} slurm 'TERM\n'
+  ended ${pair%:*} ${pair#*:} docker "$stops"
+done
+ended TERM 143 podman "image exists a:1\n$stops"
+ended TERM 9 apptainer 'TERM\n'
+ended KILL 137 slurm 'TERM\n'
+ended KILL 137 docker "$stops"
+ended KILL 137 podman "image exists a:1\n$stops"
+unset WDL_PLACE WDL_ATTEMPT WDL_TASK
+if [ -z "${program-}" ]; then
+  conclude
+  exit
+fi
 
 echo "shells"
 # Stand-ins on the PATH: each writes its arguments into a file, one a line, and runs the command that they end with.
