@@ -160,15 +160,21 @@ told docker $of_docker --mount "$own" --workdir "$job" --entrypoint sh a:1 -- \
   WDL_LIMITS=no WDL_RUNTIME_memory='512 MB' WDL_RUNTIME_cpu=1.5 WDL_IMAGE=a:1
 told docker $of_docker --mount "$own" --workdir "$job" --cpus 2 --entrypoint sh a:1 -- \
   WDL_LIMITS=slurm WDL_RUNTIME_cpu=2 WDL_IMAGE=a:1
-amount='expected an amount above zero, such as 8 GB, 512 MiB or 8589934592 (bytes)'
-for script in slurm docker podman apptainer; do
-  for value in two '' 0 '0.0 GB' -8 '8 XB' '8 GB GB' 8.5.5 '8,5 GB' 1e3 '*' 99999999999999999999 '9000000 TB'; do
-    untold $script 125 "$script: \`memory\`: $amount, found \"$value\"" WDL_RUNTIME_memory="$value" WDL_IMAGE=a:1
-  done
-  for value in two '' 0 -1 '4 cores' 1.5.5 1,5 .; do
-    untold $script 125 "$script: \`cpu\`: expected a number above zero, such as 2 or 1.5, found \"$value\"" \
-      WDL_RUNTIME_cpu="$value" WDL_IMAGE=a:1
-  done
+# no_memory SCRIPT VALUE, no_cpu SCRIPT VALUE: what is no amount and no number.
+no_memory() {
+  untold "$1" 125 "$1: \`memory\`: expected an amount above zero, such as 8 GB, 512 MiB or 8589934592 (bytes), found \"$2\"" \
+    WDL_RUNTIME_memory="$2" WDL_IMAGE=a:1
+}
+no_cpu() {
+  untold "$1" 125 "$1: \`cpu\`: expected a number above zero, such as 2 or 1.5, found \"$2\"" WDL_RUNTIME_cpu="$2" WDL_IMAGE=a:1
+}
+for value in two '' 0 '0.0 GB' -8 '8 XB' '8 GB GB' 8.5.5 '8,5 GB' 1e3 '*' 99999999999999999999 '9000000 TB'; do
+  no_memory slurm "$value"
+done
+for value in two '' 0 -1 '4 cores' 1.5.5 1,5 .; do no_cpu slurm "$value"; done
+for script in docker podman apptainer; do
+  no_memory $script two
+  no_cpu $script two
 done
 
 # srun: more of what a task asks for, which comes after WDL_SRUN_ARGS.
@@ -325,9 +331,10 @@ workflow w { call t output { String r = t.r } }"
   expect "the shell $shell" 0 '{"w.r":"t two  blanks"}\n' '' run --root "$root" w.wdl
   PATH=$plain_path
   unset WDL_SHELL
-  if cmp -s arguments want_arguments; then pass; else
+  numbered arguments >is
+  if cmp -s is want_arguments; then pass; else
     fail "the arguments of $shell"
-    diff want_arguments arguments
+    diff want_arguments is
   fi
 }
 
@@ -341,13 +348,13 @@ by apptainer exec --bind '/data a:/data a:ro' --bind /b:/b:ro --bind "$t:$t" --p
 export WDL_APPTAINER_ARGS='--nv *' WDL_IMAGE_SHELL=bash
 by apptainer exec --bind '/data a:/data a:ro' --bind /b:/b:ro --bind "$t:$t" --pwd "$t" --nv '*' tools.sif bash
 export WDL_DOCKER_ARGS='--network=none *'
-by docker run --rm --user "$(id -u):$(id -g)" --env HOME=/tmp \
+by docker run --rm --init --name wdl-t-NUMBER --user "$(id -u):$(id -g)" --env HOME=/tmp \
   --mount 'type=bind,source=/data a,target=/data a,readonly' --mount type=bind,source=/b,target=/b,readonly \
   --mount "type=bind,source=$t,target=$t" --workdir "$t" --network=none '*' --entrypoint bash tools.sif
 unset WDL_MOUNTS WDL_SRUN_ARGS WDL_NODE_SHELL WDL_IMAGE WDL_APPTAINER_ARGS WDL_IMAGE_SHELL WDL_DOCKER_ARGS
 # A slurm that runs the command in an image on the node.
 export WDL_NODE_SHELL="$top/examples/shells/docker" WDL_IMAGE=debian:12
-by slurm run --rm --user "$(id -u):$(id -g)" --env HOME=/tmp --mount "type=bind,source=$t,target=$t" --workdir "$t" --entrypoint sh debian:12
+by slurm run --rm --init --name wdl-t-NUMBER --user "$(id -u):$(id -g)" --env HOME=/tmp --mount "type=bind,source=$t,target=$t" --workdir "$t" --entrypoint sh debian:12
 unset WDL_NODE_SHELL WDL_IMAGE
 
 # shell NAME STATUS OUT ERR VALUE COMMAND: runs a command with this value of WDL_SHELL.
