@@ -90,7 +90,7 @@ ended() {
     kill -s "$signal" "$(cat number)"
   ) &
   set -- sh -c 'echo $$ >"$0" && exec "$@"' "$here/number" "$scripts/$script" -c "$line"
-  (in_job WAITS=yes WDL_IMAGE=a:1 "$@"; exit $?) 2>/dev/null
+  (in_job WAITS=yes WDL_IMAGE=a:1 WDL_GRACE="${grace-}" "$@"; exit $?) 2>/dev/null
   got=$?
   wait
   tries=0
@@ -281,15 +281,15 @@ untold docker 127 'docker: there is no program docker on the PATH' WDL_IMAGE=a:1
 
 # Ends: by each signal, and where the script itself is killed.
 stops='stop -t 5 wdl-align-NUMBER\nTERM\nrm --force wdl-align-NUMBER\n'
-for pair in HUP:129 INT:130 TERM:143; do
-  ended ${pair%:*} ${pair#*:} slurm 'TERM\n'
-  ended ${pair%:*} ${pair#*:} docker "$stops"
-done
+for pair in HUP:129 INT:130 TERM:143; do ended ${pair%:*} ${pair#*:} docker "$stops"; done
 ended TERM 143 podman "image exists a:1\n$stops"
 ended TERM 9 apptainer 'TERM\n'
-ended KILL 137 slurm 'TERM\n'
 ended KILL 137 docker "$stops"
 ended KILL 137 podman "image exists a:1\n$stops"
+grace=0
+ended TERM 143 docker 'stop -t 0 wdl-align-NUMBER\nTERM\nrm --force wdl-align-NUMBER\n'
+# srun gets INT first, which a stand-in that the script has started in the background does not see.
+for pair in HUP:129 INT:130 TERM:143 KILL:137; do ended ${pair%:*} ${pair#*:} slurm 'TERM\n'; done
 unset WDL_PLACE WDL_ATTEMPT WDL_TASK
 if [ -z "${program-}" ]; then
   conclude

@@ -9,6 +9,7 @@
 #   WDL_IMAGE               the image of a task that names none
 #   WDL_MOUNTS              further folders that containers may read, separated by colons
 #   WDL_LIMITS=no           containers get no limits of cpu and memory
+#   WDL_GRACE               the seconds that a command has when the run is ended: 5
 #
 # A program that sets none of the first four is served too.
 # shellcheck disable=SC2034,SC2154 # The scripts use the variables that are set here, and set `self`.
@@ -285,9 +286,9 @@ name_container() {
   container=wdl-$call-$(od -An -N8 -tx1 /dev/urandom | tr -d ' \n')
 }
 
-# end_container ENGINE PROCESS: ends the container `container`, which gets five seconds, and the client, which may have got no further than the image.
+# end_container ENGINE PROCESS: ends the container `container`, which gets WDL_GRACE seconds, and the client, which may have got no further than the image.
 end_container() {
-  "$1" stop -t 5 "$container"
+  "$1" stop -t "${WDL_GRACE:-5}" "$container"
   kill -TERM "$2"
   "$1" rm --force "$container"
 } >/dev/null 2>&1
@@ -308,6 +309,8 @@ run_client() {
     trap "end_script $((128 + signal))" "$signal"
   done
   open_pipe
+  # The client is ended by this script, and not by the mark.
+  unset WDL_RUN
   eval "$words" '3>&- 4<&- &'
   client=$!
   watch
@@ -343,7 +346,6 @@ watch() {
   [ "$piped" ] || return 0
   session=$(command -v setsid)
   (
-    unset WDL_RUN
     cd /
     # shellcheck disable=SC2086 # It may be nothing.
     exec $session sh "$self" --watch "$client" "${container-}"
