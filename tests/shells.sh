@@ -258,7 +258,7 @@ line_path=$(printf '%s/data/x\ny' "$here")
 inputs "$line_path"
 told docker $of_docker --mount "type=bind,\"source=$line_path\",\"target=$line_path\",readonly" \
   --mount "$own" --workdir "$job" --entrypoint sh a:1 -- WDL_INPUTS="$here/inputs" WDL_IMAGE=a:1
-untold docker 125 'docker: WDL_MOUNTS: expected a whole path, found "data"' WDL_MOUNTS=/a:data WDL_IMAGE=a:1
+untold docker 125 'docker: WDL_MOUNTS: expected an absolute path, found "data"' WDL_MOUNTS=/a:data WDL_IMAGE=a:1
 untold docker 125 'docker: WDL_INPUTS: cannot read /no/such/file' WDL_INPUTS=/no/such/file WDL_IMAGE=a:1
 # The job's directory too may have such a path.
 mkdir -p "$odd/t"

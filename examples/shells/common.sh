@@ -1,20 +1,25 @@
 # shellcheck shell=sh
-# What the scripts of this folder share: they source this file, which must lie beside them. It reads what `wdl` tells a job about its task, and runs a client
-# (srun, docker, ..) so that it ends with the script. Nothing is started before all values were understood.
+# What the scripts of this folder share: they source this file, which must lie beside them. It
+# reads what `wdl` tells a job about its task, and runs a client (srun, docker, ..) so that it
+# ends with the script. Nothing is started before all values were understood.
 #
-#   WDL_PLACE               the place of the call, such as scatter-0/1/align
-#   WDL_ROOT                the folder of --root
-#   WDL_INPUTS              a file with the paths of the input files, each ended by a NUL
-#   WDL_RUNTIME_NAME        the value of the runtime attribute NAME: cpu, memory, container, docker, gpu ..
-#   WDL_IMAGE               the image of a task that names none
-#   WDL_MOUNTS              further folders that containers may read, separated by colons
-#   WDL_LIMITS=no           containers get no limits of cpu and memory
-#   WDL_GRACE               the seconds that a command has when the run is ended: 5
+# `wdl` sets these variables; a version that sets none of them is served too:
 #
-# A program that sets none of the first four is served too.
-# shellcheck disable=SC2034,SC2154 # The scripts use the variables that are set here, and set `self`.
+#   WDL_PLACE, WDL_TASK  the place and the name of the call, such as scatter-0/1/align and align
+#   WDL_ROOT             the folder of --root
+#   WDL_INPUTS           a file with the paths of the input files, each ended by a NUL
+#   WDL_RUNTIME_NAME     the value of the runtime attribute NAME: cpu, memory, container, gpu ..
+#
+# A user sets these, and those that a script names:
+#
+#   WDL_IMAGE   the image of a task that names none
+#   WDL_MOUNTS  further folders that containers may read, separated by colons
+#   WDL_LIMITS  no: containers get no limits of cpu and memory
+#   WDL_GRACE   the seconds that a command has left when the run is ended: 5
+#
+# The functions set the variables that they name. A script has set `self`, its own path.
+# shellcheck disable=SC2034,SC2154
 
-# The functions below set the variables that they name. The script has set `self`, its own path.
 script=${self##*/}
 newline='
 '
@@ -39,7 +44,8 @@ take_command() {
   command=$2
 }
 
-# add_words WORD..: adds to `words`, which are the client and its arguments, each in quotes for `eval`.
+# add_words WORD..: adds to `words`, which are the client and its arguments, each in quotes for
+# `eval`.
 add_words() {
   for word; do
     quoted=
@@ -63,8 +69,8 @@ trim() {
   text=${text%"${text##*[!"$blanks"]}"}
 }
 
-# read_number TEXT: sets `whole` and `millionths` from a decimal number above zero, such as 8, 0.5 or .5; what is smaller than a millionth is rounded up.
-# It fails where TEXT is no such number.
+# read_number TEXT: sets `whole` and `millionths` from a decimal number above zero, such as 8, 0.5
+# or .5; what is smaller than a millionth is rounded up. It fails where TEXT is no such number.
 read_number() {
   case $1 in '' | . | *.*.* | *[!0-9.]*) return 1 ;; esac
   whole=${1%%.*}
@@ -79,7 +85,8 @@ read_number() {
   [ "${#whole}" -le 15 ] && [ "$whole$millionths" != 00 ]
 }
 
-# unit_of NAME: sets `unit` to the bytes of a unit of OpenWDL, whose case does not matter: KB is 1000 bytes, KiB is 1024; the B may be left out.
+# unit_of NAME: sets `unit` to the bytes of a unit of OpenWDL, whose case does not matter: KB is
+# 1000 bytes, KiB is 1024; the B may be left out.
 unit_of() {
   case $1 in
     '' | [bB]) unit=1 ;;
@@ -95,7 +102,8 @@ unit_of() {
   esac
 }
 
-# memory_of TEXT: sets `bytes`, rounded up. It fails where TEXT is no amount of memory, or one of seven exabytes and more.
+# memory_of TEXT: sets `bytes`, rounded up. It fails where TEXT is no amount of memory, or one of
+# seven exabytes and more.
 memory_of() {
   trim "$1"
   amount=${text%%[!0-9.]*}
@@ -105,21 +113,24 @@ memory_of() {
   bytes=$((whole * unit + (millionths * unit + 999999) / 1000000))
 }
 
-# read_memory: sets `bytes` and `mebibytes` to what the task asks for, and to nothing where it asks for none.
+# read_memory: sets `bytes` and `mebibytes` to what the task asks for, and to nothing where it
+# asks for none.
 read_memory() {
   bytes='' mebibytes=''
   [ "${WDL_RUNTIME_memory+set}" ] || return 0
-  memory_of "$WDL_RUNTIME_memory" ||
-    refuse "\`memory\`: expected an amount above zero, such as 8 GB, 512 MiB or 8589934592 (bytes), found \"$WDL_RUNTIME_memory\""
+  memory_of "$WDL_RUNTIME_memory" || refuse "\`memory\`: expected an amount above zero," \
+    "such as 8 GB, 512 MiB or 8589934592 (bytes), found \"$WDL_RUNTIME_memory\""
   mebibytes=$(((bytes + 1048575) / 1048576))
 }
 
-# read_cpu: sets `cpu`, a decimal number, and `cores`, that number rounded up, and both to nothing where the task asks for none.
+# read_cpu: sets `cpu`, a decimal number, and `cores`, that number rounded up, and both to nothing
+# where the task asks for none.
 read_cpu() {
   cpu='' cores=''
   [ "${WDL_RUNTIME_cpu+set}" ] || return 0
   trim "$WDL_RUNTIME_cpu"
-  read_number "$text" || refuse "\`cpu\`: expected a number above zero, such as 2 or 1.5, found \"$WDL_RUNTIME_cpu\""
+  read_number "$text" ||
+    refuse "\`cpu\`: expected a number above zero, such as 2 or 1.5, found \"$WDL_RUNTIME_cpu\""
   millionths=$((1000000 + millionths))
   cores=$((whole + (millionths + 999999) / 1000000 - 1))
   whole=$((whole + millionths / 1000000 - 1))
@@ -135,7 +146,8 @@ read_limits() {
   case ${WDL_LIMITS-} in no) cpu='' bytes='' ;; esac
 }
 
-# read_image: sets `image` to the first image of `container`, else of `docker`, else to WDL_IMAGE. Only then is `named` empty.
+# read_image: sets `image` to the first image of `container`, else of `docker`, else to WDL_IMAGE.
+# Only then is `named` empty.
 read_image() {
   for named in "${WDL_RUNTIME_container-}" "${WDL_RUNTIME_docker-}"; do
     trim "${named%%"$newline"*}"
@@ -151,7 +163,8 @@ read_image() {
   case $image in -*) refuse "\`container\`: expected an image, found \"$image\"" ;; esac
 }
 
-# csv FIELD..: sets `line` to a line of comma-separated values, with quotes around a field where it needs them.
+# csv FIELD..: sets `line` to a line of comma-separated values, with quotes around a field where
+# it needs them.
 csv() {
   line=
   for field; do
@@ -182,7 +195,8 @@ mount_option() {
   add_words --mount "$line"
 }
 
-# tidy PATH: sets `text` to the path without what changes nothing in it: `//`, `/./` and a slash at its end.
+# tidy PATH: sets `text` to the path without what changes nothing in it: `//`, `/./` and a slash
+# at its end.
 tidy() {
   text=$1/
   while :; do
@@ -206,9 +220,14 @@ is_readable() {
   return 1
 }
 
-# add_folder NAME FOLDER: mounts a folder of the variable NAME for reading, where none of `folders` has it, and adds it to them.
+# add_folder NAME FOLDER: mounts a folder of the variable NAME for reading, where none of
+# `folders` has it, and adds it to them.
 add_folder() {
-  case $2 in '') return 0 ;; /*) ;; *) refuse "$1: expected a whole path, found \"$2\"" ;; esac
+  case $2 in
+    '') return 0 ;;
+    /*) ;;
+    *) refuse "$1: expected an absolute path, found \"$2\"" ;;
+  esac
   tidy "$2"
   is_readable "$text" && return
   folders=$folders$text$newline
@@ -226,7 +245,8 @@ add_folders() {
   add_folder WDL_ROOT "${WDL_ROOT-}"
 }
 
-# print_path PATH: prints it as a line in which the character 1 stands for a newline. The next one sets `path` from such a line.
+# print_path PATH: prints it as a line in which the character 1 stands for a newline. The next one
+# sets `path` from such a line.
 print_path() {
   case $1 in *"$newline"*) printf '%s' "$1" | tr '\n' '\001' && echo ;; *) printf '%s\n' "$1" ;; esac
 }
@@ -240,8 +260,9 @@ path_of() {
   esac
 }
 
-# print_mounts PATH: prints the path of an input file, where it has to be mounted. What is in a folder of `folders` has not, but where it is a link, what it
-# leads to. A file that is not there is left to the command.
+# print_mounts PATH: prints the path of an input file, where it has to be mounted. What is in a
+# folder of `folders` has not, but where it is a link, what it leads to. A file that is not there
+# is left to the command.
 print_mounts() {
   case $1 in /*) tidy "$1" ;; *) return 0 ;; esac
   [ -e "$text" ] || return 0
@@ -262,8 +283,8 @@ print_inputs() {
   done | LC_ALL=C awk '!seen[$0]++'
 }
 
-# add_mounts: mounts all that the command may read, and at last the directory of the job, which it may write to. A script has the function
-# `mount_path PATH read|write`.
+# add_mounts: mounts all that the command may read, and at last the directory of the job, which it
+# may write to. A script has the function `mount_path PATH read|write`.
 add_mounts() {
   add_folders
   if [ "${WDL_INPUTS-}" ]; then
@@ -279,14 +300,16 @@ add_mounts() {
   mount_path "$PWD" write
 }
 
-# name_container: sets `container` to a name that no other container has. It has the name of the call.
+# name_container: sets `container` to a name that no other container has. It has the name of the
+# call.
 name_container() {
   call=${WDL_TASK:-${PWD##*/}}
   case $call in *[!A-Za-z0-9_.-]*) call=job ;; esac
   container=wdl-$call-$(od -An -N8 -tx1 /dev/urandom | tr -d ' \n')
 }
 
-# end_container ENGINE PROCESS: ends the container `container`, which gets WDL_GRACE seconds, and the client, which may have got no further than the image.
+# end_container ENGINE PROCESS: ends the container `container`, which gets WDL_GRACE seconds, and
+# the client, which may have got no further than the image.
 end_container() {
   "$1" stop -t "${WDL_GRACE:-5}" "$container"
   kill -TERM "$2"
@@ -300,8 +323,9 @@ find_client() {
   exit 127
 }
 
-# run_client: runs the client of `words`, and ends with its status. Where the script is ended, by HUP, INT, QUIT or TERM, it ends the client by the function
-# `end_client PROCESS` of the script; where it is killed, a process that it leaves does.
+# run_client: runs the client of `words`, and ends with its status. Where the script is ended, by
+# HUP, INT, QUIT or TERM, it ends the client by the function `end_client PROCESS` of the script;
+# where it is killed, a process that it leaves does.
 run_client() {
   client=
   for signal in 1 2 3 15; do
@@ -331,7 +355,8 @@ end_script() {
   exit "$1"
 }
 
-# open_pipe: makes a pipe whose ends are 3 and 4. Where the job's directory takes none, `piped` is empty, and nothing watches.
+# open_pipe: makes a pipe whose ends are 3 and 4. Where the job's directory takes none, `piped` is
+# empty, and nothing watches.
 open_pipe() {
   piped=
   mkfifo .wdl-pipe 2>/dev/null || return 0
@@ -340,8 +365,9 @@ open_pipe() {
   rm -f .wdl-pipe
 }
 
-# watch: leaves a process that ends the client when the script has ended without `release`. It is no part of the run: it has a session of its own, and not the
-# mark by which `wdl` finds the processes of its jobs.
+# watch: leaves a process that ends the client when the script has ended without `release`. It is
+# no part of the run: it has a session of its own, and not the mark by which `wdl` finds the
+# processes of its jobs.
 watch() {
   [ "$piped" ] || return 0
   session=$(command -v setsid)
