@@ -7,10 +7,14 @@ if [ -z "${program-}" ]; then
   cd "$work" || exit 1
 fi
 
+unset WDL_PODMAN_ARGS WDL_LIMITS WDL_GRACE WDL_ROOT WDL_INPUTS WDL_RUN SLURM_DISABLE_STATUS
+unset WDL_RUNTIME_cpu WDL_RUNTIME_memory WDL_RUNTIME_container WDL_RUNTIME_docker
+unset WDL_RUNTIME_gpu WDL_RUNTIME_gpus WDL_RUNTIME_gres
+
 echo "the scripts alone"
 # Programs on the PATH that write their arguments into the file `recorded`, one a line, and end
 # with 7. Where WAITS is set they wait for TERM. What `stop`, `rm` and `image exists` are given, and
-# a TERM, is written into `noted`.
+# a TERM, is written into `noted`, and some variables that they have into `told`.
 scripts=$top/examples/shells
 mkdir recorders
 cat >recorders/srun <<'EOF'
@@ -22,6 +26,7 @@ case ${0##*/}:$1 in
     exit
     ;;
 esac
+echo "${WDL_RUN-none} ${WDL_LIMITS-none} ${SLURM_DISABLE_STATUS-none}" >"$RECORDS/told"
 printf '[%s]\n' "$@" >"$RECORDS/new"
 if [ "${WAITS-}" ]; then
   trap 'echo TERM >>"$RECORDS/noted"; kill $!; exit 9' TERM
@@ -267,6 +272,13 @@ odd_field="$here/data, of:mine \"\"b\"\" 'c'/t"
 told docker $of_docker --mount "type=bind,\"source=$odd_field\",\"target=$odd_field\"" --workdir "$job" --entrypoint sh a:1 -- WDL_IMAGE=a:1
 told apptainer exec --mount "type=bind,\"source=$odd_field\",\"destination=$odd_field\"" --pwd "$job" a:1 sh -- WDL_IMAGE=a:1
 job=$run/scatter-0/1/align
+
+# The mark of the run is that of the script, which ends its client, and of Apptainer, which is the
+# script. `slurm` tells the command's script that the step has limits, and srun to pass INT on.
+for pair in 'slurm:none slurm 1' 'docker:none none none' 'podman:none none none' 'apptainer:mark none none'; do
+  in_job WDL_RUN=mark WDL_IMAGE=a:1 "$scripts/${pair%%:*}" -c "$line"
+  same "the variables of ${pair%%:*}" "${pair#*:}" "$(cat told)"
+done
 
 # Other words, a link to a script, and no client.
 for script in slurm docker podman apptainer; do
