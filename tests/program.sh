@@ -262,11 +262,19 @@ called "in another folder" remembered sh -c 'cd tools && ../wdl check a'
 called "by sh" remembered sh wdl check a
 touch crates/wdl_base/must-fail/b.edit README.md
 called "after a change of what is no source" remembered ./wdl check a
-for file in 1.names 1.state 4.names 4.state; do
-  echo damaged >"out/known/$file"
-  called "a damaged $file" summed ./wdl check a
-  called "after a damaged $file" remembered ./wdl check a
+# lists: where the lists of the memory are.
+lists() { echo out/known/$(cut -d ' ' -f 1 out/known/now); }
+for file in now 1 4; do
+  for text in damaged ''; do
+    [ $file = now ] && file_of=out/known/now || file_of=$(lists)/$file
+    printf '%s' "$text" >"$file_of"
+    called "$file is '$text'" summed ./wdl check a
+    called "after that" remembered ./wdl check a
+  done
 done
+rm -r "$(lists)"
+called "lists that are gone" summed ./wdl check a
+called "after that" remembered ./wdl check a
 mv out/built out/elsewhere
 expect "a program that is gone" 126 '' '*no program for these sources*' without_toolchain ./wdl check a
 mv out/elsewhere out/built
@@ -280,16 +288,19 @@ rm -rf out/known
 for call in 1 2 3 4 5 6; do without_toolchain ./wdl check "$call" >"$work/call.$call" 2>&1 & done
 wait
 same "calls at once" "$(printf 'first: check %s\n' 1 2 3 4 5 6)" "$(cat "$work"/call.*)"
-same "what calls at once leave" "$(printf '%s\n' 1.names 1.state 2.names 2.state 3.names 3.state 4.names 4.state)" "$(ls -A out/known)"
+same "what calls at once leave" '1 2 3 4' "$(ls -A "$(lists)" | tr '\n' ' ' | sed 's/ $//')"
 called "after calls at once" remembered ./wdl check a
+touch -d '1 hour ago' out/known/new.*
+touch $lowest
+settle
+same "old lists" "$(lists)" "$(echo out/known/new.*)"
 
 # The repository is moved, and an older one takes its place, whose sources are those that dist/ was built from.
 cp -Rp "$copy" "$work/another"
 echo second >"$work/another/$lowest"
 settle
 mv "$copy" "$work/moved" && cd "$work/moved"
-called "a moved repository" summed ./wdl check a
-called "a moved repository, a second time" remembered ./wdl check a
+called "a moved repository" remembered ./wdl check a
 mv "$work/another" "$copy" && cd "$copy"
 expect "another repository in its place" 0 'second: check a' '' without_toolchain ./wdl check a
 mv "$copy" "$work/another" && mv "$work/moved" "$copy" && cd "$copy"
@@ -301,8 +312,20 @@ expect "a build by another toolchain" 0 "$copy/out/built/$sources/wdl" '*proving
 called "after that build" summed ./wdl check a
 grep -q 'kit 2' "$(without_toolchain tools/program.sh)" && pass || fail "the program of the other toolchain"
 
+# dist/ changes, where the program is the shipped one.
+expect "a release of these sources" 0 '' '*' with_toolchain tools/release.sh
+cp -Rp dist "$work/dist"
+fresh
+settle
+called "what is shipped, remembered" remembered ./wdl check a
+printf '#!/bin/sh\n# shipped anew\n[ $# -gt 0 ] || exit 2\necho "anew: $*"\n' >"$work/program"
+gzip -nc "$work/program" >dist/wdl-x86_64-linux.gz
+sed -i "s/^program .*/program $(sha256sum <"$work/program" | cut -d ' ' -f 1)/" dist/origin
+expect "another program is shipped" 0 'anew: check a' '' without_toolchain ./wdl check a
+rm -r dist && mv "$work/dist" dist
+expect "the first is shipped again" 0 'first: check a' '' without_toolchain ./wdl check a
+
 # Where the checkout cannot be written, the memory is in the cache. It is not taken for another checkout at the same path.
-expect "a release for strangers" 0 '' '*' with_toolchain tools/release.sh
 fresh
 rm -rf "$work/other/.cache" "$work/another/out"
 chmod -R a-w . "$work/another"

@@ -1,46 +1,54 @@
-# Remembers which program was found for the sources, so that a later call need not sum them. tools/program.sh reads this file, and has set `top` and `cache`.
+# Remembers which program was found for the sources, so that a later call need not sum them. wdl and tools/program.sh read this file, and have set `top`.
 #
-# A memory is a folder with four parts, which are compared at once. A part is a file of names, and one of their state: the program, and the inode, the size and the
-# time of change of each name. To write, add, remove, rename or replace a source changes one of these, whatever time of modification it is given. Each file is
-# replaced as a whole and each state names its program, so that calls may read and write at the same time.
+# A memory is a folder. Its file `now` is one line: a folder beside it with four lists, which are looked at at once, a time, and the program. This is the program of the
+# sources as long as nothing that the lists name was changed after that time: to write, add, remove, rename or replace a source sets the time of change of a name,
+# whatever time of modification it is given. `now` is replaced as a whole, so calls may read and write at the same time.
+#
+# The memory of a checkout that cannot be written is in the cache. There a container may find it that has other sources at the same path, all of them older than it. So
+# there the inode, the size and the time of change of each name must be the same as well.
 
-# look NAMES TEST..: looks at what that file names, and ends the shell, so it is for subshells. It fails where something is not there, and where `find` is older
-# than 4.9. state NAMES: prints the state of what that file names.
+# look LIST TEST..: tests what the list names. It ends the shell, so it is for subshells, and fails where something is not there, and where `find` is older than 4.9.
 look() {
-  names=$1
+  list=$1
   shift
-  cd "$top" && exec find -H -files0-from "$names" -maxdepth 0 "$@" 2>/dev/null
+  [ -s "$list" ] && CDPATH= cd -- "$top" && exec find -H -files0-from "$list" -maxdepth 0 "$@" 2>/dev/null
 }
+
+# unchanged LIST: whether nothing that it names was changed after the time `since`. state LIST: prints the state of what it names. same_state LIST: whether that is
+# as it was. Each of them ends the shell.
+unchanged() { look "$1" -newerct "$since" -exec false {} +; }
 state() { look "$1" -printf '%i %s %C@\n'; }
-
-# unchanged MEMORY: whether all of it is as it was when `program` was found.
-unchanged() {
-  changed=$(
-    for part in 1 2 3 4; do
-      { { echo "$program" && state "$1/$part.names"; } | cmp -s - "$1/$part.state" 2>/dev/null || echo "$part"; } &
-    done
-    wait
-  )
-  [ -z "$changed" ]
+same_state() {
+  state "$1" | cmp -s - "$1.state"
+  exit
 }
 
-# known: prints the program that is remembered for the sources as they are.
+# all_four FOLDER TEST: whether the test holds for each of the lists.
+all_four() {
+  ("$2" "$1/1") & first=$!
+  ("$2" "$1/2") & second=$!
+  ("$2" "$1/3") & third=$!
+  ("$2" "$1/4") && wait "$first" && wait "$second" && wait "$third"
+}
+
+# known MEMORY TEST: whether the program is remembered for the sources as they are. It sets `program`.
 known() {
-  for memory in "$top/out/known" "$cache/known$top"; do
-    [ -r "$memory/1.state" ] && read -r program <"$memory/1.state" && unchanged "$memory" && echo "$program" && return
-  done
-  return 1
+  [ -r "$1/now" ] && read -r lists since program <"$1/now" || return
+  case $1 in /*) memory=$1 ;; *) memory=$PWD/$1 ;; esac
+  case $program in /*) ;; *) program=$top/$program ;; esac
+  [ -f "$program" ] && [ -x "$program" ] && all_four "$memory/$lists" "$2"
 }
 
-# note: writes the names and the state of the sources to the new folder `noted`, before they are summed. It fails where something changed within two seconds before
-# it or meanwhile: if it changes again at once, the time of change may stay the same.
+# note: lists the sources in the new folder `noted`, before they are summed. It fails where something was changed within two seconds before it or meanwhile: if it is
+# changed again at once, its time of change may stay the same. (The clock is that of the file system, which may be another machine's.)
 note() {
-  old=@$(($(date +%s) - 2))
-  "$top/tools/sources.sh" --names >"$noted/names" || return
+  since=$(find "$noted" -maxdepth 0 -printf '%C@') && since=@$((${since%.*} - 2)) || return
+  { "$top/tools/sources.sh" --names && cd "$top" && find dist -print0 2>/dev/null; } >"$noted/names"
   for part in 1 2 3 4; do
-    tr '\0' '\n' <"$noted/names" | awk -v part="$part" 'NR % 4 == part - 1' | tr '\n' '\0' >"$noted/$part.names"
-    (state "$noted/$part.names") >"$noted/$part.noted" && recent=$(look "$noted/$part.names" -newerct "$old") && [ -z "$recent" ] || return
+    tr '\0' '\n' <"$noted/names" | awk -v part="$part" 'NR % 4 == part - 1' | tr '\n' '\0' >"$noted/$part"
+    [ "$memory" = "$top/out/known" ] || (state "$noted/$part") >"$noted/$part.state" || return
   done
+  rm "$noted/names" && chmod 755 "$noted" && all_four "$noted" unchanged
 }
 
 # watch: begins a memory, where it can be written. forget: gives it up.
@@ -55,12 +63,11 @@ forget() {
   noted=
 }
 
-# remember PROGRAM: completes the memory.
+# remember PROGRAM: completes the memory, and removes old lists. (Younger ones may be those of other calls.)
 remember() {
   [ "$noted" ] || return 0
-  printf '%s\0' "$1" >"$noted/program"
-  cat "$noted/program" >>"$noted/1.names" && (state "$noted/program") >>"$noted/1.noted" || return
-  for part in 1 2 3 4; do
-    { echo "$1" && cat "$noted/$part.noted"; } >"$noted/$part.state" && mv "$noted/$part.names" "$noted/$part.state" "$memory" || return
-  done
-}
+  own=${noted##*/}
+  echo "$own $since ${1#"$top"/}" >"$noted/now" && mv "$noted/now" "$memory/now" || return
+  noted=
+  find "$memory" -maxdepth 1 -name 'new.*' ! -name "$own" -mmin +1 -exec rm -rf {} +
+} 2>/dev/null

@@ -12,7 +12,10 @@ origin() { awk -v key="$1" '$1 == key { print $2 }' "$top/dist/origin" 2>/dev/nu
 . "$top/tools/known.sh"
 noted=
 if [ "$built" ]; then
-  known && exit
+  if known "$top/out/known" unchanged || known "$cache/known$top" same_state; then
+    echo "$program"
+    exit
+  fi
   trap forget EXIT
   trap 'exit 1' HUP INT TERM
   watch
@@ -24,28 +27,30 @@ found() {
   echo "$1"
   exit
 }
-for place in ${built:+"$built"} "$top/out/shipped" "$cache"; do
-  [ ! -x "$place/$sources/wdl" ] || found "$place/$sources/wdl"
+packed=
+[ "$(origin sources)" != "$sources" ] || packed=$(origin program)
+for place in ${built:+"$built/$sources"} ${packed:+"$top/out/shipped/$packed" "$cache/$packed"}; do
+  [ ! -x "$place/wdl" ] || found "$place/wdl"
 done
 
 # unpack FILE: unpacks the shipped program into FILE. It fails where that program is damaged or does not start on this machine.
 unpack() {
   gzip -dc "$shipped" >"$1" 2>/dev/null
-  [ "$(sha256sum <"$1" | cut -d ' ' -f 1)" = "$(origin program)" ] || { say "$shipped is damaged"; return 1; }
+  [ "$(sha256sum <"$1" | cut -d ' ' -f 1)" = "$packed" ] || { say "$shipped is damaged"; return 1; }
   chmod 755 "$1"
   "$1" >/dev/null 2>&1 </dev/null
   [ $? = 2 ] || { say "the program in dist/ does not start on this machine: it needs Linux on x86-64 with glibc 2.34 or later"; return 1; }
 }
 
-if [ "$(origin sources)" = "$sources" ]; then
-  for place in "$top/out/shipped" "$cache"; do
-    mkdir -p "$place/$sources" 2>/dev/null && new=$(mktemp "$place/$sources/new.XXXXXX" 2>/dev/null) && break
+if [ "$packed" ]; then
+  for place in "$top/out/shipped/$packed" "$cache/$packed"; do
+    mkdir -p "$place" 2>/dev/null && new=$(mktemp "$place/new.XXXXXX" 2>/dev/null) && break
     new=
   done
   [ "$new" ] || { say "cannot unpack the program: neither $top/out nor $cache is writable (XDG_CACHE_HOME can name another folder)"; exit 126; }
-  unpack "$new" && mv "$new" "$place/$sources/wdl" && found "$place/$sources/wdl"
+  unpack "$new" && mv "$new" "$place/wdl" && found "$place/wdl"
   rm -f "$new"
-  rmdir "$place/$sources" 2>/dev/null
+  rmdir "$place" 2>/dev/null
 else
   say "dist/ has no program for these sources"
 fi
