@@ -1,6 +1,6 @@
 #!/bin/sh
-# Tests ./wdl, tools/ and .ci/run on a copy of the repository that has five crates of one line each, and where scripts replace the toolchain, tools/prove.py and
-# tests/run.sh. Its last line is 'N passed, M failed'; it ends non-zero where a check failed.
+# Tests ./wdl, tools/ and .ci/run on a copy of the repository that has five crates of one line each, and where scripts replace the toolchain, tools/prove.py,
+# tests/prove.sh and tests/run.sh. Its last line is 'N passed, M failed'; it ends non-zero where a check failed.
 . "$(dirname -- "$0")/checks.sh"
 copy=$work/copy
 
@@ -30,6 +30,7 @@ cat >"$copy/tests/run.sh" <<'END'
 case $1 in */out/built/*) echo "tests of what was built" ;; */out/shipped/*) echo "tests of what is shipped" ;; esac
 ! grep -q fails "$1"
 END
+echo '[ ! -f ../unproved ] && echo "the tool refuses"' >"$copy/tests/prove.sh"
 # It has kept every result where there is a file `results`, which is the program.
 cat >"$copy/tools/prove.py" <<'END'
 #!/bin/sh
@@ -58,7 +59,7 @@ build() {
 }
 case $1 in
   version) echo "${KIT:-kit 1}" ;;
-  --help) echo "rt ci ${KEEPS:+[--anew]}" ;;
+  --help) echo "rt ci ${KEEPS:+[--anew]}" >&2 ;;
   run) top=$(cd ../.. && pwd) && build && shift 4 && ./out/wdl "$@" ;;
   ci) echo "all proved" && top=$PWD && rm -rf crates/*/out && build ;;
 esac
@@ -123,7 +124,11 @@ expect "the gate" 0 "$tested" '' gate
 
 # What was proved before on this machine is taken only where `rt ci` itself keeps nothing.
 cp crates/wdl/out/wdl "$work/results"
-expect "a gate over kept results" 0 "$(printf '5 results are kept\nthe gate takes these results of tools/prove.py\ntests of what was built')" '' gate
+taken=$(printf '5 results are kept\nthe tool refuses\nthe gate takes these results of tools/prove.py\ntests of what was built')
+expect "a gate over kept results" 0 "$taken" '' gate
+: >"$work/unproved"
+expect "a gate over kept results of a tool that passes what it should refuse" 0 "$(printf '5 results are kept\nall proved\ntests of what was built')" '' gate
+rm "$work/unproved"
 expect "a gate with a toolchain that keeps results itself" 0 "$(printf 'all proved\ntests of what was built')" '' with_toolchain env KEEPS=yes sh .ci/run
 rm "$work/results"
 # Another toolchain builds other bytes.

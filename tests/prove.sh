@@ -2,14 +2,29 @@
 # Shows on scratch repositories of tiny crates that tools/prove.py refuses what `rt ci` refuses, and that what it keeps hides no mistake.
 # It needs the toolchain, and ten minutes of a processor. Its last line is 'N passed, M failed'; it ends non-zero where a check failed.
 #
-#   tests/prove.sh [files] [steps] [results] [kept]
+#   tests/prove.sh [files] [steps] [results] [kept] [shared]
 #
-# runs these parts alone.
+# runs these parts alone. The first four are about results that the tool keeps itself, also where `rt ci` keeps some; `shared` is about those.
 . "$(dirname -- "$0")/checks.sh"
 PATH="$PATH:/opt/rattle/bin"
 WDL_KEPT=$work/kept
 export PATH WDL_KEPT
-unset GIT_DIR GIT_WORK_TREE
+unset GIT_DIR GIT_WORK_TREE CI
+
+# own_rt WORDS..: rt with these words. Where the toolchain keeps results, it keeps them in a store of this script alone, which the tool uses as well.
+own_rt() {
+  python3 -c '
+import importlib.machinery, importlib.util, os, shutil, sys
+sys.dont_write_bytecode = True
+loader = importlib.machinery.SourceFileLoader("rt", os.path.realpath(shutil.which("rt")))
+rt = importlib.util.module_from_spec(importlib.util.spec_from_loader("rt", loader))
+loader.exec_module(rt)
+rt.STORE = os.environ["WDL_KEPT"] + "/rattle-kept"
+rt.WORK = rt.STORE + "/work"
+sys.exit(rt.main(sys.argv[1:]))' "$@"
+}
+# has_store: whether `rt ci` keeps results.
+has_store() { rt --help 2>&1 | grep -q -e --anew; }
 
 # repository NAME: makes the empty repository NAME with the tool, and goes there.
 repository() {
@@ -55,7 +70,9 @@ open(path, "w", encoding="utf-8").write(text.replace(old, new))
 END
 }
 
-prove() { python3 tools/prove.py --lanes 1 "$@" >said 2>&1; }
+# prove WORDS..: the tool, with results of its own. prove_shared WORDS..: the same with those of `rt ci`.
+prove() { WDL_OWN_STORE=yes python3 tools/prove.py --lanes 1 "$@" >said 2>&1; }
+prove_shared() { python3 tools/prove.py --lanes 1 "$@" >said 2>&1; }
 
 # holds NAME TEXT [FILE]: the file, or what the tool said, has the text.
 holds() {
@@ -74,7 +91,11 @@ lacks() {
 refused() {
   prove && fail "$1: tools/prove.py passes"
   holds "$1 (tools/prove.py)" "$2"
-  rt ci >ci 2>&1 && fail "$1: rt ci passes"
+  if has_store; then
+    prove_shared && fail "$1: tools/prove.py with a shared store passes"
+    holds "$1 (tools/prove.py with a shared store)" "$2"
+  fi
+  own_rt ci >ci 2>&1 && fail "$1: rt ci passes"
   holds "$1 (rt ci)" "$2" ci
   rm -f said ci
 }
@@ -101,8 +122,8 @@ files() {
   refused 'a handle that is not in HANDLES' 'what only the handle Threads reaches'
 }
 
-# What is wrong in a step is refused, for the same crates.
-steps() {
+# wrong: crates each of which is refused for one step.
+wrong() {
   repository wrong
   doubles contract_empty:
   swap crates/contract_empty/src/lib.rt 'requires { number ≤ 100 }' 'requires small { number ≤ 100 }
@@ -140,14 +161,20 @@ fn main(rt: HostRuntime) -> io::Result<()> {
 }
 END
   echo 13 >crates/output_differs/stdout
+}
+all_refused='FAILED: contract_empty proof_false edit_passes/words.edit output_differs (run) test_fails (tests)'
+
+# What is wrong in a step is refused, for the same crates.
+steps() {
+  wrong
   prove && fail 'wrong steps: tools/prove.py passes'
-  rt ci >ci 2>&1 && fail 'wrong steps: rt ci passes'
+  own_rt ci >ci 2>&1 && fail 'wrong steps: rt ci passes'
   holds 'an empty contract' 'no call of' "$WDL_KEPT/contract_empty.proof.log"
   for step in 'contract_empty (proof)' 'proof_false (proof)' 'test_fails (tests)' 'edit_passes (edits)' 'output_differs (runs)'; do
     holds 'wrong steps (tools/prove.py)' "  $step"
   done
   holds 'wrong steps (tools/prove.py)' '3 passed, 5 failed'
-  holds 'wrong steps (rt ci)' 'FAILED: contract_empty proof_false edit_passes/words.edit output_differs (run) test_fails (tests)' ci
+  holds 'wrong steps (rt ci)' "$all_refused" ci
 }
 
 # right: three crates, each on the one before it, with nothing wrong.
@@ -316,6 +343,36 @@ kept() {
   put_back
 }
 
-for part in ${*:-files steps results kept}; do "$part"; done
+# What the tool proves counts for `rt ci`, and the other way round; a step that is refused counts for neither.
+shared() {
+  has_store || { skip 'results that rt ci shares' 'rt ci keeps none here' && return; }
+  [ -d "$work/wrong" ] || wrong
+  cd "$work/wrong" || exit 1
+  prove_shared && fail 'a shared store: wrong steps pass'
+  holds 'a shared store: wrong steps' "$all_refused"
+  [ -d "$work/right" ] || right
+  cd "$work/right" || exit 1
+  rm -rf crates/*/out
+  prove_shared mid || fail "a shared store: $(cat said)"
+  holds 'a shared store: a step' ' mid proof ok '
+  holds 'a shared store: the edits' 'mid edits '
+  lacks 'a shared store: two crates' ' top '
+  own_rt ci >ci 2>&1 || fail "rt ci over a shared store: $(cat ci)"
+  holds 'rt ci over a shared store: proofs' 'done in this run: 1 of the 3 proofs (of crates and of their tests) and 0 of the 1 must-fail edits' ci
+  rm -rf crates/*/out
+  prove_shared || fail "after rt ci: $(cat said)"
+  lacks 'after rt ci' ' proof ok'
+  holds 'after rt ci' ' top runs ok '
+  (cd crates/mid && own_rt check) >ci 2>&1 || fail "a check over what was laid down: $(cat ci)"
+  lacks 'a check over what was laid down' 'low.rlib'
+  swap crates/low/src/lib.rt '    left + right' '    left'
+  prove_shared mid && fail 'a shared store: a body that breaks its contract passes'
+  holds 'a shared store: a body that breaks its contract' 'low NOT PROVED'
+  own_rt ci >ci 2>&1 && fail 'rt ci over a shared store: a body that breaks its contract passes'
+  holds 'rt ci over a shared store: a body that breaks its contract' 'FAILED: low mid top' ci
+  put_back
+}
+
+for part in ${*:-files steps results kept shared}; do "$part"; done
 cd "$work" || exit 1
 conclude

@@ -27,7 +27,7 @@ class Costs:
                 self.add(crate, step, said)
 
     def add(self, crate, step, said):
-        kept = proving.costs_of(crate, step) if proving.is_kept(crate, step) else {}
+        kept = proving.costs_of(crate, step)
         kept.pop("wall", None)
         if not kept and (crate.name, step) in said:
             spent, is_by_clock = said[crate.name, step]

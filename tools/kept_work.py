@@ -109,6 +109,7 @@ def do(crate, kind, jobs):
     """Does a step over kept work, and returns whether it went well. It is called in a process of its own."""
     # (a library of statements alone cannot be made over kept work, and fits only the very libraries that it was made over)
     rt.Crate.cuts_libraries = False
+    proving.guard()
     rt.rtlib.lock([crate])
     os.makedirs(f"{crate.folder}/out", exist_ok=True)
     before, flags = crate.stamp(), ["--jobs", str(jobs)]

@@ -7,20 +7,22 @@
 
 NAMEs are crates; without one, all are meant. First all that `rt ci` wants of the files is checked
 (not with --libraries where nothing is to be proved). Of each crate and of all libraries below it the
-proof is done; of each crate its tests, its must-fail edits and its runs too, but not with --libraries. Results stand in $WDL_KEPT (/tmp/wdl-kept),
-logs beside them. Each library is also laid down in crates/NAME/out/rlib, where `rt check` of the crates above finds it, so a run with nothing to do
-serves a fresh clone in seconds. Two runs share their results, and wait for each other crate by crate.
+proof is done; of each crate its tests, its must-fail edits and its runs too, but not with --libraries. Where `rt ci` keeps results itself, it is what
+proves, and what either proves counts for the other (rt_store.py); elsewhere results stand in $WDL_KEPT (/tmp/wdl-kept), logs beside them. Each library
+is also laid down in crates/NAME/out/rlib, where `rt check` of the crates above finds it, so a run with nothing to do serves a fresh clone in seconds.
+Two runs share their results, and wait for each other crate by crate.
 
 --kept is for the work of a day: nothing is proved twice that a change does not reach (kept_work.py). What is made so counts for no other run.
 
 --check-kept proves nothing. It ends with 0 exactly where `rt ci` would pass: its checks of the files are done, and for all else there are results for
-these sources, this toolchain and this tool. The program that was built with them is then laid down as crates/wdl/out/wdl.
+these sources, this toolchain and this tool. The program that was built with them is then laid down as crates/wdl/out/wdl. It is for toolchains whose
+`rt ci` keeps nothing: elsewhere `rt ci` takes what is kept.
 
 --costs writes docs/COSTS.md from the kept results (costs.py). Where a result has none, they are taken from LOG, the output of a run."""
 import argparse, os, signal, sys, time
 
 sys.dont_write_bytecode = True
-import costs, kept_work, proving
+import costs, kept_work, proving, rt_store
 from proving import by_name, crates, kept, rt
 
 
@@ -141,10 +143,14 @@ def main():
     asked = arguments()
     signal.signal(signal.SIGTERM, lambda *_: sys.exit(143))
     if asked.check_kept:
+        if rt_store.is_there:
+            rt.stop("--check-kept is for toolchains whose `rt ci` keeps nothing: here `rt ci` takes what is kept")
         return check_kept()
     if asked.costs:
         return costs.write(asked.log)
     names = asked.names or [*by_name]
+    if rt_store.is_there and not asked.kept:
+        return rt_store.prove(names, asked.lanes, asked.libraries)
     steps = kept_work if asked.kept else proving
     tasks = tasks_of(names, asked.libraries, steps.kinds)
     if not asked.libraries or not all(proving.is_kept(by_name[name], kind) for name, kind in tasks):

@@ -43,6 +43,9 @@ rt.rtlib.Crate.stamp = once(rt.rtlib.Crate.stamp)
 rt.rtlib.Crate.below = once(rt.rtlib.Crate.below)
 rt.rtlib.Crate = rt.Crate
 rt.Crate.cuts_libraries = True
+# Where `rt ci` keeps results itself, those of a run with a WDL_KEPT of its own stand there too.
+if hasattr(rt, "Kept") and "WDL_KEPT" in os.environ:
+    rt.STORE, rt.WORK = f"{kept}/rattle-kept", f"{kept}/rattle-kept/work"
 rt.Crate.allowed = rt.handles_of(root)
 crates = sorted(rt.rtlib.crates_below(root), key=lambda it: len(it.below()))
 by_name = {it.name: it for it in crates}
@@ -145,9 +148,15 @@ rt.Crate.compile_by = metered(rt.Crate.compile_by)
 
 
 def try_edits(crate):
-    tried = rt.must_fail_all(crate, rt.edits_of(crate)[0], ["--jobs", "1"])
+    edits, flags = rt.edits_of(crate)[0], ["--jobs", "1"]
+    if hasattr(rt, "must_fail_all"):
+        tried = rt.must_fail_all(crate, edits, flags)
+    else:
+        found = [rt.must_fail(crate, it, flags) for it in edits]
+        # (as in rt ci, an edit that cannot be applied fails nothing)
+        tried = [(kind in rt.SETTLED, text) for kind, text in found]
     print(*(text for _, text in tried), sep="\n")
-    return all(refused for refused, _ in tried)
+    return all(passes for passes, _ in tried)
 
 
 def run_program(crate):
@@ -156,8 +165,14 @@ def run_program(crate):
     return all([rt.run(crate, False, it) for it in endings])
 
 
+def guard():
+    """Has what rt starts end with this process. The first call sets a signal's handler, which only the main thread may. (Older toolchains have none.)"""
+    getattr(rt.rtlib, "guarded", list)()
+
+
 def perform(crate, kind, jobs):
     """Does a step, and returns whether it went well."""
+    guard()
     flags = ["--jobs", str(jobs)]
     if kind == "proof":
         for name in products(crate):
@@ -209,7 +224,8 @@ def keep(crate, kind, place, wall):
 
 def costs_of(crate, kind):
     """The processor seconds of a kept result by kind, and the seconds that it took by the clock; nothing if an older tool made it."""
-    return json.loads(rt.rtlib.text_of(f"{entry(crate, kind)}/ok") or "{}")
+    place = entry(crate, kind)
+    return json.loads(rt.rtlib.text_of(f"{place}/ok") or rt.rtlib.text_of(f"{place}.costs") or "{}")
 
 
 def in_child(log, work):
@@ -262,14 +278,22 @@ def gate(names, answer):
             open(f"{crate.folder}/out/{name}", "w").close()
         return not answer(crate.name, "tests" if tests else "proof")
 
+    def edits(crate):
+        return [(rt.REFUSED if answer(crate.name, "edits") else rt.MISSED, f"must-fail {crate.name}")] * len(rt.edits_of(crate)[0])
+
     def work():
         rt.Crate.ci = ci
-        rt.must_fail_all = lambda crate, edits, flags: [(answer(crate.name, "edits"), f"must-fail {crate.name}")] * len(edits)
-        rt.run = lambda crate, tests, ending: answer(crate.name, "tests" if tests else "runs")
+        rt.run = lambda crate, tests, ending="": answer(crate.name, "tests" if tests else "runs")
         mirror(f"{room}/repository", names)
         os.chdir(f"{room}/repository")
         os.mkdir(f"{room}/aside")
-        return not rt.ci_from_nothing(f"{room}/aside")
+        if hasattr(rt, "ci_from_nothing"):
+            rt.must_fail_all = lambda crate, edits, flags: [(answer(crate.name, "edits"), f"must-fail {crate.name}")] * len(edits)
+            return not rt.ci_from_nothing(f"{room}/aside")
+        # (nothing is taken from rt's store, and what is not done here is not kept there)
+        rt.STORE = f"{room}/log"
+        rt.add_edits = lambda tasks, crate, *_, **named: (lambda given: edits(crate), dict)
+        return not rt.ci_over(f"{room}/aside", True)
 
     with tempfile.TemporaryDirectory(prefix="prove-") as room:
         status = os.waitstatus_to_exitcode(os.waitpid(in_child(f"{room}/log", work), 0)[1])
