@@ -8,7 +8,11 @@
 . "$(dirname -- "$0")/checks.sh"
 PATH="$PATH:/opt/rattle/bin"
 WDL_KEPT=$work/kept
-export PATH WDL_KEPT
+# (rt runs programs as nobody, who has to reach them)
+TMPDIR=$work/tmp
+chmod 711 "$work"
+mkdir -m 1777 "$TMPDIR"
+export PATH WDL_KEPT TMPDIR
 unset GIT_DIR GIT_WORK_TREE CI
 
 # own_rt WORDS..: rt with these words. Where the toolchain keeps results, it keeps them in a store of this script alone, which the tool uses as well.
@@ -375,4 +379,5 @@ shared() {
 
 for part in ${*:-files steps results kept shared}; do "$part"; done
 cd "$work" || exit 1
+same 'what is left among the temporary files' '' "$(ls -A "$TMPDIR")"
 conclude
