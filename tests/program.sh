@@ -59,7 +59,7 @@ build() {
 }
 case $1 in
   version) echo "${KIT:-kit 1}" ;;
-  --help) echo "rt ci ${KEEPS:+[--anew]}" >&2 ;;
+  --help) echo "rt ci${KEEPS:+ NAME..}" >&2 ;;
   run) top=$(cd ../.. && pwd) && build && shift 4 && ./out/wdl "$@" ;;
   ci) echo "all proved" && top=$PWD && rm -rf crates/*/out && build ;;
 esac

@@ -28,7 +28,7 @@ rt.WORK = rt.STORE + "/work"
 sys.exit(rt.main(sys.argv[1:]))' "$@"
 }
 # has_store: whether `rt ci` keeps results.
-has_store() { rt --help 2>&1 | grep -q -e --anew; }
+has_store() { rt --help 2>&1 | grep -q 'rt ci NAME'; }
 
 # repository NAME: makes the empty repository NAME with the tool, and goes there.
 repository() {

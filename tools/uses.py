@@ -1,11 +1,15 @@
 #!/usr/bin/env python3
 """Prints which of the crates that crates.txt gives to a crate this one never names in its src/, specs/ and proofs/.
 
-    tools/uses.py [--minimal] [--list] [NAME..]
+    tools/uses.py [--list] [--gives] [NAME..]
+    tools/uses.py --minimal
 
 NAMEs are crates; without one, all are meant. The last line is the sum.
 
 --list prints what each crate names, in place of what it does not.
+
+--gives prints for each crate the lines that its specs/Lib.antt needs for a crate above it that names this one alone: a line for each file of specs/ of a
+crate below it that its clauses and definitions cite. A name that another line or a file of the crate has already is marked.
 
 --minimal prints crates.txt with the crates that each names alone, in the order that they have there. Nothing is changed."""
 import argparse, os, re, sys
@@ -25,9 +29,9 @@ def lines():
             yield line, found and found[1], found[3].split() if found else []
 
 
-def texts(crate):
+def texts(crate, parts=("src", "specs", "proofs")):
     """The texts of a crate that name others, without comments and strings."""
-    for part in ("src", "specs", "proofs"):
+    for part in parts:
         for at, _, names in os.walk(f"{root}/crates/{crate}/{part}"):
             for name in names:
                 if name.endswith((".rt", ".antt")):
@@ -45,6 +49,32 @@ def named_in(crate):
     return found
 
 
+def gives(crate, of):
+    """The modules of specs/ of crates of this repository that the clauses and definitions of a crate cite."""
+    found = set()
+    for part, mark in (("src", r"\bghost use\s+"), ("specs", r"(?m)^(?:pub\s+)?use\s+")):
+        for text in texts(crate, (part,)):
+            found.update(it for it in re.findall(mark + r"(Rattle\.\w+\.specs(?:\.declared(?:\.\w+)*?)?\.\w+)(?=\.[{]|\s|$)", text) if it.split(".")[1] in of and it.split(".")[1] != crate)
+    # (what stands in the module of a type comes with it)
+    return sorted(it for it in found if it.rpartition(".")[0] not in found)
+
+
+def print_gives(crates, of):
+    """Prints for each crate what its specs/Lib.antt would have to give on."""
+    count = clashes = 0
+    for crate in crates:
+        found = gives(crate, of)
+        taken = {name.removesuffix(".antt") for name in os.listdir(f"{root}/crates/{crate}/specs")} if os.path.isdir(f"{root}/crates/{crate}/specs") else set()
+        for module in found:
+            last = module.rpartition(".")[2]
+            clash = "  -- this name is taken" if last in taken else ""
+            clashes += bool(clash)
+            taken.add(last)
+            print(f"{crate}: pub use {module}{clash}")
+        count += len(found)
+    print(f"{count} lines, {clashes} with a name that is taken")
+
+
 def minimal():
     """Prints the lines of crates.txt with what each crate names alone."""
     for line, crate, given in lines():
@@ -57,8 +87,8 @@ def minimal():
 
 def main():
     words = argparse.ArgumentParser(description=__doc__, formatter_class=argparse.RawDescriptionHelpFormatter)
-    words.add_argument("--minimal", action="store_true")
-    words.add_argument("--list", action="store_true")
+    for name in ("--minimal", "--list", "--gives"):
+        words.add_argument(name, action="store_true")
     words.add_argument("names", nargs="*")
     asked = words.parse_args()
     of = {crate: given for _, crate, given in lines() if crate}
@@ -67,6 +97,8 @@ def main():
             words.error(f"crates.txt has no crate {name}")
     if asked.minimal:
         return minimal()
+    if asked.gives:
+        return print_gives(asked.names or [*of], of)
     count = 0
     for crate in asked.names or of:
         named = named_in(crate)
