@@ -141,7 +141,6 @@ def check_kept():
 
 def main():
     asked = arguments()
-    signal.signal(signal.SIGTERM, lambda *_: sys.exit(143))
     if asked.check_kept:
         if rt_store.is_there:
             rt.stop("--check-kept is for toolchains whose `rt ci` keeps nothing: here `rt ci` takes what is kept")
@@ -151,6 +150,7 @@ def main():
     names = asked.names or [*by_name]
     if rt_store.is_there and not asked.kept:
         return rt_store.prove(names, asked.lanes, asked.libraries)
+    signal.signal(signal.SIGTERM, lambda *_: sys.exit(143))
     steps = kept_work if asked.kept else proving
     tasks = tasks_of(names, asked.libraries, steps.kinds)
     if not asked.libraries or not all(proving.is_kept(by_name[name], kind) for name, kind in tasks):
