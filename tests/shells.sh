@@ -82,10 +82,22 @@ untold() {
   fi
 }
 
+# A signal that is ignored when a shell starts stays so, as INT in a background job and HUP below nohup. `env` of the GNU tools can change that.
+as_by_default=
+! env --default-signal=INT true 2>/dev/null || as_by_default='env --default-signal=HUP,INT,QUIT,TERM'
+
+# heard SIGNAL: whether a shell that the scripts are started by can handle the signal.
+heard() {
+  [ "$1" != KILL ] || return 0
+  $as_by_default sh -c 'trap "exit 9" "$0"; kill -s "$0" $$; exit 0' "$1"
+  [ $? = 9 ]
+}
+
 # ended SIGNAL STATUS SCRIPT NOTED: a signal to the script ends its client. NOTED is a printf format,
 # whose lines come in any order.
 ended() {
   signal=$1 status=$2 script=$3
+  heard "$signal" || { skip "$script ended by $signal" "this process was started with it ignored"; return; }
   printf "$4" | sort >wanted
   rm -f recorded number
   : >noted
@@ -94,7 +106,7 @@ ended() {
     while [ ! -e recorded ] && [ "$tries" -lt 50 ]; do tries=$((tries + 1)) && sleep 0.1; done
     kill -s "$signal" "$(cat number)"
   ) &
-  set -- sh -c 'echo $$ >"$0" && exec "$@"' "$here/number" "$scripts/$script" -c "$line"
+  set -- $as_by_default sh -c 'echo $$ >"$0" && exec "$@"' "$here/number" "$scripts/$script" -c "$line"
   (in_job WAITS=yes WDL_IMAGE=a:1 WDL_GRACE="${grace-}" "$@"; exit $?) 2>/dev/null
   got=$?
   wait
