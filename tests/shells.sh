@@ -82,17 +82,6 @@ untold() {
   fi
 }
 
-# A signal that is ignored when a shell starts stays so, as INT in a background job and HUP below nohup. `env` of the GNU tools can change that.
-as_by_default=
-! env --default-signal=INT true 2>/dev/null || as_by_default='env --default-signal=HUP,INT,QUIT,TERM'
-
-# heard SIGNAL: whether a shell that the scripts are started by can handle the signal.
-heard() {
-  [ "$1" != KILL ] || return 0
-  $as_by_default sh -c 'trap "exit 9" "$0"; kill -s "$0" $$; exit 0' "$1"
-  [ $? = 9 ]
-}
-
 # ended SIGNAL STATUS SCRIPT NOTED: a signal to the script ends its client. NOTED is a printf format,
 # whose lines come in any order.
 ended() {
