@@ -6,7 +6,7 @@ passed=0
 failed=0
 skipped=0
 # What a user may have set is not tested.
-unset WDL_NOTES WDL_SHELL WDL_MOUNTS WDL_IMAGE WDL_IMAGE_SHELL WDL_NODE_SHELL WDL_SRUN_ARGS WDL_APPTAINER_ARGS WDL_DOCKER_ARGS
+unset WDL_NOTES WDL_SHELL WDL_MOUNTS WDL_IMAGE WDL_IMAGE_SHELL WDL_NODE_SHELL WDL_SRUN_ARGS WDL_APPTAINER_ARGS WDL_DOCKER_ARGS WDL_PODMAN_ARGS WDL_LIMITS WDL_GRACE
 
 # clean_up: what is done when the script ends. `also` is what goes beside `work`.
 also=
@@ -39,6 +39,17 @@ same() {
 # has TOOL..: whether these programs are installed.
 has() {
   for tool in "$@"; do command -v "$tool" >/dev/null 2>&1 || return; done
+}
+
+# A signal that is ignored when a shell starts stays so, as INT in a background job and HUP below nohup. `env` of the GNU tools can change that.
+as_by_default=
+! env --default-signal=INT true 2>/dev/null || as_by_default='env --default-signal=HUP,INT,QUIT,TERM'
+
+# heard SIGNAL: whether a shell that the scripts are started by can handle the signal.
+heard() {
+  [ "$1" != KILL ] || return 0
+  $as_by_default sh -c 'trap "exit 9" "$0"; kill -s "$0" $$; exit 0' "$1"
+  [ $? = 9 ]
 }
 
 # conclude: the last line, 'N passed, M failed', and ', K skipped' where something was. It fails where a check failed.

@@ -62,9 +62,10 @@ name="a program that is not there" && ran 1 "run: there is no program missing" m
 
 # An interrupted run ends the scripts, and what they began.
 for signal in TERM HUP; do
+  heard "$signal" || { skip "SIG$signal" "this process was started with it ignored"; continue; }
   ordinary
   script moving "mkdir \"\$work/folder\"; setsid sleep 600 & echo \$! >'$work/began'; sleep 600; pass; conclude"
-  HOME=$work/home TMPDIR=$work/tmp sh tests/run.sh >"$work/said" 2>&1 </dev/null &
+  HOME=$work/home TMPDIR=$work/tmp $as_by_default sh tests/run.sh >"$work/said" 2>&1 </dev/null &
   running=$!
   until [ -s "$work/began" ]; do sleep 0.1; done
   kill "-$signal" "$running"

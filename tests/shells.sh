@@ -86,6 +86,7 @@ untold() {
 # whose lines come in any order.
 ended() {
   signal=$1 status=$2 script=$3
+  heard "$signal" || { skip "$script ended by $signal" "this process was started with it ignored"; return; }
   printf "$4" | sort >wanted
   rm -f recorded number
   : >noted
@@ -94,7 +95,7 @@ ended() {
     while [ ! -e recorded ] && [ "$tries" -lt 50 ]; do tries=$((tries + 1)) && sleep 0.1; done
     kill -s "$signal" "$(cat number)"
   ) &
-  set -- sh -c 'echo $$ >"$0" && exec "$@"' "$here/number" "$scripts/$script" -c "$line"
+  set -- $as_by_default sh -c 'echo $$ >"$0" && exec "$@"' "$here/number" "$scripts/$script" -c "$line"
   (in_job WAITS=yes WDL_IMAGE=a:1 WDL_GRACE="${grace-}" "$@"; exit $?) 2>/dev/null
   got=$?
   wait
