@@ -37,8 +37,8 @@ there() {
     tries=$((tries - 1))
   done
 }
-# guard_of ROOT: the number of the process that guards the run there. The folder where it puts old directories is one of its arguments.
-guard_of() { grep -lsF "$1/.wdl-old-" /proc/[0-9]*/cmdline | cut -d / -f 3; }
+# guard_of ROOT: the number of the process that guards the run there. The folder where it puts old directories is one of its arguments, and no word of grep.
+guard_of() { grep -ls "$1/[.]wdl-old-" /proc/[0-9]*/cmdline | cut -d / -f 3; }
 # With it a background process gets the signals that a shell lets it ignore.
 default=
 env --default-signal=INT,QUIT true 2>/dev/null && default='env --default-signal=INT,QUIT'
@@ -274,15 +274,15 @@ task step {
   output { Array[String] r = read_lines(stdout()) }
 }
 task all {
-  input { Array[Array[String]] r }
+  input { Array[Array[String]] rows }
   command <<<
-    cat ~{write_tsv(r)}
+    cat ~{write_tsv(rows)}
   >>>
   output { String r = read_string(stdout()) }
 }
 workflow w {
   scatter (i in range(5)) { call step { input: i = i } }
-  call all { input: r = step.r }
+  call all { input: rows = step.r }
   output { String r = all.r }
 }
 END_OF_FILE
