@@ -13,6 +13,7 @@ usage: wdl COMMAND ..
   inputs   write the inputs of a workflow as a JSON object to fill in
   cwl      write a workflow, or its inputs, for CWL v1.2
   bundle   write a workflow and its imports as one document
+  explain  say what a status, a code or a rule means: wdl explain 304
   load     run a made-up workflow of N calls, to measure the runner
   help     show this help, or that of a command: wdl help run
   version  show the version of the program
@@ -178,6 +179,25 @@ status  meaning
 
 example:
   wdl bundle lanes.wdl >one.wdl
+";
+
+pub const EXPLAIN: &str = "\
+Says what a status, the code of an error or a rule of CWL and bundles means, with
+a smallest example and what to do.
+
+usage: wdl explain CODE
+
+  CODE  the number: a status from 0 to 11, or what stands in the last line on
+        standard error, as the 304 in lanes.wdl:37..52: 304 BadOperands
+
+status  meaning
+     0  success: the text was written
+     2  the command line is not valid: nothing has this number
+     6  the output cannot be written
+     7  out of memory
+
+example:
+  wdl explain 304
 ";
 
 pub const HELP: &str = "\

@@ -3,7 +3,7 @@
 ghost use Rattle.std.specs.Prelude.{◌≡◌};
 ghost use Rattle.help_text.specs.Help as spec;
 
-use crate::page::{BUNDLE, CHECK, CWL, HELP, INPUTS, LOAD, PROGRAM, RUN, VERSION};
+use crate::page::{BUNDLE, CHECK, CWL, EXPLAIN, HELP, INPUTS, LOAD, PROGRAM, RUN, VERSION};
 use wdl_words::Command;
 
 /// Returns the help of a command, or that of the whole program where none is named, with a newline
@@ -19,6 +19,7 @@ pub fn help_of(about: Option<Command>) -> &'static str
         Some(Command::Cwl) => CWL,
         Some(Command::Load) => LOAD,
         Some(Command::Bundle) => BUNDLE,
+        Some(Command::Explain) => EXPLAIN,
         Some(Command::Help) => HELP,
     }
 }

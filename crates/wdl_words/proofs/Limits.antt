@@ -9,10 +9,10 @@ use Rattle.clap.specs.Words.{Row, Text, first_of}
 use Rattle.wdl_base.specs.Plain.{has_nul}
 use Rattle.wdl_words.specs.Commands.{cwl_app, found_in, run_app}
 use Rattle.wdl_words.specs.Help.{by_one, by_two, explained, is_help_option, is_version_word}
-use Rattle.wdl_words.specs.Words.{IsWithinLimits, begins_with_slash, cwl_in, cwl_of, cwl_with, directory_of, file_in, file_of, is_numeral, load_in, named_by_first, not_empty, number_within, operand_in, optional_file, root_of, run_in, run_of, run_with, some_nul, wants, wants_by, wants_of_plain, without_slashes, workers_of}
+use Rattle.wdl_words.specs.Words.{IsWithinLimits, begins_with_slash, code_in, cwl_in, cwl_of, cwl_with, directory_of, file_in, file_of, is_numeral, load_in, named_by_first, not_empty, number_within, operand_in, optional_file, root_of, run_in, run_of, run_with, some_nul, wants, wants_by, wants_of_plain, without_slashes, workers_of}
 use Rattle.wdl_words.proofs.Slashes.{slashes_short}
 use Rattle.wdl_words.specs.declared.wants.Wants.{Wants}
-use Rattle.wdl_words.specs.declared.wants.Wants.TheVariants.{Run, Check, Inputs, Cwl, Load, Bundle, Help, Version}
+use Rattle.wdl_words.specs.declared.wants.Wants.TheVariants.{Run, Check, Inputs, Cwl, Load, Bundle, Explain, Help, Version}
 
 and_then_some : {A B : Type 0} (f : A → Option B) (o : Option A) (b : B) → option_and_then f o ≡ Some b
     → (a : A) × (o ≡ Some a) × (f a ≡ Some b)
@@ -103,22 +103,23 @@ by_command : (command : Text) (words : List Text) (asked : Wants) → wants_by c
 unfolding run_in cwl_in
 by_command command words asked h =
     go (bytes_eq command (codes "run")) (bytes_eq command (codes "check")) (bytes_eq command (codes "inputs")) (bytes_eq command (codes "cwl"))
-    (bytes_eq command (codes "load")) (bytes_eq command (codes "bundle")) h
+    (bytes_eq command (codes "load")) (bytes_eq command (codes "bundle")) (bytes_eq command (codes "explain")) h
   where
-    go : (a b i c d e : Bool) → cond a (run_in words) (cond b (option_map Check (file_in command words))
+    go : (a b i c d e f : Bool) → cond a (run_in words) (cond b (option_map Check (file_in command words))
         (cond i (option_map Inputs (file_in command words)) (cond c (cwl_in words) (cond d (option_map Load (load_in words))
-        (cond e (option_map Bundle (file_in command words)) None))))) ≡ Some asked → IsWithinLimits asked
-    go true b i c d e found =
+        (cond e (option_map Bundle (file_in command words)) (cond f (option_map Explain (code_in words)) None)))))) ≡ Some asked → IsWithinLimits asked
+    go true b i c d e f found =
         let rows = and_then_some run_of (found_in run_app words) asked found in
         rows_limits rows.0 asked rows.2
-    go false true i c d e found = mapped Check (file_in command words) asked (λ file given. tt) found
-    go false false true c d e found = mapped Inputs (file_in command words) asked (λ file given. tt) found
-    go false false false true d e found =
+    go false true i c d e f found = mapped Check (file_in command words) asked (λ file given. tt) found
+    go false false true c d e f found = mapped Inputs (file_in command words) asked (λ file given. tt) found
+    go false false false true d e f found =
         let rows = and_then_some cwl_of (found_in cwl_app words) asked found in
         cwl_limits rows.0 asked rows.2
-    go false false false false true e found = mapped Load (load_in words) asked (load_limits words) found
-    go false false false false false true found = mapped Bundle (file_in command words) asked (λ file given. tt) found
-    go false false false false false false found = cc
+    go false false false false true e f found = mapped Load (load_in words) asked (load_limits words) found
+    go false false false false false true f found = mapped Bundle (file_in command words) asked (λ file given. tt) found
+    go false false false false false false true found = mapped Explain (code_in words) asked (λ code given. tt) found
+    go false false false false false false false found = cc
 
 first_limits : (words : List Text) (asked : Wants) → named_by_first words ≡ Some asked → IsWithinLimits asked
 first_limits [] asked h = cc

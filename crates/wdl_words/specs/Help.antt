@@ -16,6 +16,7 @@ command_named word =
     else if bytes_eq word (codes "cwl") then Some command.Cwl
     else if bytes_eq word (codes "load") then Some command.Load
     else if bytes_eq word (codes "bundle") then Some command.Bundle
+    else if bytes_eq word (codes "explain") then Some command.Explain
     else if bytes_eq word (codes "help") then Some command.Help
     else None
 

@@ -9,7 +9,7 @@ use Rattle.wdl_base.specs.Plain.{has_nul}
 use Rattle.wdl_words.specs.Commands.{cwl_app, found_in, operand_app, run_app}
 use Rattle.wdl_words.specs.Help.{explained}
 use Rattle.wdl_words.specs.declared.wants.Wants.{Wants}
-use Rattle.wdl_words.specs.declared.wants.Wants.TheVariants.{Run, Check, Inputs, Cwl, Load, Bundle}
+use Rattle.wdl_words.specs.declared.wants.Wants.TheVariants.{Run, Check, Inputs, Cwl, Load, Bundle, Explain}
 
 -- ---- values
 
@@ -52,6 +52,28 @@ not_empty (b ∷ bs) = Some (b ∷ bs)
 -- The slashes at the end go, and something is left.
 abbrev pub directory_of : Text → Option Text
 directory_of text = if is_directory text then not_empty (without_slashes text) else None
+
+abbrev pub is_between : ℕ → ℕ → ℕ → Bool
+is_between low high n = nat_le low n && nat_le n high
+
+-- the codes of texts, imports and checks
+abbrev pub is_text_code : ℕ → Bool
+is_text_code n =
+    is_between 101 107 n || (is_between 110 112 n || (is_between 120 123 n || (is_between 201 207 n || (is_between 301 312 n || is_between 320 330 n))))
+
+-- those of inputs and of values, and the rules
+abbrev pub is_later_code : ℕ → Bool
+is_later_code n = is_between 401 407 n || (is_between 501 516 n || (is_between 601 613 n || is_between 620 622 n))
+
+-- the number of a status, of a code or of a rule
+abbrev pub is_code : ℕ → Bool
+is_code n = is_between 0 11 n || (is_text_code n || is_later_code n)
+
+abbrev pub coded : ℕ → Option ℕ
+coded n = if is_code n then Some n else None
+
+abbrev pub code_of : Text → Option ℕ
+code_of text = option_and_then coded (number_within 0 622 text)
 
 -- the value of an option, which may be left out
 abbrev pub optional_file : Option Text → Option (Option Text)
@@ -107,6 +129,9 @@ abbrev pub load_in : List Text → Option ℕ
 load_in words =
     option_and_then (number_within 1 10000) (operand_in (codes "load") (codes "number") words)
 
+abbrev pub code_in : List Text → Option ℕ
+code_in words = option_and_then code_of (operand_in (codes "explain") (codes "code") words)
+
 -- by the word that names the command
 abbrev pub wants_by : Text → List Text → Option Wants
 wants_by command words =
@@ -116,6 +141,7 @@ wants_by command words =
     else if bytes_eq command (codes "cwl") then cwl_in words
     else if bytes_eq command (codes "load") then option_map Load (load_in words)
     else if bytes_eq command (codes "bundle") then option_map Bundle (file_in command words)
+    else if bytes_eq command (codes "explain") then option_map Explain (code_in words)
     else None
 
 abbrev pub some_nul : List Text → Bool

@@ -16,6 +16,7 @@ fn command_named(word: &str) -> Option<Command>
         "cwl" => Some(Command::Cwl),
         "load" => Some(Command::Load),
         "bundle" => Some(Command::Bundle),
+        "explain" => Some(Command::Explain),
         "help" => Some(Command::Help),
         _ => None,
     }

@@ -7,7 +7,7 @@ ghost use Rattle.wdl_words.specs.declared.error.WordFault.TheVariants.{Usage};
 use crate::commands::{cwl_matches, operand_in, run_matches, value_of};
 use crate::error::WordFault;
 use crate::help::explained;
-use crate::values::{file_of, number_within, optional_file, root_of, workers_of};
+use crate::values::{code_of, file_of, number_within, optional_file, root_of, workers_of};
 use crate::wants::Wants;
 use clap::ArgMatches;
 use std::alloc::Global;
@@ -64,6 +64,12 @@ fn load_in(alloc: Global, words: &[String]) -> Result<u32, WordFault>
     number_within(1, 10_000, operand_in(alloc, "load", "number", words)?).ok_or(WordFault::Usage)
 }
 
+fn code_in(alloc: Global, words: &[String]) -> Result<u32, WordFault>
+    ensures { Reads (spec.code_in (map string_bytes words.now)) result }
+{
+    code_of(operand_in(alloc, "explain", "code", words)?).ok_or(WordFault::Usage)
+}
+
 fn wants_by(alloc: Global, command: &str, words: &[String]) -> Result<Wants, WordFault>
     ensures { Reads (spec.wants_by command.now (map string_bytes words.now)) result }
 {
@@ -81,6 +87,9 @@ fn wants_by(alloc: Global, command: &str, words: &[String]) -> Result<Wants, Wor
         }),
         "bundle" => Ok(Wants::Bundle {
             file: file_in(alloc, command, words)?,
+        }),
+        "explain" => Ok(Wants::Explain {
+            code: code_in(alloc, words)?,
         }),
         _ => Err(WordFault::Usage),
     }
@@ -114,15 +123,18 @@ fn wants_of_plain(alloc: Global, words: &[String]) -> Result<Wants, WordFault>
 /// they have no reading.
 ///
 /// The words are `run [--inputs FILE] [--workers N] [--root DIR] [--journal FILE] FILE`,
-/// `check FILE`, `inputs FILE`, `cwl [--inputs FILE] FILE`, `load N` or `bundle FILE`. Each option
-/// takes one value, as a word of its own or after `=`, and stands at most once. N is one or more
-/// decimal digits, for 1 to 64 workers (4 where it is left out) or 1 to 10,000 calls. DIR begins
-/// with `/`, has at most 512 bytes as it is given, and is `/tmp/wdl-run` where it is left out; the
-/// slashes at its end are cut, and something is left. No word holds NUL, and no FILE is empty.
+/// `check FILE`, `inputs FILE`, `cwl [--inputs FILE] FILE`, `load N`, `bundle FILE` or
+/// `explain CODE`. Each option takes one value, as a word of its own or after `=`, and stands at
+/// most once. N is one or more decimal digits, for 1 to 64 workers (4 where it is left out) or 1 to
+/// 10,000 calls. DIR begins with `/`, has at most 512 bytes as it is given, and is `/tmp/wdl-run`
+/// where it is left out; the slashes at its end are cut, and something is left. CODE is one or more
+/// decimal digits, for a status (0 to 11), a code (101 to 107, 110 to 112, 120 to 123, 201 to 207,
+/// 301 to 312, 320 to 330, 401 to 407, 501 to 516) or a rule (601 to 613, 620 to 622). No word
+/// holds NUL, and no FILE is empty.
 ///
 /// Help is asked for by `help`, `--help` or `-h` alone, and that of a command by `help COMMAND`,
 /// `COMMAND --help` or `COMMAND -h` alone, where COMMAND is `run`, `check`, `inputs`, `cwl`,
-/// `load`, `bundle` or `help`; the version by `version`, `--version` or `-V` alone. Among other
+/// `load`, `bundle`, `explain` or `help`; the version by `version`, `--version` or `-V` alone. Among other
 /// words `--help`, `-h`, `--version` and `-V` have no reading.
 #[tactic(auto, using(crate::proofs::ReadLaws::read_value, crate::proofs::ReadLaws::within, crate::proofs::ReadLaws::read_usage))]
 pub fn read_words(alloc: Global, words: &[String]) -> Result<Wants, WordFault>

@@ -41,6 +41,53 @@ pub fn number_within(low: u32, high: u32, text: &str) -> Option<u32>
     Some(number)
 }
 
+fn is_between(low: u32, high: u32, number: u32) -> bool
+    ensures { result ≡ spec.is_between low high number }
+{
+    low <= number && number <= high
+}
+
+/// Whether a code of texts, imports or checks has that number.
+fn is_text_code(number: u32) -> bool
+    ensures { result ≡ spec.is_text_code number }
+{
+    is_between(101, 107, number)
+        || is_between(110, 112, number)
+        || is_between(120, 123, number)
+        || is_between(201, 207, number)
+        || is_between(301, 312, number)
+        || is_between(320, 330, number)
+}
+
+/// Whether a code of inputs or of values, or a rule, has that number.
+fn is_later_code(number: u32) -> bool
+    ensures { result ≡ spec.is_later_code number }
+{
+    is_between(401, 407, number)
+        || is_between(501, 516, number)
+        || is_between(601, 613, number)
+        || is_between(620, 622, number)
+}
+
+/// Whether a status, a code or a rule has that number.
+fn is_code(number: u32) -> bool
+    ensures { result ≡ spec.is_code number }
+{
+    is_between(0, 11, number) || is_text_code(number) || is_later_code(number)
+}
+
+/// The number of a status, a code or a rule.
+pub fn code_of(text: &str) -> Option<u32>
+    ensures { result ≡ spec.code_of text.now }
+{
+    let number = number_within(0, 622, text)?;
+    if is_code(number) {
+        Some(number)
+    } else {
+        None
+    }
+}
+
 /// The path of a file, which is not empty.
 pub fn file_of(alloc: Global, text: &str) -> Result<Text, WordFault>
     ensures { Reads (spec.file_of text.now) result }

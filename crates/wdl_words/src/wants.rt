@@ -9,6 +9,7 @@ pub enum Command {
     Cwl,
     Load,
     Bundle,
+    Explain,
     Help,
 }
 
@@ -52,6 +53,11 @@ pub enum Wants {
     /// Write a document and its imports as one.
     Bundle {
         file: Text,
+    },
+    /// Write what a status, a code or a rule means.
+    Explain {
+        /// The number of one: see `read_words`.
+        code: u32,
     },
     /// Write the help of a command, or of the whole program where none is named.
     Help {
