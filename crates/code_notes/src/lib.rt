@@ -18,10 +18,13 @@ use statuses::of_status;
 use texts::of_text;
 use values::of_value;
 
+/// What is said where nothing has the number.
+const NOTHING: &str = "No status, code or rule has this number.\n";
+
 /// Returns what is said of the status, the code or the rule of a number, with a newline at its end.
-/// None where nothing has the number. It takes no memory.
-pub fn code_text(number: u32) -> Option<&'static str> {
-    match number / 100 {
+/// It takes no memory.
+pub fn code_text(number: u32) -> &'static str {
+    let found = match number / 100 {
         0 => of_status(number),
         1 => of_text(number),
         2 => of_import(number),
@@ -29,5 +32,6 @@ pub fn code_text(number: u32) -> Option<&'static str> {
         4 => of_inputs(number),
         5 => of_value(number),
         _ => of_rule(number),
-    }
+    };
+    found.unwrap_or(NOTHING)
 }

@@ -1,5 +1,6 @@
 ghost use Rattle.std.specs.Prelude.{◌≡◌};
 
+use code_notes::code_text;
 use fault_notes::document_note;
 use input_notes::{inputs_note, inputs_warning};
 use sqlite_items::Items;
@@ -99,5 +100,9 @@ impl<F> Explain for RecallingShelf<F> {
     fn warnings(&self, alloc: Global, path: &Text, _: &Checked) -> Option<String> {
         let text = self.recall(path.as_str())?;
         inputs_warning(alloc, path.as_str(), text).ok()
+    }
+
+    fn number(&self, number: u32) -> &'static str {
+        code_text(number)
     }
 }

@@ -187,8 +187,10 @@ impl<'a> Arguments<'a> {
             return Slip::NoValue(setting, None);
         }
         match (self.operand, self.command) {
-            (Some(_), _) => Slip::Unclear,
             (None, Command::Load) => Slip::NoNumber,
+            (None, Command::Explain) => Slip::NoCode,
+            (Some(word), Command::Explain) => Slip::BadCode(word),
+            (Some(_), _) => Slip::Unclear,
             (None, _) => Slip::NoDocument(self.taken()),
         }
     }

@@ -3,7 +3,7 @@
 use wdl_words::Command;
 
 /// The names of the commands, in the order of the help.
-pub(crate) const COMMANDS: &str = "run, check, inputs, cwl, bundle, load, help, version";
+pub(crate) const COMMANDS: &str = "run, check, inputs, cwl, bundle, explain, load, help, version";
 
 /// An option with a value.
 #[derive(Clone, Copy, Debug, PartialEq, Eq)]
@@ -23,6 +23,7 @@ pub(crate) fn command_name(command: Command) -> &'static str {
         Command::Cwl => "cwl",
         Command::Load => "load",
         Command::Bundle => "bundle",
+        Command::Explain => "explain",
         Command::Help => "help",
     }
 }
@@ -36,6 +37,7 @@ pub(crate) fn command_named(name: &str) -> Option<Command> {
         "cwl" => Some(Command::Cwl),
         "load" => Some(Command::Load),
         "bundle" => Some(Command::Bundle),
+        "explain" => Some(Command::Explain),
         "help" => Some(Command::Help),
         _ => None,
     }
@@ -44,7 +46,7 @@ pub(crate) fn command_named(name: &str) -> Option<Command> {
 /// Returns the names of the commands.
 pub(crate) fn command_names() -> &'static [&'static str] {
     &[
-        "run", "check", "inputs", "cwl", "bundle", "load", "help", "version",
+        "run", "check", "inputs", "cwl", "bundle", "explain", "load", "help", "version",
     ]
 }
 
@@ -56,6 +58,7 @@ pub(crate) fn command_elsewhere(name: &str) -> Option<&'static str> {
         "template" | "form" | "generate_inputs" => Some("inputs"),
         "translate" | "convert" | "export" => Some("cwl"),
         "pack" | "package" | "zip" | "merge" => Some("bundle"),
+        "code" | "error" | "why" | "man" => Some("explain"),
         _ => None,
     }
 }

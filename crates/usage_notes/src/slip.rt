@@ -27,6 +27,10 @@ pub(crate) enum Slip<'a> {
     NoDocument(Option<(Setting, &'a str)>),
     /// No number of calls.
     NoNumber,
+    /// What `explain` does not take as a code.
+    BadCode(&'a str),
+    /// No code.
+    NoCode,
     /// Another fault.
     Unclear,
 }

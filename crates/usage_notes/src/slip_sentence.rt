@@ -102,7 +102,7 @@ fn push_bad_value(note: &mut Note, setting: Setting, value: &str) -> Result<(), 
 /// Appends what is wrong with an argument beside the document or the number of calls.
 fn push_extra(note: &mut Note, command: Command, extra: &str, first: &str) -> Result<(), NoMemory> {
     note.push_name(extra)?;
-    if command == Command::Load {
+    if command == Command::Load || command == Command::Explain {
         note.push(": expected one number, and ")?;
         note.push_name(first)?;
         return note.push(" is one");
@@ -170,6 +170,13 @@ pub(crate) fn push_slip(
         Slip::Extra(extra, first) => push_extra(note, command, extra, first),
         Slip::NoDocument(taken) => push_no_document(note, command, taken),
         Slip::NoNumber => note.push("`load`: expected a number from 1 to 10,000, found nothing"),
+        Slip::BadCode(found) => {
+            note.push("`explain`: expected the number of a status, a code or a rule, found ")?;
+            note.push_quoted(found)
+        }
+        Slip::NoCode => {
+            note.push("`explain`: expected the number of a status, a code or a rule, found none")
+        }
         Slip::Unclear => note.push("the command line is not valid"),
     }
 }

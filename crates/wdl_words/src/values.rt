@@ -81,11 +81,7 @@ pub fn code_of(text: &str) -> Option<u32>
     ensures { result ≡ spec.code_of text.now }
 {
     let number = number_within(0, 622, text)?;
-    if is_code(number) {
-        Some(number)
-    } else {
-        None
-    }
+    if is_code(number) { Some(number) } else { None }
 }
 
 /// The path of a file, which is not empty.

@@ -5,7 +5,7 @@ use Rattle.report_text.specs.declared.status.Status.{Status}
 use Rattle.report_text.specs.declared.status.Status.TheVariants as status
 use Rattle.wdl_words.specs.Words.{wants}
 use Rattle.wdl_words.specs.declared.wants.Wants.{Wants}
-use Rattle.wdl_words.specs.declared.wants.Wants.TheVariants.{Run, Check, Inputs, Cwl, Load, Bundle, Help, Version}
+use Rattle.wdl_words.specs.declared.wants.Wants.TheVariants.{Run, Check, Inputs, Cwl, Load, Bundle, Explain, Help, Version}
 use Rattle.workflow_cli.specs.declared.asking.Command.{Command}
 use Rattle.workflow_cli.specs.declared.asking.Page.{Page}
 use Rattle.workflow_cli.specs.declared.asking.Page.TheVariants as page
@@ -29,6 +29,7 @@ command_of (Inputs file) = command.Inputs file
 command_of (Bundle file) = command.Bundle file
 command_of (Help about) = command.Print (page.Help about)
 command_of Version = command.Print page.Version
+command_of (Explain code) = command.Print (page.Code code)
 command_of (Load number) = command.Load number
 
 -- the words ask for this
@@ -65,7 +66,7 @@ IsLoadOf words number = IsCommand words (command.Load number)
 abbrev pub IsLoad : Words → Type 0
 IsLoad words = (number : ℕ) × IsLoadOf words number
 
--- help or the version
+-- help, the version, or what a number means
 abbrev pub IsPrintOf : Words → Page → Type 0
 IsPrintOf words page = IsCommand words (command.Print page)
 

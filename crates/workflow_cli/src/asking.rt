@@ -38,6 +38,8 @@ pub enum Page {
     /// The help of a command, or of the whole program.
     Help(Option<Topic>),
     Version,
+    /// What a status, a code or a rule means, by its number.
+    Code(u32),
 }
 
 /// What the program does.
@@ -115,6 +117,9 @@ fn command_of(wants: Wants) -> Command
         },
         Wants::Version => Command::Print {
             page: Page::Version,
+        },
+        Wants::Explain { code } => Command::Print {
+            page: Page::Code(code),
         },
         Wants::Load { number } => Command::Load { number },
     }

@@ -95,7 +95,7 @@ pub fn work<
         Ok(Command::Inputs { file }) => idle(alloc, form(alloc, &file, shelf)),
         Ok(Command::Bundle { file }) => idle(alloc, bundled(alloc, &file, shelf)),
         Ok(Command::Load { number }) => load(rt, alloc, number, steps),
-        Ok(Command::Print { page }) => idle(alloc, printed(alloc, page)),
+        Ok(Command::Print { page }) => idle(alloc, printed(alloc, page, &*shelf)),
         Err(status) => idle(alloc, Work::Stop(stop_of(alloc, status))),
     }
 }

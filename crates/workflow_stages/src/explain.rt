@@ -4,8 +4,8 @@ use wdl_port::MemoryShelf;
 use wdl_typed::Checked;
 use wdl_value::{Span, Text};
 
-/// What tells a person of what was read. No contract speaks of what it says, and where it answers
-/// None nothing is told.
+/// What tells a person of what was read, and of numbers. No contract speaks of what it says, and
+/// where it answers None nothing is told.
 pub trait Explain {
     /// Why a command does no more: the document at a path breaks the rule `code` at a span. The
     /// library is named where the document has one.
@@ -34,6 +34,9 @@ pub trait Explain {
 
     /// What looks like a slip in the inputs of a file, which are used.
     fn warnings(&self, alloc: Global, path: &Text, checked: &Checked) -> Option<String>;
+
+    /// What the status, the code or the rule of a number means.
+    fn number(&self, number: u32) -> &'static str;
 }
 
 /// A document that the program made itself is not explained.
@@ -66,5 +69,9 @@ impl Explain for MemoryShelf {
 
     fn warnings(&self, _: Global, _: &Text, _: &Checked) -> Option<String> {
         None
+    }
+
+    fn number(&self, _: u32) -> &'static str {
+        ""
     }
 }
