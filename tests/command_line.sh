@@ -85,6 +85,7 @@ about 'inputs -h' 'inputs FILE'
 about 'cwl -h' 'cwl [--inputs FILE] FILE'
 about 'load --help' 'load N'
 about 'help bundle' 'bundle FILE'
+about 'explain --help' 'explain CODE'
 about 'help --help' 'help [COMMAND]'
 about 'help help' 'help [COMMAND]'
 for argument in version --version -V; do
@@ -92,6 +93,32 @@ for argument in version --version -V; do
   same "$argument" 0 "$?"
   grep -qx 'wdl [0-9]*\.[0-9]*\.[0-9]*' out && [ ! -s err ] && pass || fail "$argument: $(cat out err)"
 done
+
+echo "what codes mean"
+# told_of CODE: what is said of it, in one line, without the marks of code.
+told_of() { "$program" explain "$1" 2>&1 | tr -d '`' | tr '\n' ' ' | tr -s ' '; }
+# Each row of docs/CODES.md: the code, its word, when it comes, an example and what to do, without links and the marks of code.
+sed -n 's/^| `*\([1-6][0-9][0-9]\)`* | \(.*\) |$/\1 | \2/p' "$top/docs/CODES.md" | sed 's/\[\([^]]*\)\]([^)]*)/\1/g' | tr -d '`' >codes
+codes=0
+while IFS= read -r row; do
+  code=${row%% *}
+  codes=$((codes + 1))
+  told=$(told_of "$code" | tr '[:upper:]' '[:lower:]')
+  missing=
+  while IFS= read -r part; do
+    case $told in *"$(echo "$part" | tr '[:upper:]' '[:lower:]' | tr -s ' ')"*) ;; *) missing="$missing; $part" ;; esac
+  done <<PARTS
+$(echo "$row" | awk -F ' [|] ' '{ for (i = 1; i <= NF; i++) if ($i != "" && $i != " ") print $i }')
+PARTS
+  same "explain $code says what docs/CODES.md says" '' "$missing"
+done <codes
+same "codes and rules" 83 "$codes"
+for status in 0 1 2 3 4 5 6 7 8 9 10 11; do
+  "$program" explain "$status" >out 2>err </dev/null
+  same "explain $status" "0 status $status" "$? $(head -n 1 out | cut -d : -f 1)$(cat err)"
+done
+longest=$(while read -r code rest; do "$program" explain "$code" | grep -v '^  '; done <codes | awk '{ if (length > most) most = length } END { print most }')
+[ "$longest" -le 80 ] && pass || fail "a line of $longest columns"
 
 echo "invalid command lines"
 usage='usage: wdl run [--inputs FILE] [--workers N] [--root DIR] [--journal FILE] FILE | check FILE | inputs FILE | cwl [--inputs FILE] FILE | load N | bundle FILE'
@@ -146,6 +173,14 @@ inputs
 inputs ''
 inputs --inputs i.json bare.wdl
 bundle
+explain
+explain 199
+explain 623
+explain 12
+explain +304
+explain ''
+explain 304 305
+explain BadOperands
 Run bare.wdl
 help bare.wdl
 help version
@@ -155,7 +190,7 @@ help run check
 version --help
 check --help --help
 END
-same "command lines" 53 "$rows"
+same "command lines" 61 "$rows"
 gives "a root of 513 bytes" 2 '' "$usage" run --root "/a$long" bare.wdl
 gives "an argument that is not UTF-8" 2 '' "$usage" check "$(printf '\377')"
 

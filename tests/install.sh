@@ -115,7 +115,7 @@ help_of() { "$program" help "$@" 2>/dev/null; }
 usage_of() { if [ "$1" = version ]; then echo "wdl version"; else help_of "$1" | sed -n 's/^usage: //p'; fi; }
 commands=$(help_of | sed -n 's/^  \([a-z]*\)   *[a-z].*/\1/p' | words)
 help_texts=$(help_of && for command in $commands; do help_of "$command"; done)
-same "the commands of the help" "$(echo run check inputs cwl bundle load help version | words)" "$commands"
+same "the commands of the help" "$(echo run check inputs cwl bundle explain load help version | words)" "$commands"
 same "the commands of the synopsis" "$commands" "$(sed -n 's/^\.B wdl \([a-z]*\).*/\1/p' "$page" | words)"
 same "the commands" "$commands" "$(section COMMANDS | tags | sed 's/[^a-z].*//' | words)"
 same "the options" "$(for command in $commands; do usage_of "$command"; done | options)" "$(section OPTIONS | tags | options)"

@@ -357,17 +357,18 @@ by slurm --quiet --nodes=1 --ntasks=1 --job-name=t sh
 export WDL_SRUN_ARGS='--mem=8G  *' WDL_NODE_SHELL=bash
 by slurm --quiet --nodes=1 --ntasks=1 --job-name=t --mem=8G '*' bash
 export WDL_IMAGE=tools.sif
-by apptainer exec --bind '/data a:/data a:ro' --bind /b:/b:ro --bind "$t:$t" --pwd "$t" tools.sif sh
+by apptainer exec --bind '/data a:/data a:ro' --bind /b:/b:ro --bind "$root:$root:ro" --bind "$t:$t" --pwd "$t" tools.sif sh
 export WDL_APPTAINER_ARGS='--nv *' WDL_IMAGE_SHELL=bash
-by apptainer exec --bind '/data a:/data a:ro' --bind /b:/b:ro --bind "$t:$t" --pwd "$t" --nv '*' tools.sif bash
+by apptainer exec --bind '/data a:/data a:ro' --bind /b:/b:ro --bind "$root:$root:ro" --bind "$t:$t" --pwd "$t" --nv '*' tools.sif bash
 export WDL_DOCKER_ARGS='--network=none *'
 by docker run --rm --init --name wdl-t-NUMBER --user "$(id -u):$(id -g)" --env HOME=/tmp \
   --mount 'type=bind,source=/data a,target=/data a,readonly' --mount type=bind,source=/b,target=/b,readonly \
-  --mount "type=bind,source=$t,target=$t" --workdir "$t" --network=none '*' --entrypoint bash tools.sif
+  --mount "type=bind,source=$root,target=$root,readonly" --mount "type=bind,source=$t,target=$t" --workdir "$t" --network=none '*' --entrypoint bash tools.sif
 unset WDL_MOUNTS WDL_SRUN_ARGS WDL_NODE_SHELL WDL_IMAGE WDL_APPTAINER_ARGS WDL_IMAGE_SHELL WDL_DOCKER_ARGS
 # A slurm that runs the command in an image on the node.
 export WDL_NODE_SHELL="$top/examples/shells/docker" WDL_IMAGE=debian:12
-by slurm run --rm --init --name wdl-t-NUMBER --user "$(id -u):$(id -g)" --env HOME=/tmp --mount "type=bind,source=$t,target=$t" --workdir "$t" --entrypoint sh debian:12
+by slurm run --rm --init --name wdl-t-NUMBER --user "$(id -u):$(id -g)" --env HOME=/tmp \
+  --mount "type=bind,source=$root,target=$root,readonly" --mount "type=bind,source=$t,target=$t" --workdir "$t" --entrypoint sh debian:12
 unset WDL_NODE_SHELL WDL_IMAGE
 
 # shell NAME STATUS OUT ERR VALUE COMMAND: runs a command with this value of WDL_SHELL.
@@ -400,7 +401,7 @@ printf '#!/bin/sh\necho own\nexec sh "$@"\n' >'own shell'
 chmod +x 'own shell'
 shell "a shell by a relative path" 0 '{"w.r":"own\\na"}\n' '' './own shell' 'echo a'
 shell "a shell that is empty" 0 '{"w.r":"a"}\n' '' '' 'echo a'
-shell "a shell that is not there" 1 '' 'failed t: status 127\n' /no/such/shell 'echo a'
+shell "a shell that is not there" 9 '' 'cannot launch t\n' /no/such/shell 'echo a'
 shell "a shell that is no text" 9 '' 'cannot launch t\n' "$(printf '\377')" 'echo a'
 
 echo "what a command leaves"

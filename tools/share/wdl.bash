@@ -17,7 +17,7 @@ _wdl_options() {
 }
 
 _wdl() {
-  local commands='run check inputs cwl bundle load help version'
+  local commands='run check inputs cwl bundle explain load help version'
   local word=${COMP_WORDS[COMP_CWORD]} before=${COMP_WORDS[COMP_CWORD - 1]} command=${COMP_WORDS[1]}
   # Bash divides --inputs=FILE into three words.
   [[ $word != = ]] || word=
@@ -31,7 +31,7 @@ _wdl() {
     run,--inputs | cwl,--inputs) _wdl_files '*.json' "$word" ;;
     run,--journal) compopt -o filenames && mapfile -t COMPREPLY < <(compgen -f -- "$word") ;;
     run,--root) compopt -o filenames && mapfile -t COMPREPLY < <(compgen -d -- "$word") ;;
-    run,--workers | load,* | version,*) ;;
+    run,--workers | explain,* | load,* | version,*) ;;
     help,*) ((COMP_CWORD > 2)) || mapfile -t COMPREPLY < <(compgen -W "$commands" -- "$word") ;;
     *)
       case $command,$word in

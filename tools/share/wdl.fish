@@ -1,5 +1,5 @@
 # Completes the command line of wdl in fish.
-set -l commands run check inputs cwl bundle load help version
+set -l commands run check inputs cwl bundle explain load help version
 set -l none "not __fish_seen_subcommand_from $commands"
 
 complete -c wdl -f
@@ -8,6 +8,7 @@ complete -c wdl -n $none -a check -d 'check a document and all that it imports'
 complete -c wdl -n $none -a inputs -d 'write the inputs of a workflow as a JSON object to fill in'
 complete -c wdl -n $none -a cwl -d 'write a workflow, or its inputs, for CWL v1.2'
 complete -c wdl -n $none -a bundle -d 'write a workflow and its imports as one document'
+complete -c wdl -n $none -a explain -d 'say what a status, a code or a rule means'
 complete -c wdl -n $none -a load -d 'run a made-up workflow of N calls, to measure the runner'
 complete -c wdl -n $none -a help -d 'show this help, or that of a command'
 complete -c wdl -n $none -a version -d 'show the version of the program'
