@@ -84,6 +84,15 @@ bad.wdl:3:11: error 301 UnknownName: the name \`y\` is not known here
           ^
 $line
 END
+noted check bad.wdl
+cp err want
+for words in '--notes check bad.wdl' 'check --notes bad.wdl' 'check bad.wdl --notes'; do
+  # shellcheck disable=SC2086
+  "$program" $words >out 2>err </dev/null
+  same "$words" "3 $(cat want)" "$? $(cat err out)"
+done
+"$program" check -- --notes >out 2>err </dev/null
+same "a document with the name --notes" "5 cannot read --notes" "$? $(cat err out)"
 WDL_NOTES=0 "$program" check bad.wdl >out 2>err </dev/null
 same "WDL_NOTES=0: the line alone" "$line" "$(cat err)"
 noted check missing.wdl

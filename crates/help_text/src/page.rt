@@ -20,7 +20,8 @@ usage: wdl COMMAND ..
 
 The output is written to standard output. With every status but 0 nothing is
 written there (with 6 a part of the output may be), and one line on standard
-error says what is wrong.
+error says what is wrong. With --notes anywhere on the command line, notes for a
+person come before that line, as they do on a terminal.
 
 status  meaning
      0  success: all output was written
@@ -182,8 +183,8 @@ example:
 ";
 
 pub const EXPLAIN: &str = "\
-Says what a status, the code of an error or a rule of CWL and bundles means, with
-a smallest example and what to do.
+Says what a status, the code of an error, or a rule of CWL and bundles means,
+with a smallest example and what to do.
 
 usage: wdl explain CODE
 

@@ -44,10 +44,14 @@ pub(crate) fn outer_mark<R: Env + AllocGlobal>(rt: &R) -> Result<Option<String>,
     }
 }
 
-/// Returns whether a person reads the notes: where the stream is a terminal, or the environment has
-/// `WDL_NOTES=1`.
-fn shows_notes<R: Env + AllocGlobal, W: IsTerminal + Drop>(rt: &R, stream: &W) -> bool {
-    if stream.is_terminal() {
+/// Returns whether a person reads the notes: where they are asked for by a word, the stream is a
+/// terminal, or the environment has `WDL_NOTES=1`.
+fn shows_notes<R: Env + AllocGlobal, W: IsTerminal + Drop>(
+    rt: &R,
+    stream: &W,
+    asked: bool,
+) -> bool {
+    if asked || stream.is_terminal() {
         return true;
     }
     match env::var(rt, "WDL_NOTES") {
@@ -61,8 +65,9 @@ fn shows_notes<R: Env + AllocGlobal, W: IsTerminal + Drop>(rt: &R, stream: &W) -
 pub(crate) fn note_stream<R: Env + AllocGlobal, W: IsTerminal + Drop>(
     rt: &R,
     stream: W,
+    asked: bool,
 ) -> Either<W, io::Sink> {
-    if shows_notes(rt, &stream) {
+    if shows_notes(rt, &stream, asked) {
         Either::Left(stream)
     } else {
         Either::Right(io::sink())

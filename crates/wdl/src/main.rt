@@ -4,6 +4,7 @@
 ghost use Rattle.std.specs.Prelude.{◌≡◌, ◌<◌, None};
 
 mod environment;
+mod words;
 
 use command_notes::RecallingShelf;
 use environment::{clear_of, note_stream, outer_mark, shell, style_of};
@@ -13,35 +14,19 @@ use report_text::{Status, no_memory_line, number_of};
 use run_notes::RunNotes;
 use run_watch::Watch;
 use std::alloc::Global;
-use std::env::Env;
-use std::io::ErrorKind;
 use std::marker::Brand;
+use std::process;
 use std::process::ExitCode;
 use std::sync::Wait;
 use std::sync::ledger::{Blank, Ledger};
 use std::thread::Threads;
 use std::time::Clock;
-use std::{env, process};
 use usage_notes::usage_note;
 use wdl_port::{Keeper, Launcher, Shelf, Sink};
-use wdl_value::{NoMemory, Steps};
+use wdl_value::Steps;
+use words::{Words, words};
 use workflow_cli::{FileShelf, StreamSink, workflow};
 use workflow_stages::{Explain, write_all};
-
-/// The words after the program's name. Where they are no text there are none, which has no reading.
-fn words<R: Env + AllocGlobal>(rt: &R) -> Result<Vec<String>, NoMemory> {
-    let mut words = Vec::new(rt.alloc());
-    match env::args(rt) {
-        Ok(all) => {
-            for word in all.skip(1) {
-                words.push(word)?;
-            }
-        }
-        Err(e) if e.kind() == ErrorKind::OutOfMemory => return Err(NoMemory),
-        Err(_) => {}
-    }
-    Ok(words)
-}
 
 /// Tells a person what is wrong with words that ask for nothing.
 fn tell_usage<N: Sink>(alloc: Global, words: &[String], notes: &mut N) {
@@ -93,18 +78,22 @@ fn main(rt: HostRuntime) -> ExitCode {
         let _ = err.write(no_memory_line().as_bytes());
         return ExitCode::from(number_of(&Status::NoMemory));
     };
+    let Words {
+        words,
+        notes: asked,
+    } = words;
     let mut shelf = RecallingShelf::new(alloc, FileShelf::new(&rt));
     let mut out = StreamSink::new(rt.stdout());
     let stream = rt.stderr();
     let style = style_of(&stream);
-    let mut notes = StreamSink::new(note_stream(&rt, stream));
-    let mut lines = StreamSink::new(note_stream(&rt, rt.stderr()));
+    let mut notes = StreamSink::new(note_stream(&rt, stream, asked));
+    let mut lines = StreamSink::new(note_stream(&rt, rt.stderr(), asked));
     let mut progress = RunNotes::new(alloc, &mut lines, &rt, style);
     let own = Launching {
         process: process::id(rt.process()),
         mark,
     };
-    let reasons = Notes::new(note_stream(&rt, rt.stderr()), clear_of(style));
+    let reasons = Notes::new(note_stream(&rt, rt.stderr(), asked), clear_of(style));
     let launcher = ShellLauncher::new(&rt, shell, own, reasons);
     let mut keeper = SqlKeeper::new(&rt);
     tell_usage(alloc, words.as_slice(), &mut notes);

@@ -1,0 +1,36 @@
+//! The words of the command line.
+use std::env;
+use std::env::Env;
+use std::io::ErrorKind;
+use wdl_value::NoMemory;
+
+/// The words after the program's name.
+#[derive(Drop)]
+pub(crate) struct Words {
+    /// All but `--notes`.
+    pub words: Vec<String>,
+    /// Whether notes are asked for, by `--notes` in front of any `--`.
+    pub notes: bool,
+}
+
+/// Returns the words. Where they are no text there are none, which has no reading.
+pub(crate) fn words<R: Env + AllocGlobal>(rt: &R) -> Result<Words, NoMemory> {
+    let mut words = Vec::new(rt.alloc());
+    let mut notes = false;
+    let mut plain = false;
+    match env::args(rt) {
+        Ok(all) => {
+            for word in all.skip(1) {
+                plain = plain || word.as_str() == "--";
+                if word.as_str() == "--notes" && !plain {
+                    notes = true;
+                } else {
+                    words.push(word)?;
+                }
+            }
+        }
+        Err(e) if e.kind() == ErrorKind::OutOfMemory => return Err(NoMemory),
+        Err(_) => {}
+    }
+    Ok(Words { words, notes })
+}
