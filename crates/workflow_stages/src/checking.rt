@@ -220,6 +220,9 @@ pub fn linted_of<F: Shelf + Explain, N: Sink>(
     ensures outcome { Checks (F.tells shelf.old) file.now (F.refuses shelf.old) (Rose (F.faults shelf.old) (F.faults shelf.new)) result }
     ensures counted { StopCounts result (F.faults shelf.old) (F.faults shelf.new) }
     ensures paths { IfErr result (λ s. HasPath s.status s.paths) }
+    ensures later { F.faults shelf.old ≤ F.faults shelf.new }
+    ensures same_files { (p : List ℕ) → F.tells shelf.new p ≡ F.tells shelf.old p }
+    ensures same_refusals { (p : List ℕ) → F.refuses shelf.new p ↔ F.refuses shelf.old p }
 {
     match gathered(alloc, file, shelf) {
         Ok(library) => linted(alloc, &library, &*shelf, notes),
