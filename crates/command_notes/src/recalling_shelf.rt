@@ -8,7 +8,7 @@ use std::alloc::Global;
 use wdl_library::Library;
 use wdl_port::{PathFile, ReadFault, Shelf};
 use wdl_typed::Checked;
-use wdl_value::{Span, Text};
+use wdl_value::{Env, Span, Text};
 use workflow_stages::Explain;
 
 /// A shelf that keeps a copy of each file that it read, where there is memory for it, for the notes
@@ -97,7 +97,7 @@ impl<F> Explain for RecallingShelf<F> {
         None
     }
 
-    fn warnings(&self, alloc: Global, path: &Text, _: &Checked) -> Option<String> {
+    fn warnings(&self, alloc: Global, path: &Text, _: &Env) -> Option<String> {
         let text = self.recall(path.as_str())?;
         inputs_warning(alloc, path.as_str(), text).ok()
     }

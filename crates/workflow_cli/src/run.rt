@@ -55,8 +55,7 @@ use std::thread::Threads;
 use std::time::Clock;
 use wdl_json::outputs_text;
 use wdl_port::{Keeper, Launcher, NoKeeper, Shelf, Sink};
-use wdl_typed::Checked;
-use wdl_value::{Bind, Counts, Entry, Items, Name, NoMemory, Steps, Text};
+use wdl_value::{Bind, Counts, Entry, Env, Items, Name, NoMemory, Steps, Text};
 use work_desk::{Ran, Stop, run_all};
 use workflow_stages::{Explain, Prepared, Work, main_flow, start_of, stop_of, tell};
 
@@ -344,12 +343,12 @@ fn run_main<L: Launcher + Sync, K: Keeper, P: Watch, R: Threads + Wait + Clock +
 fn warn<F: Explain, N: Sink>(
     alloc: Global,
     inputs: &Option<Text>,
-    checked: &Checked,
+    given: &Env,
     shelf: &F,
     notes: &mut N,
 ) {
     if let Some(path) = inputs {
-        tell(&shelf.warnings(alloc, path, checked), notes);
+        tell(&shelf.warnings(alloc, path, given), notes);
     }
 }
 
@@ -388,7 +387,7 @@ pub fn run<
 {
     match start_of(alloc, file, inputs, shelf) {
         Ok(prepared) => {
-            warn(alloc, inputs, &prepared.checked, &*shelf, notes);
+            warn(alloc, inputs, &prepared.given, &*shelf, notes);
             run_main(
                 rt, alloc, prepared, options, launcher, keeper, progress, steps,
             )

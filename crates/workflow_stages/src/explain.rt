@@ -2,7 +2,7 @@ use std::alloc::Global;
 use wdl_library::Library;
 use wdl_port::MemoryShelf;
 use wdl_typed::Checked;
-use wdl_value::{Span, Text};
+use wdl_value::{Env, Span, Text};
 
 /// What tells a person of what was read, and of numbers. No contract speaks of what it says, and
 /// where it answers None nothing is told.
@@ -33,7 +33,7 @@ pub trait Explain {
     fn lints(&self, alloc: Global, library: &Library, checked: &Checked) -> Option<String>;
 
     /// What looks like a slip in the inputs of a file, which are used.
-    fn warnings(&self, alloc: Global, path: &Text, checked: &Checked) -> Option<String>;
+    fn warnings(&self, alloc: Global, path: &Text, given: &Env) -> Option<String>;
 
     /// What the status, the code or the rule of a number means.
     fn number(&self, number: u32) -> &'static str;
@@ -67,7 +67,7 @@ impl Explain for MemoryShelf {
         None
     }
 
-    fn warnings(&self, _: Global, _: &Text, _: &Checked) -> Option<String> {
+    fn warnings(&self, _: Global, _: &Text, _: &Env) -> Option<String> {
         None
     }
 
