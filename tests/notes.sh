@@ -401,4 +401,41 @@ done
 "$program" run --help >out
 tells "help run" out --inputs --workers --root --journal
 
+echo "input files that jobs will not find"
+cat >files.wdl <<'END'
+version 1.1
+struct Lane {
+  String name
+  File? reads
+}
+workflow w {
+  input {
+    Array[File] fs = []
+    Pair[Int, Lane]? lane
+    Map[File, String]? named
+    String s = ""
+  }
+}
+END
+: >there
+# warned NAME WANTED INPUTS: a run with these inputs ends well, and its warnings are these lines. `|` ends each of them.
+warned() {
+  echo "$3" >f.json
+  WDL_NOTES=1 "$program" run --root "$root" --inputs f.json files.wdl >out 2>err </dev/null
+  same "$1" "0 {} $2" "$? $(cat out) $(grep '^f.json: warning: ' err | sed 's/^f.json: warning: //' | tr '\n' '|')"
+}
+whole='each job looks in a directory of its own; give the whole path'
+warned "a relative path" "the input \`fs\`: \`a.txt\`: $whole: $work/a.txt|" '{"w.fs":["a.txt"]}'
+warned "a relative path of a file that is there" "the input \`fs\`: \`there\`: $whole: $work/there|" '{"w.fs":["there"]}'
+warned "a file that is not there" "the input \`fs\`: \`$work/gone\`: no such file|" '{"w.fs":["'"$work/there"'","'"$work/gone"'"]}'
+warned "a file on a network" 'the input `fs`: `https://example.org/a`: files on a network are not read; copy it to this machine|' '{"w.fs":["https://example.org/a"]}'
+warned "a file in a struct in a pair" "the input \`lane\`: \`b/r.fq\`: $whole: $work/b/r.fq|" '{"w.lane":{"left":1,"right":{"name":"x","reads":"b/r.fq"}}}'
+warned "a file as a key" "the input \`named\`: \`k\`: $whole: $work/k|" '{"w.named":{"k":"v"}}'
+warned "files that are there, a folder, and texts" '' '{"w.fs":["'"$work/there"'","/"],"w.s":"a.txt","w.lane":{"left":1,"right":{"name":"n","reads":null}}}'
+warned "seven files" "$(for i in 1 2 3 4 5; do printf 'the input `fs`: `/no/%s`: no such file|' $i; done)2 more input files will not be found|" \
+  '{"w.fs":["/no/1","/no/2","/no/3","/no/4","/no/5","/no/6","/no/7"]}'
+echo '{"w.fs":["a.txt"]}' >f.json
+"$program" run --root "$root" --inputs f.json files.wdl >out 2>err </dev/null
+same "without notes nothing is said" '{}' "$(cat out err)"
+
 conclude

@@ -44,9 +44,14 @@ pub(crate) fn outer_mark<R: Env + AllocGlobal>(rt: &R) -> Result<Option<String>,
     }
 }
 
+/// Returns the folder in which the program was started, if it can be named.
+pub(crate) fn folder<R: Env + AllocGlobal>(rt: &R) -> Option<String> {
+    env::current_dir(rt).ok()
+}
+
 /// Returns whether a person reads the notes: where they are asked for by a word, the stream is a
 /// terminal, or the environment has `WDL_NOTES=1`.
-fn shows_notes<R: Env + AllocGlobal, W: IsTerminal + Drop>(
+pub(crate) fn shows_notes<R: Env + AllocGlobal, W: IsTerminal + Drop>(
     rt: &R,
     stream: &W,
     asked: bool,

@@ -7,7 +7,8 @@ mod environment;
 mod words;
 
 use command_notes::RecallingShelf;
-use environment::{clear_of, note_stream, outer_mark, shell, style_of};
+use environment::{clear_of, folder, note_stream, outer_mark, shell, shows_notes, style_of};
+use file_notes::SeeingShelf;
 use job_launcher::{Launching, Notes, ShellLauncher};
 use keeper_sql::SqlKeeper;
 use report_text::{Status, no_memory_line, number_of};
@@ -82,9 +83,11 @@ fn main(rt: HostRuntime) -> ExitCode {
         words,
         notes: asked,
     } = words;
-    let mut shelf = RecallingShelf::new(alloc, FileShelf::new(&rt));
-    let mut out = StreamSink::new(rt.stdout());
     let stream = rt.stderr();
+    let is_read = shows_notes(&rt, &stream, asked);
+    let files = RecallingShelf::new(alloc, FileShelf::new(&rt));
+    let mut shelf = SeeingShelf::new(files, &rt, folder(&rt), is_read);
+    let mut out = StreamSink::new(rt.stdout());
     let style = style_of(&stream);
     let mut notes = StreamSink::new(note_stream(&rt, stream, asked));
     let mut lines = StreamSink::new(note_stream(&rt, rt.stderr(), asked));
