@@ -5,6 +5,7 @@ use crate::lookup::{task_at, value_at};
 use crate::note::Note;
 use crate::tally::Tally;
 use ready_core::{Core, Job};
+use run_watch::Watch;
 use std::alloc::Global;
 use std::collections::BTreeMap;
 use std::time::{Clock, Duration, Instant};
@@ -94,16 +95,15 @@ fn push_line(
 }
 
 impl<'s, N: Sink, C: Clock + Drop> RunNotes<'s, N, C> {
-    /// Returns notes that are empty yet. The time of the run begins here.
+    /// Returns notes that are empty yet.
     pub fn new(alloc: Global, sink: &'s mut N, clock: C, style: Style) -> RunNotes<'s, N, C> {
-        let began = Instant::now(&clock).ok();
         RunNotes {
             alloc,
             sink,
             clock,
             style,
             ended: false,
-            began,
+            began: None,
             running: BTreeMap::new(alloc),
             tally: Tally::default(),
         }
@@ -142,7 +142,7 @@ impl<'s, N: Sink, C: Clock + Drop> RunNotes<'s, N, C> {
     }
 
     /// Keeps the time at which a job began, its attempt and its successes.
-    fn start(&mut self, job: &Job, attempt: Attempt) -> Result<(), NoMemory> {
+    fn start_job(&mut self, job: &Job, attempt: Attempt) -> Result<(), NoMemory> {
         let place = place_text(self.alloc, &job.request().place)?;
         let key = String::from_str(self.alloc, place.as_str())?;
         let codes = job.codes().copy(self.alloc)?;
@@ -178,7 +178,7 @@ impl<'s, N: Sink, C: Clock + Drop> RunNotes<'s, N, C> {
     }
 
     /// The job of a place, which no longer runs. None where there was no memory to keep it.
-    fn stop(&mut self, place: &Place) -> Option<Running> {
+    fn stop_job(&mut self, place: &Place) -> Option<Running> {
         let place = place_text(self.alloc, place).ok()?;
         self.running.remove(place.as_str())
     }
@@ -205,13 +205,6 @@ impl<'s, N: Sink, C: Clock + Drop> RunNotes<'s, N, C> {
             self.write(note.bytes());
         }
     }
-
-    /// Ends the notes of a run: writes what is known of the job that failed, where one did, and the
-    /// summary. `root` is the directory of the jobs.
-    pub fn end(&mut self, alloc: Global, core: &Core, root: &Text) {
-        self.tell_failed(alloc, core);
-        self.summarize(alloc, root);
-    }
 }
 
 impl<'s, N: Sink, C: Clock + Drop> Progress for RunNotes<'s, N, C> {
@@ -219,20 +212,20 @@ impl<'s, N: Sink, C: Clock + Drop> Progress for RunNotes<'s, N, C> {
         let request = job.request();
         let attempt = Attempt::new(request.attempt, job.retries());
         self.tally.begin(request.attempt);
-        let _ = self.start(job, attempt);
+        let _ = self.start_job(job, attempt);
         self.tell(&request.place, Event::Started { attempt });
     }
 
     fn ended(&mut self, entry: &Entry) {
         let status = entry.answer.status;
-        let running = self.stop(&entry.request.place);
+        let running = self.stop_job(&entry.request.place);
         self.tally.end(has_succeeded(&running, status));
         let event = self.end_of(&running, status);
         self.tell(&entry.request.place, event);
     }
 
     fn unlaunched(&mut self, request: &Request) {
-        let _ = self.stop(&request.place);
+        let _ = self.stop_job(&request.place);
         self.tally.give_up();
         self.tell(&request.place, Event::Unlaunched);
     }
@@ -240,5 +233,18 @@ impl<'s, N: Sink, C: Clock + Drop> Progress for RunNotes<'s, N, C> {
     fn kept(&mut self, entry: &Entry) {
         self.tally.keep(entry.request.attempt);
         self.tell(&entry.request.place, Event::Kept);
+    }
+}
+
+impl<'s, N: Sink, C: Clock + Drop> Watch for RunNotes<'s, N, C> {
+    /// The time of the run begins here.
+    fn start(&mut self) {
+        self.began = Instant::now(&self.clock).ok();
+    }
+
+    /// Writes what is known of the job that failed, where one did, and the summary.
+    fn end(&mut self, alloc: Global, core: &Core, root: &Text) {
+        self.tell_failed(alloc, core);
+        self.summarize(alloc, root);
     }
 }

@@ -5,12 +5,13 @@ ghost use Rattle.std.specs.Prelude.{◌≡◌, ◌<◌, None};
 
 mod environment;
 
+use command_notes::RecallingShelf;
 use environment::{clear_of, note_stream, outer_mark, shell, style_of};
-use help_text::usage_note;
 use job_launcher::{Launching, Notes, ShellLauncher};
 use keeper_sql::SqlKeeper;
 use report_text::{Status, no_memory_line, number_of};
-use run_notes::Style;
+use run_notes::RunNotes;
+use run_watch::Watch;
 use std::alloc::Global;
 use std::env::Env;
 use std::io::ErrorKind;
@@ -21,10 +22,11 @@ use std::sync::ledger::{Blank, Ledger};
 use std::thread::Threads;
 use std::time::Clock;
 use std::{env, process};
+use usage_notes::usage_note;
 use wdl_port::{Keeper, Launcher, Shelf, Sink};
 use wdl_value::{NoMemory, Steps};
 use workflow_cli::{FileShelf, StreamSink, workflow};
-use workflow_stages::{Recall, RecallingShelf, write_all};
+use workflow_stages::{Explain, write_all};
 
 /// The words after the program's name. Where they are no text there are none, which has no reading.
 fn words<R: Env + AllocGlobal>(rt: &R) -> Result<Vec<String>, NoMemory> {
@@ -50,10 +52,11 @@ fn tell_usage<N: Sink>(alloc: Global, words: &[String], notes: &mut N) {
 
 /// Makes the top call with a count of steps that nobody reads, and gives the number of its status.
 fn number<
-    F: Shelf + Recall,
+    F: Shelf + Explain,
     O: Sink,
     E: Sink,
     N: Sink,
+    P: Watch,
     L: Launcher + Sync,
     K: Keeper,
     R: Threads + Wait + Clock + Sync,
@@ -66,7 +69,7 @@ fn number<
     out: &mut O,
     err: &mut E,
     notes: &mut N,
-    style: Style,
+    progress: &mut P,
     launcher: &L,
     keeper: &mut K,
     blank: Blank,
@@ -78,7 +81,7 @@ fn number<
 {
     let mut steps: Steps<S> = Steps::start(blank);
     let ended = workflow(
-        rt, alloc, words, shelf, out, err, notes, style, launcher, keeper, &mut steps,
+        rt, alloc, words, shelf, out, err, notes, progress, launcher, keeper, &mut steps,
     );
     number_of(&ended.status)
 }
@@ -95,6 +98,8 @@ fn main(rt: HostRuntime) -> ExitCode {
     let stream = rt.stderr();
     let style = style_of(&stream);
     let mut notes = StreamSink::new(note_stream(&rt, stream));
+    let mut lines = StreamSink::new(note_stream(&rt, rt.stderr()));
+    let mut progress = RunNotes::new(alloc, &mut lines, &rt, style);
     let own = Launching {
         process: process::id(rt.process()),
         mark,
@@ -103,7 +108,7 @@ fn main(rt: HostRuntime) -> ExitCode {
     let launcher = ShellLauncher::new(&rt, shell, own, reasons);
     let mut keeper = SqlKeeper::new(&rt);
     tell_usage(alloc, words.as_slice(), &mut notes);
-    let number = number::<_, _, _, _, _, _, _, Brand>(
+    let number = number::<_, _, _, _, _, _, _, _, Brand>(
         &rt,
         alloc,
         words.as_slice(),
@@ -111,7 +116,7 @@ fn main(rt: HostRuntime) -> ExitCode {
         &mut out,
         &mut err,
         &mut notes,
-        style,
+        &mut progress,
         &launcher,
         &mut keeper,
         Blank::new(1),

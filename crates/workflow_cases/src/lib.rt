@@ -18,8 +18,8 @@
 //! - `refuse PLACE` refuses that place.
 //!
 //! `$ WORDS` are the words of the call, and `room OUT ERR` the bytes that the two sinks take. The
-//! sink of the notes takes nothing, so that each write there fails, or the bytes of `notes NUMBER`.
-//! What is to be seen stands behind `>`.
+//! sink of the notes and that of the lines of a run take nothing, so that each write there fails,
+//! or each the bytes of `notes NUMBER`. What is to be seen stands behind `>`.
 #![tactic(auto)]
 
 mod answers;
@@ -28,8 +28,10 @@ mod files;
 mod reading;
 mod run;
 mod showing;
+mod sinks;
 
 pub use expecting::first_mistake;
 pub use reading::{Case, read_case};
 pub use run::{Outcome, run_case};
 pub use showing::shown;
+pub use sinks::Sinks;

@@ -1,8 +1,9 @@
 use crate::answers::{push_answer, push_letters, push_other, push_seen};
 use crate::files::{begin_say, begin_version, push_file, push_line, push_times};
+use crate::sinks::{Sinks, sink};
 use std::alloc::Global;
 use std::test::Fail;
-use wdl_port::{MapKeeper, MemoryShelf, MemorySink, TableRow};
+use wdl_port::{MapKeeper, MemoryShelf, TableRow};
 use wdl_value::{Items, NoMemory, Place, Seen, place_of};
 
 /// What is read of a case.
@@ -20,21 +21,12 @@ pub struct Case {
     /// The numbers of the keeper's calls that fail.
     pub unkept: Items<u64>,
     pub words: Vec<String>,
-    pub out: MemorySink,
-    pub err: MemorySink,
-    pub notes: MemorySink,
-}
-
-/// An empty sink with room for so many bytes.
-fn sink(alloc: Global, room: usize) -> Result<MemorySink, NoMemory> {
-    MemorySink::new(alloc, room, Items::new(alloc))
+    pub sinks: Sinks,
 }
 
 /// A case of no files, no answers and no words.
 fn start(alloc: Global) -> Result<Case, NoMemory> {
-    let out = sink(alloc, 100_000)?;
-    let err = sink(alloc, 1_000)?;
-    let notes = sink(alloc, 0)?;
+    let sinks = Sinks::new(alloc)?;
     Ok(Case {
         text: String::new(alloc),
         left: Items::new(alloc),
@@ -44,9 +36,7 @@ fn start(alloc: Global) -> Result<Case, NoMemory> {
         keeper: MapKeeper::new(alloc, Items::new(alloc)),
         unkept: Items::new(alloc),
         words: Vec::new(alloc),
-        out,
-        err,
-        notes,
+        sinks,
     })
 }
 
@@ -60,15 +50,17 @@ fn push_words(alloc: Global, words: &mut Vec<String>, line: &str) -> Result<(), 
     Ok(())
 }
 
-fn set_rooms(alloc: Global, case: &mut Case, rest: &str) -> Result<(), Fail> {
+fn set_rooms(alloc: Global, sinks: &mut Sinks, rest: &str) -> Result<(), Fail> {
     let (out, err) = rest.split_once(' ').unwrap_or((rest, ""));
-    case.out = sink(alloc, out.parse::<usize>()?)?;
-    case.err = sink(alloc, err.parse::<usize>()?)?;
+    sinks.out = sink(alloc, out.parse::<usize>()?)?;
+    sinks.err = sink(alloc, err.parse::<usize>()?)?;
     Ok(())
 }
 
-fn set_notes(alloc: Global, case: &mut Case, rest: &str) -> Result<(), Fail> {
-    case.notes = sink(alloc, rest.parse::<usize>()?)?;
+fn set_notes(alloc: Global, sinks: &mut Sinks, rest: &str) -> Result<(), Fail> {
+    let room = rest.parse::<usize>()?;
+    sinks.notes = sink(alloc, room)?;
+    sinks.lines = sink(alloc, room)?;
     Ok(())
 }
 
@@ -115,8 +107,8 @@ fn read_line(alloc: Global, case: &mut Case, line: &str) -> Result<(), Fail> {
     }
     match word {
         "$" => push_words(alloc, &mut case.words, rest),
-        "room" => set_rooms(alloc, case, rest),
-        "notes" => set_notes(alloc, case, rest),
+        "room" => set_rooms(alloc, &mut case.sinks, rest),
+        "notes" => set_notes(alloc, &mut case.sinks, rest),
         _ => Ok(()),
     }
 }

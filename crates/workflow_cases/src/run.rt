@@ -1,7 +1,9 @@
 ghost use Rattle.std.specs.Prelude.{◌≡◌, ◌<◌, None};
 
 use crate::reading::Case;
-use run_notes::Style;
+use crate::sinks::Sinks;
+use command_notes::RecallingShelf;
+use run_notes::{RunNotes, Style};
 use std::alloc::Global;
 use std::marker::Brand;
 use std::sync::Wait;
@@ -9,17 +11,14 @@ use std::sync::ledger::{Blank, Ledger};
 use std::test::Fail;
 use std::thread::Threads;
 use std::time::Clock;
-use wdl_port::{Keeper, Launcher, MapKeeper, MemoryShelf, MemorySink, TableLauncher};
+use wdl_port::{Keeper, Launcher, MapKeeper, MemoryShelf, TableLauncher};
 use wdl_value::Steps;
 use workflow_cli::{Ended, workflow};
-use workflow_stages::RecallingShelf;
 
 /// How a call ended, what was written, and the journal's keeper.
 pub struct Outcome {
     pub ended: Ended,
-    pub out: MemorySink,
-    pub err: MemorySink,
-    pub notes: MemorySink,
+    pub sinks: Sinks,
     pub keeper: MapKeeper,
 }
 
@@ -27,15 +26,11 @@ impl Drop for Outcome {
     fn drop(self) {
         let Outcome {
             ended,
-            out,
-            err,
-            notes,
+            sinks,
             keeper,
         } = self;
         drop(ended);
-        drop(out);
-        drop(err);
-        drop(notes);
+        drop(sinks);
         drop(keeper);
     }
 }
@@ -45,9 +40,7 @@ impl Outcome {
     pub fn into_keeper(self) -> MapKeeper {
         let Outcome {
             ended: _,
-            out: _,
-            err: _,
-            notes: _,
+            sinks: _,
             keeper,
         } = self;
         keeper
@@ -59,9 +52,7 @@ fn run<L: Launcher + Sync, K: Keeper, R: Threads + Wait + Clock + Sync, S: Ledge
     alloc: Global,
     words: &[String],
     shelf: &mut RecallingShelf<MemoryShelf>,
-    out: &mut MemorySink,
-    err: &mut MemorySink,
-    notes: &mut MemorySink,
+    sinks: &mut Sinks,
     launcher: &L,
     keeper: &mut K,
     blank: Blank,
@@ -72,15 +63,16 @@ fn run<L: Launcher + Sync, K: Keeper, R: Threads + Wait + Clock + Sync, S: Ledge
     requires some { 0 < blank.parts }
 {
     let mut steps: Steps<S> = Steps::start(blank);
+    let mut progress = RunNotes::new(alloc, &mut sinks.lines, rt, Style::Lines);
     workflow(
         rt,
         alloc,
         words,
         shelf,
-        out,
-        err,
-        notes,
-        Style::Lines,
+        &mut sinks.out,
+        &mut sinks.err,
+        &mut sinks.notes,
+        &mut progress,
         launcher,
         keeper,
         &mut steps,
@@ -100,9 +92,7 @@ pub fn run_case<R: Threads + Wait + Clock + Sync>(
         refused,
         keeper,
         unkept,
-        mut out,
-        mut err,
-        mut notes,
+        mut sinks,
         ..
     } = case;
     let launcher = TableLauncher::new(alloc, rows, refused)?;
@@ -113,18 +103,14 @@ pub fn run_case<R: Threads + Wait + Clock + Sync>(
         alloc,
         words.as_slice(),
         &mut shelf,
-        &mut out,
-        &mut err,
-        &mut notes,
+        &mut sinks,
         &launcher,
         &mut keeper,
         Blank::new(1),
     );
     Ok(Outcome {
         ended,
-        out,
-        err,
-        notes,
+        sinks,
         keeper,
     })
 }

@@ -60,10 +60,10 @@ fn push_entries(shown: &mut String, journal: &[Entry]) -> Result<(), Fail> {
 }
 
 fn push_written(shown: &mut String, outcome: &Outcome) -> Result<(), Fail> {
-    shown.push_str(str::from_utf8(outcome.out.bytes.as_slice())?)?;
-    if !outcome.err.bytes.is_empty() {
+    shown.push_str(str::from_utf8(outcome.sinks.out.bytes.as_slice())?)?;
+    if !outcome.sinks.err.bytes.is_empty() {
         shown.push_str("! ")?;
-        shown.push_str(str::from_utf8(outcome.err.bytes.as_slice())?)?;
+        shown.push_str(str::from_utf8(outcome.sinks.err.bytes.as_slice())?)?;
     }
     Ok(())
 }
@@ -76,8 +76,8 @@ fn timeless(line: &str) -> &str {
 }
 
 /// Behind `#` the lines of the notes, each up to a time in it.
-fn push_notes(shown: &mut String, notes: &str) -> Result<(), Fail> {
-    for line in notes.lines() {
+fn push_notes(shown: &mut String, notes: &[u8]) -> Result<(), Fail> {
+    for line in str::from_utf8(notes)?.lines() {
         shown.push_str("# ")?;
         shown.push_str(timeless(line))?;
         shown.push_str("\n")?;
@@ -87,7 +87,7 @@ fn push_notes(shown: &mut String, notes: &str) -> Result<(), Fail> {
 
 /// What is seen of a call: the number of its status and how many jobs it collected, the jobs that
 /// were taken and settled, what was written to the output, behind `!` what was written to the error
-/// stream, the requests of its journal, and its notes.
+/// stream, the requests of its journal, and its notes, behind which the lines of a run stand.
 pub fn shown<R: Threads + Wait + Clock + Sync>(
     rt: &R,
     alloc: Global,
@@ -100,6 +100,7 @@ pub fn shown<R: Threads + Wait + Clock + Sync>(
     push_steps(alloc, &mut shown, outcome.ended.steps.as_slice())?;
     push_written(&mut shown, &outcome)?;
     push_entries(&mut shown, outcome.ended.journal.as_slice())?;
-    push_notes(&mut shown, str::from_utf8(outcome.notes.bytes.as_slice())?)?;
+    push_notes(&mut shown, outcome.sinks.notes.bytes.as_slice())?;
+    push_notes(&mut shown, outcome.sinks.lines.bytes.as_slice())?;
     Ok(shown)
 }

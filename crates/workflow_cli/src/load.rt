@@ -15,16 +15,16 @@ use crate::asking::{Report, RunOptions};
 use crate::ended::Worked;
 use crate::run::{idle, run_plain};
 use report_text::Status;
-use run_notes::Style;
+use run_watch::Silent;
 use std::alloc::Global;
 use std::sync::Wait;
 use std::sync::ledger::Ledger;
 use std::thread::Threads;
 use std::time::Clock;
 use wdl_load::{load_table, load_text};
-use wdl_port::{MemoryShelf, MemorySink, TableLauncher};
-use wdl_value::{Items, NoMemory, Steps, Text};
-use workflow_stages::{CommandStop, Prepared, RecallingShelf, Work, shelf_of, start_of, stop_of};
+use wdl_port::{MemoryShelf, TableLauncher};
+use wdl_value::{NoMemory, Steps, Text};
+use workflow_stages::{CommandStop, Prepared, Work, shelf_of, start_of, stop_of};
 
 /// The path of the document on its shelf.
 const FILE: &str = "load.wdl";
@@ -39,15 +39,15 @@ const WORKERS: u32 = 4;
 #[derive(Drop)]
 struct Source {
     file: Text,
-    shelf: RecallingShelf<MemoryShelf>,
+    shelf: MemoryShelf,
 }
 
 /// The document of a load, on a shelf that has nothing else.
 fn source_of(alloc: Global, number: u32) -> Result<Source, NoMemory>
     requires number { (1 ≤ number) × (number ≤ 10000) }
     ensures file { IfOk result (λ s. s.file ≡ spec.load_file) }
-    ensures files { IfOk result (λ s. s.shelf.shelf.files ≡ spec.load_files number) }
-    ensures fails { IfOk result (λ s. s.shelf.shelf.fails ≡ []) }
+    ensures files { IfOk result (λ s. s.shelf.files ≡ spec.load_files number) }
+    ensures fails { IfOk result (λ s. s.shelf.fails ≡ []) }
 {
     let file = Text::from_plain(alloc, FILE)?;
     let text = load_text(alloc, number)?;
@@ -68,12 +68,11 @@ fn load_start(alloc: Global, number: u32) -> Result<Prepared, CommandStop>
     start_of(alloc, &file, &None, &mut shelf)
 }
 
-/// What a load runs with: its options, its answers, and a sink of notes that takes none.
+/// What a load runs with: its options and its answers.
 #[derive(Drop)]
 struct Means {
     options: RunOptions,
     table: TableLauncher,
-    silent: MemorySink,
 }
 
 /// What a load of so many calls runs with.
@@ -87,18 +86,13 @@ fn means_of(alloc: Global, number: u32) -> Result<Means, NoMemory>
 {
     let root = Text::from_plain(alloc, SITE)?;
     let table = load_table(alloc, number)?;
-    let silent = MemorySink::new(alloc, 0, Items::new(alloc))?;
     let options = RunOptions {
         workers: WORKERS,
         root,
         journal: None,
         report: Report::Load(number),
     };
-    Ok(Means {
-        options,
-        table,
-        silent,
-    })
+    Ok(Means { options, table })
 }
 
 /// Runs the workflow of a load over its answers.
@@ -107,7 +101,6 @@ fn run_load<R: Threads + Wait + Clock + Sync, S: Ledger>(
     alloc: Global,
     prepared: Prepared,
     number: u32,
-    style: Style,
     steps: &mut Steps<S>,
 ) -> Worked
     requires number { (1 ≤ number) × (number ≤ 10000) }
@@ -117,26 +110,10 @@ fn run_load<R: Threads + Wait + Clock + Sync, S: Ledger>(
         (main_with prepared.checked prepared.given (spec.load_options number) f) result.work }
     ensures paths { HasPaths result.work }
 {
-    let Ok(
-        Means {
-            options,
-            table,
-            mut silent,
-        },
-    ) = means_of(alloc, number)
-    else {
+    let Ok(Means { options, table }) = means_of(alloc, number) else {
         return idle(alloc, Work::Stop(stop_of(alloc, Status::NoMemory)));
     };
-    run_plain(
-        rt,
-        alloc,
-        prepared,
-        &options,
-        &table,
-        &mut silent,
-        style,
-        steps,
-    )
+    run_plain(rt, alloc, prepared, &options, &table, &mut Silent, steps)
 }
 
 /// Makes a workflow of so many calls and runs it by 4 workers. No command is started: the answers
@@ -145,7 +122,6 @@ pub fn load<R: Threads + Wait + Clock + Sync, S: Ledger>(
     rt: &R,
     alloc: Global,
     number: u32,
-    style: Style,
     steps: &mut Steps<S>,
 ) -> Worked
     requires number { (1 ≤ number) × (number ≤ 10000) }
@@ -153,7 +129,7 @@ pub fn load<R: Threads + Wait + Clock + Sync, S: Ledger>(
     ensures paths { HasPaths result.work }
 {
     match load_start(alloc, number) {
-        Ok(prepared) => run_load(rt, alloc, prepared, number, style, steps),
+        Ok(prepared) => run_load(rt, alloc, prepared, number, steps),
         Err(stop) => idle(alloc, Work::Stop(stop)),
     }
 }

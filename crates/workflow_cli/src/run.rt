@@ -45,10 +45,9 @@ use crate::asking::{Report, RunOptions};
 use crate::ended::Worked;
 use crate::journal::rows_of;
 use crate::load_line::load_line;
-use input_notes::inputs_warning;
 use ready_core::{Core, History};
 use report_text::Status;
-use run_notes::{RunNotes, Style};
+use run_watch::Watch;
 use std::alloc::Global;
 use std::sync::Wait;
 use std::sync::ledger::Ledger;
@@ -56,9 +55,10 @@ use std::thread::Threads;
 use std::time::Clock;
 use wdl_json::outputs_text;
 use wdl_port::{Keeper, Launcher, NoKeeper, Shelf, Sink};
+use wdl_typed::Checked;
 use wdl_value::{Bind, Counts, Entry, Items, Name, NoMemory, Steps, Text};
 use work_desk::{Ran, Stop, run_all};
-use workflow_stages::{Prepared, Recall, Work, main_flow, start_of, stop_of, write_all};
+use workflow_stages::{Explain, Prepared, Work, main_flow, start_of, stop_of, tell};
 
 /// The outputs as one JSON object, and a newline.
 fn text_of(alloc: Global, name: &Name, outputs: &[Bind]) -> Result<Text, NoMemory>
@@ -223,14 +223,13 @@ fn begin<S: Ledger>(
 }
 
 /// Runs the main workflow without a journal.
-pub fn run_plain<L: Launcher + Sync, N: Sink, R: Threads + Wait + Clock + Sync, S: Ledger>(
+pub fn run_plain<L: Launcher + Sync, P: Watch, R: Threads + Wait + Clock + Sync, S: Ledger>(
     rt: &R,
     alloc: Global,
     prepared: Prepared,
     options: &RunOptions,
     launcher: &L,
-    notes: &mut N,
-    style: Style,
+    progress: &mut P,
     steps: &mut Steps<S>,
 ) -> Worked
     requires fitting { (f : Flow) × IsFitting prepared.checked prepared.given f }
@@ -245,7 +244,7 @@ pub fn run_plain<L: Launcher + Sync, N: Sink, R: Threads + Wait + Clock + Sync, 
     let Ok(Begun { core, name }) = begin(alloc, prepared, &options.root, steps) else {
         return idle(alloc, Work::Stop(stop_of(alloc, Status::NoMemory)));
     };
-    let mut progress = RunNotes::new(alloc, notes, rt, style);
+    progress.start();
     let ran = run_all(
         rt,
         alloc,
@@ -254,7 +253,7 @@ pub fn run_plain<L: Launcher + Sync, N: Sink, R: Threads + Wait + Clock + Sync, 
         None::<&mut NoKeeper>,
         Items::new(alloc),
         options.workers,
-        &mut progress,
+        progress,
         steps,
     );
     progress.end(alloc, &ran.core, &options.root);
@@ -262,7 +261,7 @@ pub fn run_plain<L: Launcher + Sync, N: Sink, R: Threads + Wait + Clock + Sync, 
 }
 
 /// Runs the main workflow over the rows of its journal, and keeps its answers there.
-fn run_over<L: Launcher + Sync, K: Keeper, N: Sink, R: Threads + Wait + Clock + Sync, S: Ledger>(
+fn run_over<L: Launcher + Sync, K: Keeper, P: Watch, R: Threads + Wait + Clock + Sync, S: Ledger>(
     rt: &R,
     alloc: Global,
     prepared: Prepared,
@@ -270,8 +269,7 @@ fn run_over<L: Launcher + Sync, K: Keeper, N: Sink, R: Threads + Wait + Clock + 
     rows: Items<Entry>,
     launcher: &L,
     keeper: &mut K,
-    notes: &mut N,
-    style: Style,
+    progress: &mut P,
     steps: &mut Steps<S>,
 ) -> Worked
     requires fitting { (f : Flow) × IsFitting prepared.checked prepared.given f }
@@ -292,7 +290,7 @@ fn run_over<L: Launcher + Sync, K: Keeper, N: Sink, R: Threads + Wait + Clock + 
     let Ok(Begun { core, name }) = begin(alloc, prepared, &options.root, steps) else {
         return idle(alloc, Work::Stop(stop_of(alloc, Status::NoMemory)));
     };
-    let mut progress = RunNotes::new(alloc, notes, rt, style);
+    progress.start();
     let ran = run_all(
         rt,
         alloc,
@@ -301,7 +299,7 @@ fn run_over<L: Launcher + Sync, K: Keeper, N: Sink, R: Threads + Wait + Clock + 
         Some(keeper),
         rows,
         options.workers,
-        &mut progress,
+        progress,
         steps,
     );
     progress.end(alloc, &ran.core, &options.root);
@@ -309,15 +307,14 @@ fn run_over<L: Launcher + Sync, K: Keeper, N: Sink, R: Threads + Wait + Clock + 
 }
 
 /// Runs the main workflow with its inputs: over the rows of its journal where one is named.
-fn run_main<L: Launcher + Sync, K: Keeper, N: Sink, R: Threads + Wait + Clock + Sync, S: Ledger>(
+fn run_main<L: Launcher + Sync, K: Keeper, P: Watch, R: Threads + Wait + Clock + Sync, S: Ledger>(
     rt: &R,
     alloc: Global,
     prepared: Prepared,
     options: &RunOptions,
     launcher: &L,
     keeper: &mut K,
-    notes: &mut N,
-    style: Style,
+    progress: &mut P,
     steps: &mut Steps<S>,
 ) -> Worked
     requires fitting { (f : Flow) × IsFitting prepared.checked prepared.given f }
@@ -333,35 +330,36 @@ fn run_main<L: Launcher + Sync, K: Keeper, N: Sink, R: Threads + Wait + Clock + 
     ensures keeper { (keeper.new ≡ keeper.old) ⊎ NamesJournal options.now.journal (K.path keeper.new) }
 {
     let Some(path) = &options.journal else {
-        return run_plain(rt, alloc, prepared, options, launcher, notes, style, steps);
+        return run_plain(rt, alloc, prepared, options, launcher, progress, steps);
     };
     match rows_of(alloc, path, keeper) {
         Ok(rows) => run_over(
-            rt, alloc, prepared, options, rows, launcher, keeper, notes, style, steps,
+            rt, alloc, prepared, options, rows, launcher, keeper, progress, steps,
         ),
         Err(status) => idle(alloc, Work::Stop(stop_of(alloc, status))),
     }
 }
 
 /// Warns a person of what looks like a slip in inputs that are used.
-fn warn<F: Recall, N: Sink>(alloc: Global, inputs: &Option<Text>, shelf: &F, notes: &mut N) {
-    let Some(path) = inputs else {
-        return;
-    };
-    let Some(text) = shelf.recall(path.as_str()) else {
-        return;
-    };
-    if let Ok(warning) = inputs_warning(alloc, path.as_str(), text) {
-        let _ = write_all(notes, warning.as_bytes());
+fn warn<F: Explain, N: Sink>(
+    alloc: Global,
+    inputs: &Option<Text>,
+    checked: &Checked,
+    shelf: &F,
+    notes: &mut N,
+) {
+    if let Some(path) = inputs {
+        tell(&shelf.warnings(alloc, path, checked), notes);
     }
 }
 
 /// Runs the main workflow of the document at a path, with the inputs of a file.
 pub fn run<
-    F: Shelf + Recall,
+    F: Shelf + Explain,
     L: Launcher + Sync,
     K: Keeper,
     N: Sink,
+    P: Watch,
     R: Threads + Wait + Clock + Sync,
     S: Ledger,
 >(
@@ -374,7 +372,7 @@ pub fn run<
     launcher: &L,
     keeper: &mut K,
     notes: &mut N,
-    style: Style,
+    progress: &mut P,
     steps: &mut Steps<S>,
 ) -> Worked
     requires workers { (1 ≤ options.now.workers) × (options.now.workers ≤ 64) }
@@ -390,9 +388,9 @@ pub fn run<
 {
     match start_of(alloc, file, inputs, shelf) {
         Ok(prepared) => {
-            warn(alloc, inputs, &*shelf, notes);
+            warn(alloc, inputs, &prepared.checked, &*shelf, notes);
             run_main(
-                rt, alloc, prepared, options, launcher, keeper, notes, style, steps,
+                rt, alloc, prepared, options, launcher, keeper, progress, steps,
             )
         }
         Err(stop) => idle(alloc, Work::Stop(stop)),

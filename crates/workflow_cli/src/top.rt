@@ -35,7 +35,7 @@ ghost use Rattle.workflow_cli.specs.Complete.{
 use crate::ended::{Ended, Worked};
 use crate::finish::finish;
 use crate::work::work;
-use run_notes::Style;
+use run_watch::Watch;
 use std::alloc::Global;
 use std::sync::Wait;
 use std::sync::ledger::Ledger;
@@ -43,7 +43,7 @@ use std::thread::Threads;
 use std::time::Clock;
 use wdl_port::{Keeper, Launcher, Shelf, Sink};
 use wdl_value::Steps;
-use workflow_stages::{Recall, write_note};
+use workflow_stages::{Explain, write_note};
 
 /// All that the program does.
 /// `run [--inputs FILE] [--workers N] [--root DIR] [--journal FILE] FILE` reads the document of
@@ -64,14 +64,15 @@ use workflow_stages::{Recall, write_note};
 /// spellings, write a text of the program and a newline. With another status its line is written to
 /// `err`.
 ///
-/// `notes` gets what a person is told of a run as it goes on, and of why a command does no more.
-/// Nothing is promised of it here, and nothing depends on whether a write to it fails. `style` says
-/// how the lines of a run look.
+/// What a person is told comes from the caller: `shelf` explains what was read, which goes to
+/// `notes`, and `progress` sees a run as it goes on. Nothing is promised of it here, and nothing
+/// depends on whether a write to `notes` fails.
 pub fn workflow<
-    F: Shelf + Recall,
+    F: Shelf + Explain,
     O: Sink,
     E: Sink,
     N: Sink,
+    P: Watch,
     L: Launcher + Sync,
     K: Keeper,
     R: Threads + Wait + Clock + Sync,
@@ -84,7 +85,7 @@ pub fn workflow<
     out: &mut O,
     err: &mut E,
     notes: &mut N,
-    style: Style,
+    progress: &mut P,
     launcher: &L,
     keeper: &mut K,
     steps: &mut Steps<S>,
@@ -197,7 +198,7 @@ pub fn workflow<
         steps: taken,
         counts,
     } = work(
-        rt, alloc, words, shelf, launcher, keeper, notes, style, steps,
+        rt, alloc, words, shelf, launcher, keeper, notes, progress, steps,
     );
     write_note(&work, notes);
     let status = finish(alloc, work, out, err);

@@ -15,7 +15,7 @@ use crate::load::load;
 use crate::printing::printed;
 use crate::run::{idle, run};
 use report_text::Status;
-use run_notes::Style;
+use run_watch::Watch;
 use std::alloc::Global;
 use std::sync::Wait;
 use std::sync::ledger::Ledger;
@@ -23,16 +23,21 @@ use std::thread::Threads;
 use std::time::Clock;
 use wdl_port::{Keeper, Launcher, Shelf, Sink};
 use wdl_value::{Steps, Text};
-use workflow_stages::{Recall, Work, checked_of, stop_of};
+use workflow_stages::{Explain, Work, linted_of, stop_of};
 use workflow_texts::{bundled, cwl, form};
 
-/// Checks the document at a path.
-fn accepted<F: Shelf + Recall>(alloc: Global, file: &Text, shelf: &mut F) -> Work
+/// Checks the document at a path. `notes` gets what looks like a slip in it.
+fn accepted<F: Shelf + Explain, N: Sink>(
+    alloc: Global,
+    file: &Text,
+    shelf: &mut F,
+    notes: &mut N,
+) -> Work
     ensures value { Accepts (F.tells shelf.old) (F.refuses shelf.old) (Rose (F.faults shelf.old) (F.faults shelf.new)) file.now result }
     ensures counted { WorkCounts result (F.faults shelf.old) (F.faults shelf.new) }
     ensures paths { HasPaths result }
 {
-    match checked_of(alloc, file, shelf) {
+    match linted_of(alloc, file, shelf, notes) {
         Ok(_) => match Text::from_plain(alloc, "ok\n") {
             Ok(text) => Work::Text(text),
             Err(_) => Work::Stop(stop_of(alloc, Status::NoMemory)),
@@ -43,10 +48,11 @@ fn accepted<F: Shelf + Recall>(alloc: Global, file: &Text, shelf: &mut F) -> Wor
 
 /// Does what the words ask for, up to the writing.
 pub fn work<
-    F: Shelf + Recall,
+    F: Shelf + Explain,
     L: Launcher + Sync,
     K: Keeper,
     N: Sink,
+    P: Watch,
     R: Threads + Wait + Clock + Sync,
     S: Ledger,
 >(
@@ -57,7 +63,7 @@ pub fn work<
     launcher: &L,
     keeper: &mut K,
     notes: &mut N,
-    style: Style,
+    progress: &mut P,
     steps: &mut Steps<S>,
 ) -> Worked
     requires fresh { K.path keeper.old ≡ None }
@@ -82,13 +88,13 @@ pub fn work<
                 options,
             },
         ) => run(
-            rt, alloc, &file, &inputs, &options, shelf, launcher, keeper, notes, style, steps,
+            rt, alloc, &file, &inputs, &options, shelf, launcher, keeper, notes, progress, steps,
         ),
-        Ok(Command::Check { file }) => idle(alloc, accepted(alloc, &file, shelf)),
+        Ok(Command::Check { file }) => idle(alloc, accepted(alloc, &file, shelf, notes)),
         Ok(Command::Cwl { file, inputs }) => idle(alloc, cwl(alloc, &file, &inputs, shelf)),
         Ok(Command::Inputs { file }) => idle(alloc, form(alloc, &file, shelf)),
         Ok(Command::Bundle { file }) => idle(alloc, bundled(alloc, &file, shelf)),
-        Ok(Command::Load { number }) => load(rt, alloc, number, style, steps),
+        Ok(Command::Load { number }) => load(rt, alloc, number, steps),
         Ok(Command::Print { page }) => idle(alloc, printed(alloc, page)),
         Err(status) => idle(alloc, Work::Stop(stop_of(alloc, status))),
     }

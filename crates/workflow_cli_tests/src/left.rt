@@ -17,7 +17,8 @@ pub fn ends(outcome: &Outcome) -> (u8, u64, usize, usize) {
 
 /// Whether a run wrote this to its output and to its error stream.
 pub fn wrote(outcome: &Outcome, out: &str, err: &str) -> bool {
-    outcome.out.bytes.as_slice() == out.as_bytes() && outcome.err.bytes.as_slice() == err.as_bytes()
+    let sinks = &outcome.sinks;
+    sinks.out.bytes.as_slice() == out.as_bytes() && sinks.err.bytes.as_slice() == err.as_bytes()
 }
 
 /// Whether a run ended with this status before it took a job or asked its keeper anything.

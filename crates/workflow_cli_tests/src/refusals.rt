@@ -99,7 +99,7 @@ fn a_front_of_the_document_has_status_3(rt: HostRuntime) -> Result<(), Fail> {
         let outcome = run(&rt, &whole[..length], "")?;
         assert!(rt; is_idle(&outcome, 3), "{length}");
         assert!(rt;
-            outcome.out.bytes.is_empty() && !outcome.err.bytes.is_empty(),
+            outcome.sinks.out.bytes.is_empty() && !outcome.sinks.err.bytes.is_empty(),
             "{length}"
         );
     }

@@ -22,14 +22,14 @@ ghost use Rattle.workflow_stages.specs.Documents as spec;
 ghost use Rattle.workflow_stages.specs.Documents.{Checks, Gathers, LocatesIn, Types, paths_of};
 
 use crate::ended::CommandStop;
-use crate::note::note_on;
-use crate::recall::Recall;
+use crate::explain::Explain;
+use crate::note::tell;
 use report_text::Status;
 use std::alloc::Global;
 use wdl_check_doc::{CheckFault, check};
 use wdl_imports::{ImportFault, gather};
 use wdl_library::Library;
-use wdl_port::Shelf;
+use wdl_port::{Shelf, Sink};
 use wdl_typed::Checked;
 use wdl_value::{Items, NoMemory, Span, Text};
 
@@ -83,7 +83,7 @@ fn refused(alloc: Global, code: u16, path: Text, span: Span, note: Option<String
 }
 
 /// The library of the document at a path.
-pub fn gathered<F: Shelf + Recall>(
+pub fn gathered<F: Shelf + Explain>(
     alloc: Global,
     file: &Text,
     shelf: &mut F,
@@ -99,7 +99,7 @@ pub fn gathered<F: Shelf + Recall>(
         Ok(library) => Ok(library),
         Err(ImportFault::Read { path }) => Err(stop_of(alloc, Status::Read(path))),
         Err(ImportFault::Bad { code, path, span }) => {
-            let note = note_on(alloc, &*shelf, &path, code, span, None);
+            let note = shelf.document(alloc, &path, code, span, None);
             Err(refused(alloc, code, path, span, note))
         }
         Err(ImportFault::NoMemory) => Err(stop_of(alloc, Status::NoMemory)),
@@ -118,7 +118,7 @@ fn library_paths(alloc: Global, library: &Library) -> Result<Items<Text>, NoMemo
 }
 
 /// The stop of a library in which a rule is broken.
-fn untyped<F: Recall>(
+fn untyped<F: Explain>(
     alloc: Global,
     code: u16,
     span: Span,
@@ -130,7 +130,7 @@ fn untyped<F: Recall>(
     ensures paths { HasPath result.status result.paths }
 {
     let path = &library.docs.as_slice()[span.doc as usize].path;
-    let note = note_on(alloc, shelf, path, code, span, Some(library));
+    let note = shelf.document(alloc, path, code, span, Some(library));
     match library_paths(alloc, library) {
         Ok(paths) => CommandStop {
             status: Status::Document(code, span),
@@ -142,7 +142,7 @@ fn untyped<F: Recall>(
 }
 
 /// The checked form of a library.
-fn typed<F: Recall>(alloc: Global, library: &Library, shelf: &F) -> Result<Checked, CommandStop>
+fn typed<F: Explain>(alloc: Global, library: &Library, shelf: &F) -> Result<Checked, CommandStop>
     ensures outcome { Types library.now result }
     ensures paths { IfErr result (λ s. HasPath s.status s.paths) }
 {
@@ -154,7 +154,7 @@ fn typed<F: Recall>(alloc: Global, library: &Library, shelf: &F) -> Result<Check
 }
 
 /// The checked form of a library, with the paths of its documents.
-pub fn located_in<F: Recall>(
+pub fn located_in<F: Explain>(
     alloc: Global,
     library: &Library,
     shelf: &F,
@@ -173,7 +173,7 @@ pub fn located_in<F: Recall>(
 }
 
 /// The checked form of the document at a path, with its imports.
-pub fn checked_of<F: Shelf + Recall>(
+pub fn checked_of<F: Shelf + Explain>(
     alloc: Global,
     file: &Text,
     shelf: &mut F,
@@ -187,6 +187,45 @@ pub fn checked_of<F: Shelf + Recall>(
 {
     match gathered(alloc, file, shelf) {
         Ok(library) => typed(alloc, &library, &*shelf),
+        Err(stop) => Err(stop),
+    }
+}
+
+/// The checked form of a library. `notes` gets what looks like a slip in it.
+fn linted<F: Explain, N: Sink>(
+    alloc: Global,
+    library: &Library,
+    shelf: &F,
+    notes: &mut N,
+) -> Result<Checked, CommandStop>
+    ensures outcome { Types library.now result }
+    ensures paths { IfErr result (λ s. HasPath s.status s.paths) }
+{
+    let checked = match typed(alloc, library, shelf) {
+        Ok(checked) => checked,
+        Err(stop) => return Err(stop),
+    };
+    tell(&shelf.lints(alloc, library, &checked), notes);
+    Ok(checked)
+}
+
+/// The checked form of the document at a path, with its imports. `notes` gets what looks like a
+/// slip in them.
+pub fn linted_of<F: Shelf + Explain, N: Sink>(
+    alloc: Global,
+    file: &Text,
+    shelf: &mut F,
+    notes: &mut N,
+) -> Result<Checked, CommandStop>
+    ensures outcome { Checks (F.tells shelf.old) file.now (F.refuses shelf.old) (Rose (F.faults shelf.old) (F.faults shelf.new)) result }
+    ensures counted { StopCounts result (F.faults shelf.old) (F.faults shelf.new) }
+    ensures paths { IfErr result (λ s. HasPath s.status s.paths) }
+    ensures later { F.faults shelf.old ≤ F.faults shelf.new }
+    ensures same_files { (p : List ℕ) → F.tells shelf.new p ≡ F.tells shelf.old p }
+    ensures same_refusals { (p : List ℕ) → F.refuses shelf.new p ↔ F.refuses shelf.old p }
+{
+    match gathered(alloc, file, shelf) {
+        Ok(library) => linted(alloc, &library, &*shelf, notes),
         Err(stop) => Err(stop),
     }
 }

@@ -6,8 +6,7 @@ ghost use Rattle.workflow_stages.specs.Paths as spec;
 
 use crate::checking::stop_of;
 use crate::ended::CommandStop;
-use crate::note::note_on;
-use crate::recall::Recall;
+use crate::explain::Explain;
 use report_text::Status;
 use std::alloc::Global;
 use wdl_value::{Items, NoMemory, Span, Text};
@@ -24,7 +23,7 @@ fn padded(alloc: Global, paths: Items<Text>, number: u32) -> Result<Items<Text>,
 }
 
 /// The stop of a rule that is broken at a span of the documents with these paths.
-pub fn outside<F: Recall>(
+pub fn outside<F: Explain>(
     alloc: Global,
     rule: u16,
     span: Span,
@@ -35,7 +34,7 @@ pub fn outside<F: Recall>(
     ensures paths { HasPath result.status result.paths }
 {
     let note = match paths.get(span.doc as usize) {
-        Some(path) => note_on(alloc, shelf, path, rule, span, None),
+        Some(path) => shelf.document(alloc, path, rule, span, None),
         None => None,
     };
     match padded(alloc, paths, span.doc) {

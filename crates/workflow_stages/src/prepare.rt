@@ -11,9 +11,9 @@ ghost use Rattle.workflow_stages.specs.Preparing as spec;
 
 use crate::checking::{Located, gathered, located_in, stop_of};
 use crate::ended::CommandStop;
+use crate::explain::Explain;
 use crate::inputs::{given_of, inputs_text};
-use crate::note::{note_on, note_on_inputs};
-use crate::recall::Recall;
+use crate::note::note_on_inputs;
 use report_text::Status;
 use std::alloc::Global;
 use wdl_library::Library;
@@ -46,7 +46,7 @@ fn only_path(alloc: Global, file: &Text) -> Result<Items<Text>, NoMemory>
 }
 
 /// The stop of a document without a main workflow.
-fn stop_without_main<F: Recall>(alloc: Global, file: &Text, shelf: &F) -> CommandStop
+fn stop_without_main<F: Explain>(alloc: Global, file: &Text, shelf: &F) -> CommandStop
     ensures value { spec.IsMainlessStop file.now result.status result.paths }
     ensures paths { HasPath result.status result.paths }
 {
@@ -55,7 +55,7 @@ fn stop_without_main<F: Recall>(alloc: Global, file: &Text, shelf: &F) -> Comman
         start: 0,
         end: 0,
     };
-    let note = note_on(alloc, shelf, file, 327, span, None);
+    let note = shelf.document(alloc, file, 327, span, None);
     match only_path(alloc, file) {
         Ok(paths) => CommandStop {
             status: Status::Document(327, span),
@@ -68,7 +68,7 @@ fn stop_without_main<F: Recall>(alloc: Global, file: &Text, shelf: &F) -> Comman
 
 /// The checked form of a library, which has a main workflow. Its first document is the one at the
 /// path.
-pub fn main_in<F: Recall>(
+pub fn main_in<F: Explain>(
     alloc: Global,
     library: &Library,
     file: &Text,
@@ -88,7 +88,7 @@ pub fn main_in<F: Recall>(
 }
 
 /// The checked form of the document at a path, which has a main workflow.
-pub fn main_of<F: Shelf + Recall>(
+pub fn main_of<F: Shelf + Explain>(
     alloc: Global,
     file: &Text,
     shelf: &mut F,
@@ -124,7 +124,7 @@ fn given_in<F: Shelf>(
 }
 
 /// The stop of inputs that break a rule or cannot be read.
-fn unfit<F: Recall>(
+fn unfit<F: Explain>(
     alloc: Global,
     status: Status,
     checked: &Checked,
@@ -143,7 +143,7 @@ fn unfit<F: Recall>(
 }
 
 /// The checked form of the document at a path, and the inputs of its main workflow.
-pub fn start_of<F: Shelf + Recall>(
+pub fn start_of<F: Shelf + Explain>(
     alloc: Global,
     file: &Text,
     inputs: &Option<Text>,

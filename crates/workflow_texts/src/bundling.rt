@@ -17,7 +17,7 @@ use wdl_same::same_but_names;
 use wdl_typed::Checked;
 use wdl_value::{NoMemory, Span, Text};
 use workflow_stages::{
-    CommandStop, Located, Recall, Work, checked_of, gathered, main_in, outside, shelf_of, stop_of,
+    CommandStop, Explain, Located, Work, checked_of, gathered, main_in, outside, shelf_of, stop_of,
 };
 
 /// The fault of a rule that a bundle breaks as a whole.
@@ -104,7 +104,7 @@ fn checked_text(
     }
 }
 
-fn bundle_in<F: Recall>(
+fn bundle_in<F: Explain>(
     alloc: Global,
     library: &Library,
     located: Located,
@@ -127,7 +127,7 @@ fn bundle_in<F: Recall>(
 /// The main workflow of the document at a path and all that it imports as one document. What was
 /// made is read and checked again before it is given out: it has the checked form of the documents,
 /// but for the names and numbers of tasks.
-pub fn bundled<F: Shelf + Recall>(alloc: Global, file: &Text, shelf: &mut F) -> Work
+pub fn bundled<F: Shelf + Explain>(alloc: Global, file: &Text, shelf: &mut F) -> Work
     ensures value { spec.WritesBundle (F.tells shelf.old) (F.refuses shelf.old) (Rose (F.faults shelf.old) (F.faults shelf.new)) file.now result }
     ensures counted { WorkCounts result (F.faults shelf.old) (F.faults shelf.new) }
     ensures paths { HasPaths result }

@@ -14,7 +14,7 @@ use std::alloc::Global;
 use wdl_port::Shelf;
 use wdl_typed::{Checked, FlowDef};
 use wdl_value::{NoMemory, Text};
-use workflow_stages::{Recall, Work, main_flow, main_of, stop_of};
+use workflow_stages::{Explain, Work, main_flow, main_of, stop_of};
 
 /// The form of a workflow's inputs, and a newline.
 fn form_line(alloc: Global, flow: &FlowDef) -> Result<Text, NoMemory>
@@ -47,7 +47,7 @@ fn form_in(alloc: Global, checked: &Checked) -> Work
 }
 
 /// The form of the inputs of the main workflow of the document at a path.
-pub fn form<F: Shelf + Recall>(alloc: Global, file: &Text, shelf: &mut F) -> Work
+pub fn form<F: Shelf + Explain>(alloc: Global, file: &Text, shelf: &mut F) -> Work
     ensures value { spec.WritesForm (F.tells shelf.old) (F.refuses shelf.old) (Rose (F.faults shelf.old) (F.faults shelf.new)) file.now result }
     ensures counted { WorkCounts result (F.faults shelf.old) (F.faults shelf.new) }
     ensures paths { HasPaths result }

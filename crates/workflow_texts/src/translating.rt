@@ -25,11 +25,11 @@ use wdl_typed::{Checked, TInput};
 use wdl_value::{Env, Items, NoMemory, Structs, Text};
 use wide_formed::see_members;
 use workflow_stages::{
-    CommandStop, Located, Prepared, Recall, Work, main_of, outside, start_of, stop_of,
+    CommandStop, Explain, Located, Prepared, Work, main_of, outside, start_of, stop_of,
 };
 
 /// The checked form as one of the subset.
-fn subset_of<F: Recall>(
+fn subset_of<F: Explain>(
     alloc: Global,
     checked: Checked,
     paths: Items<Text>,
@@ -129,7 +129,7 @@ fn work_of(alloc: Global, text: Result<Text, NoMemory>) -> Work
 }
 
 /// The work of a checked form without aliases and struct inputs.
-fn document_of<F: Recall>(alloc: Global, lowered: Lowered, paths: Items<Text>, shelf: &F) -> Work
+fn document_of<F: Explain>(alloc: Global, lowered: Lowered, paths: Items<Text>, shelf: &F) -> Work
     requires main { IsSome lowered.checked.main }
     ensures value { spec.FormWork lowered paths result }
     ensures paths { HasPaths result }
@@ -148,7 +148,7 @@ fn document_of<F: Recall>(alloc: Global, lowered: Lowered, paths: Items<Text>, s
     }
 }
 
-fn document_in<F: Recall>(alloc: Global, located: Located, shelf: &F) -> Work
+fn document_in<F: Explain>(alloc: Global, located: Located, shelf: &F) -> Work
     requires main { IsSome located.checked.main }
     ensures value { spec.DocumentWork located.checked located.paths result }
     ensures paths { HasPaths result }
@@ -161,7 +161,7 @@ fn document_in<F: Recall>(alloc: Global, located: Located, shelf: &F) -> Work
 }
 
 /// The work of the inputs of a form without aliases and struct inputs.
-fn object_of<F: Recall>(
+fn object_of<F: Explain>(
     alloc: Global,
     checked: Checked,
     paths: Items<Text>,
@@ -178,7 +178,7 @@ fn object_of<F: Recall>(
     }
 }
 
-fn object_in<F: Recall>(alloc: Global, prepared: Prepared, shelf: &F) -> Work
+fn object_in<F: Explain>(alloc: Global, prepared: Prepared, shelf: &F) -> Work
     requires main { IsSome prepared.checked.main }
     ensures value { spec.ObjectWork prepared.checked prepared.paths prepared.given result }
     ensures paths { HasPaths result }
@@ -195,7 +195,7 @@ fn object_in<F: Recall>(alloc: Global, prepared: Prepared, shelf: &F) -> Work
 }
 
 /// The CWL document of the main workflow of the document at a path.
-fn document<F: Shelf + Recall>(alloc: Global, file: &Text, shelf: &mut F) -> Work
+fn document<F: Shelf + Explain>(alloc: Global, file: &Text, shelf: &mut F) -> Work
     ensures value { spec.WritesDocument (F.tells shelf.old) (F.refuses shelf.old) (Rose (F.faults shelf.old) (F.faults shelf.new)) file.now result }
     ensures counted { WorkCounts result (F.faults shelf.old) (F.faults shelf.new) }
     ensures paths { HasPaths result }
@@ -207,7 +207,7 @@ fn document<F: Shelf + Recall>(alloc: Global, file: &Text, shelf: &mut F) -> Wor
 }
 
 /// The CWL input object of the inputs of a file, for the main workflow of the document at a path.
-fn object<F: Shelf + Recall>(
+fn object<F: Shelf + Explain>(
     alloc: Global,
     file: &Text,
     inputs: &Option<Text>,
@@ -225,7 +225,7 @@ fn object<F: Shelf + Recall>(
 
 /// The CWL document of the main workflow of the document at a path; or, where the file of inputs is
 /// named, the CWL input object of these.
-pub fn cwl<F: Shelf + Recall>(
+pub fn cwl<F: Shelf + Explain>(
     alloc: Global,
     file: &Text,
     inputs: &Option<Text>,

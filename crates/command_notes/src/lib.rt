@@ -1,0 +1,6 @@
+//! What a person is told of the documents and inputs that a command reads.
+#![tactic(auto)]
+
+mod recalling_shelf;
+
+pub use recalling_shelf::RecallingShelf;

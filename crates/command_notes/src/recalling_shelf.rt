@@ -1,0 +1,103 @@
+ghost use Rattle.std.specs.Prelude.{◌≡◌};
+
+use fault_notes::document_note;
+use input_notes::{inputs_note, inputs_warning};
+use sqlite_items::Items;
+use std::alloc::Global;
+use wdl_library::Library;
+use wdl_port::{PathFile, ReadFault, Shelf};
+use wdl_typed::Checked;
+use wdl_value::{Span, Text};
+use workflow_stages::Explain;
+
+/// A shelf that keeps a copy of each file that it read, where there is memory for it, for the notes
+/// that quote it.
+#[derive(Debug, Drop)]
+pub struct RecallingShelf<F> {
+    /// The shelf that reads.
+    pub shelf: F,
+    read: Items<PathFile>,
+}
+
+impl<F> RecallingShelf<F> {
+    /// Nothing is kept yet. It takes no memory.
+    pub fn new(alloc: Global, shelf: F) -> RecallingShelf<F>
+        ensures shelf { result.shelf ≡ shelf }
+    {
+        RecallingShelf {
+            shelf,
+            read: Items::new(alloc),
+        }
+    }
+
+    /// The bytes that were read at a path, if they were kept. It reads nothing.
+    fn recall(&self, path: &str) -> Option<&[u8]> {
+        for file in self.read.as_slice() {
+            if file.path.is(path) {
+                return Some(file.bytes.as_slice());
+            }
+        }
+        None
+    }
+}
+
+/// A copy of a file, if there is memory for it.
+fn copy_of(alloc: Global, path: &str, bytes: &[u8]) -> Option<PathFile> {
+    let path = Text::new(alloc, path).ok()?;
+    let bytes = Items::from_slice(alloc, bytes).ok()?;
+    Some(PathFile { path, bytes })
+}
+
+impl<F: Shelf> Shelf for RecallingShelf<F> {
+    ghost tells = { λ s. F.tells s.shelf };
+
+    ghost refuses = { λ s. F.refuses s.shelf };
+
+    ghost faults = { λ s. F.faults s.shelf };
+
+    fn read(&mut self, alloc: Global, path: &str) -> Result<Items<u8>, ReadFault> {
+        let bytes = self.shelf.read(alloc, path)?;
+        if let Some(file) = copy_of(alloc, path, bytes.as_slice()) {
+            let _ = self.read.push(file);
+        }
+        Ok(bytes)
+    }
+}
+
+impl<F> Explain for RecallingShelf<F> {
+    fn document(
+        &self,
+        alloc: Global,
+        path: &Text,
+        code: u16,
+        span: Span,
+        library: Option<&Library>,
+    ) -> Option<String> {
+        let bytes = self.recall(path.as_str())?;
+        document_note(alloc, path.as_str(), bytes, code, span, library).ok()
+    }
+
+    fn inputs(
+        &self,
+        alloc: Global,
+        path: &Option<Text>,
+        code: u16,
+        name: &Option<Text>,
+        checked: &Checked,
+    ) -> Option<String> {
+        let text = match path {
+            Some(path) => self.recall(path.as_str())?,
+            None => b"{}",
+        };
+        inputs_note(alloc, code, name.as_ref(), text, checked).ok()
+    }
+
+    fn lints(&self, _: Global, _: &Library, _: &Checked) -> Option<String> {
+        None
+    }
+
+    fn warnings(&self, alloc: Global, path: &Text, _: &Checked) -> Option<String> {
+        let text = self.recall(path.as_str())?;
+        inputs_warning(alloc, path.as_str(), text).ok()
+    }
+}
