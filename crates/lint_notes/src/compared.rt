@@ -16,13 +16,12 @@ fn is_string(structs: &Indexed<StructDef>, names: &Names, e: &Expr) -> bool {
 }
 
 /// The warning on a comparison, both sides of which are Strings where one is.
-pub fn compared<'w>(
-    structs: &Indexed<StructDef>,
-    names: &Names,
-    e: &Expr,
-) -> Option<Warning<'w>> {
+pub fn compared<'w>(structs: &Indexed<StructDef>, names: &Names, e: &Expr) -> Option<Warning<'w>> {
     let Expr::Binary {
-        left, sign, right, ..
+        left,
+        sign,
+        right,
+        ..
     } = e
     else {
         return None;

@@ -13,6 +13,7 @@ mod parameter;
 mod part;
 mod pattern;
 mod pieces;
+mod runner;
 mod sections;
 mod sentence;
 mod shape;
@@ -26,4 +27,5 @@ mod unused;
 mod warnings;
 mod word;
 
+pub use runner::Runner;
 pub use warnings::lints;

@@ -85,18 +85,36 @@ impl<'a> Names<'a> {
     /// Something refers to the name.
     pub fn set_used(&mut self, name: &Name) -> Result<(), NoMemory> {
         let known = self.get(name.as_str());
-        self.set(name, Known { used: true, ..known })
+        self.set(
+            name,
+            Known {
+                used: true,
+                ..known
+            },
+        )
     }
 
     /// The name is an input or an output.
     pub fn set_parameter(&mut self, name: &Name) -> Result<(), NoMemory> {
         let known = self.get(name.as_str());
-        self.set(name, Known { parameter: true, ..known })
+        self.set(
+            name,
+            Known {
+                parameter: true,
+                ..known
+            },
+        )
     }
 
     /// The name is a file that a function writes.
     pub fn set_written(&mut self, name: &Name) -> Result<(), NoMemory> {
         let known = self.get(name.as_str());
-        self.set(name, Known { written: true, ..known })
+        self.set(
+            name,
+            Known {
+                written: true,
+                ..known
+            },
+        )
     }
 }

@@ -7,6 +7,7 @@ use crate::lint::{Lint, Warning};
 use crate::names::Names;
 use crate::parameter::no_parameter;
 use crate::pattern::literal_pattern;
+use crate::runner::Runner;
 use crate::shape::shape_of;
 use crate::shell::Shell;
 use crate::unquoted::unquoted;
@@ -20,6 +21,7 @@ use wdl_value::{NoMemory, Span, StructDef};
 #[derive(Drop)]
 pub struct Part<'s, 'a> {
     pub alloc: Global,
+    pub runner: Runner,
     pub structs: &'s Indexed<'a, StructDef>,
     /// Its name.
     pub name: &'a str,
@@ -71,12 +73,11 @@ impl<'s, 'a> Part<'s, 'a> {
         self.names.set_shape(&block.item.name, shape)
     }
 
-    /// Appends the forms of Bash that were found from that number on.
-    fn push_forms(
-        &self,
-        found: &mut Vec<Warning<'a>>,
-        from: usize,
-    ) -> Result<(), NoMemory> {
+    /// Appends the forms of Bash that were found from that number on, where `sh` runs the command.
+    fn push_forms(&self, found: &mut Vec<Warning<'a>>, from: usize) -> Result<(), NoMemory> {
+        if self.runner == Runner::Other {
+            return Ok(());
+        }
         for form in self.shell.found.iter().skip(from) {
             found.push(Warning {
                 span: form.span,
@@ -87,22 +88,14 @@ impl<'s, 'a> Part<'s, 'a> {
     }
 
     /// Reads characters of the command.
-    fn push_chars(
-        &mut self,
-        found: &mut Vec<Warning<'a>>,
-        chars: &Chars,
-    ) -> Result<(), NoMemory> {
+    fn push_chars(&mut self, found: &mut Vec<Warning<'a>>, chars: &Chars) -> Result<(), NoMemory> {
         let before = self.shell.found.len();
         self.shell.take_chars(chars)?;
         self.push_forms(found, before)
     }
 
     /// Reads the end of the command.
-    fn push_end(
-        &mut self,
-        found: &mut Vec<Warning<'a>>,
-        closing: Span,
-    ) -> Result<(), NoMemory> {
+    fn push_end(&mut self, found: &mut Vec<Warning<'a>>, closing: Span) -> Result<(), NoMemory> {
         let before = self.shell.found.len();
         self.shell.take_end(closing)?;
         self.push_forms(found, before)

@@ -90,7 +90,9 @@ pub fn push_pieces<'a>(list: &mut Vec<Element<'a>>, e: &'a Expr) -> Result<(), N
         Expr::Name(ident) => Ok(list.push(Element::Use(ident))?),
         Expr::Str(string) => push_parts(list, string.parts.as_slice()),
         Expr::Call {
-            name, arguments, ..
+            name,
+            arguments,
+            ..
         } => {
             push_pattern(list, name, arguments.as_slice())?;
             push_items(list, arguments.as_slice())
@@ -115,7 +117,10 @@ fn push_parts<'a>(
 }
 
 #[cycle(pieces)]
-fn push_items<'a>(list: &mut Vec<Element<'a>>, items: &'a [ListItem<Expr>]) -> Result<(), NoMemory> {
+fn push_items<'a>(
+    list: &mut Vec<Element<'a>>,
+    items: &'a [ListItem<Expr>],
+) -> Result<(), NoMemory> {
     for item in items {
         push_pieces(list, &item.item)?;
     }

@@ -61,10 +61,7 @@ fn push_runtime<'a>(
     Ok(())
 }
 
-fn push_part<'a>(
-    list: &mut Vec<Element<'a>>,
-    part: &'a StringPart<Expr>,
-) -> Result<(), NoMemory> {
+fn push_part<'a>(list: &mut Vec<Element<'a>>, part: &'a StringPart<Expr>) -> Result<(), NoMemory> {
     match part {
         StringPart::Chars(chars) => Ok(list.push(Element::Chars(chars))?),
         StringPart::Placeholder(hole) => {
@@ -100,10 +97,7 @@ fn push_task_element<'a>(
 }
 
 /// Appends what stands in a task.
-pub fn push_task<'a>(
-    list: &mut Vec<Element<'a>>,
-    task: &'a TaskSection,
-) -> Result<(), NoMemory> {
+pub fn push_task<'a>(list: &mut Vec<Element<'a>>, task: &'a TaskSection) -> Result<(), NoMemory> {
     for element in task.elements.as_slice() {
         push_task_element(list, element)?;
     }
@@ -111,10 +105,7 @@ pub fn push_task<'a>(
 }
 
 /// An argument without a value is the name itself.
-fn push_argument<'a>(
-    list: &mut Vec<Element<'a>>,
-    argument: &'a Argument,
-) -> Result<(), NoMemory> {
+fn push_argument<'a>(list: &mut Vec<Element<'a>>, argument: &'a Argument) -> Result<(), NoMemory> {
     match &argument.value {
         Some(assigned) => push_pieces(list, &assigned.value),
         None => Ok(list.push(Element::Use(&argument.name))?),
@@ -153,10 +144,7 @@ fn push_statement<'a>(
 }
 
 #[cycle(statements)]
-fn push_body<'a>(
-    list: &mut Vec<Element<'a>>,
-    body: &'a [Statement],
-) -> Result<(), NoMemory> {
+fn push_body<'a>(list: &mut Vec<Element<'a>>, body: &'a [Statement]) -> Result<(), NoMemory> {
     for statement in body {
         push_statement(list, statement)?;
     }

@@ -135,6 +135,21 @@ fn given_texts(function: &Name) -> Option<Shape<'static>> {
     }
 }
 
+fn is_text(side: Option<Shape>) -> bool {
+    match side {
+        Some(shape) => shape.is_string() || shape.is_file(),
+        None => false,
+    }
+}
+
+/// A sum, which is a String where one side is a String or a File.
+fn sum_of(left: Option<Shape>, right: Option<Shape>) -> Option<Shape<'static>> {
+    if is_text(left) || is_text(right) {
+        return texts(0);
+    }
+    None
+}
+
 /// The shape of the first item.
 #[cycle(shapes)]
 fn first_shape<'a>(
@@ -163,24 +178,6 @@ fn given_shape<'a>(
     }
 }
 
-/// A sum, which is a String where one side is a String or a File.
-#[cycle(shapes)]
-fn sum_shape<'a>(
-    structs: &Indexed<'a, StructDef>,
-    names: &Names<'a>,
-    left: &Expr,
-    right: &Expr,
-) -> Option<Shape<'a>> {
-    for side in [shape_of(structs, names, left), shape_of(structs, names, right)] {
-        if let Some(shape) = side {
-            if shape.is_string() || shape.is_file() {
-                return texts(0);
-            }
-        }
-    }
-    None
-}
-
 /// What is known of the type of an expression; none where that is neither a String nor leads to
 /// one, or does not follow from declarations.
 #[cycle(shapes)]
@@ -193,7 +190,9 @@ pub fn shape_of<'a>(
         Expr::Str(_) => texts(0),
         Expr::Group { inner, .. } => shape_of(structs, names, inner.get()),
         Expr::If {
-            accepted, refused, ..
+            accepted,
+            refused,
+            ..
         } => match shape_of(structs, names, accepted.get()) {
             Some(shape) => Some(shape),
             None => shape_of(structs, names, refused.get()),
@@ -203,7 +202,10 @@ pub fn shape_of<'a>(
             operator: BinaryOperator::Add,
             right,
             ..
-        } => sum_shape(structs, names, left.get(), right.get()),
+        } => {
+            let left = shape_of(structs, names, left.get());
+            sum_of(left, shape_of(structs, names, right.get()))
+        }
         Expr::Name(ident) => names.shape(&ident.name),
         Expr::Member { base, name, .. } => {
             let base = shape_of(structs, names, base.get())?;
@@ -211,7 +213,9 @@ pub fn shape_of<'a>(
         }
         Expr::Index { base, .. } => shape_of(structs, names, base.get())?.item(),
         Expr::Call {
-            name, arguments, ..
+            name,
+            arguments,
+            ..
         } => given_shape(structs, names, &name.name, arguments.as_slice()),
         Expr::List { items, .. } => {
             let item = first_shape(structs, names, items.as_slice())?;

@@ -85,5 +85,9 @@ pub fn tell(
 /// Appends how many warnings there are.
 pub fn tell_count(note: &mut Note, count: usize) -> Result<(), NoMemory> {
     note.push_number(count)?;
-    note.push(if count == 1 { " warning\n" } else { " warnings\n" })
+    note.push(if count == 1 {
+        " warning\n"
+    } else {
+        " warnings\n"
+    })
 }

@@ -36,10 +36,7 @@ pub fn unused_input<'a>(names: &Names, input: &'a InputDeclaration) -> Option<Wa
 }
 
 /// The warning on a declaration.
-pub fn unused_declaration<'a>(
-    names: &Names,
-    declaration: &'a Declaration,
-) -> Option<Warning<'a>> {
+pub fn unused_declaration<'a>(names: &Names, declaration: &'a Declaration) -> Option<Warning<'a>> {
     let name = declaration.name.name.as_str();
     if names.get(name).used {
         return None;

@@ -4,6 +4,7 @@ use crate::lint::{Lint, Warning};
 use crate::names::Names;
 use crate::outputs::no_outputs;
 use crate::part::Part;
+use crate::runner::Runner;
 use crate::sections::{push_task, push_workflow};
 use crate::shell::Shell;
 use crate::targets::called_tasks;
@@ -18,13 +19,20 @@ use wdl_port::PathFile;
 use wdl_typed::Checked;
 use wdl_value::{NoMemory, StructDef};
 
-/// What is known of a library, and how many of its tasks and workflows were looked at.
+/// What is known of a library.
 #[derive(Drop)]
 struct Linting<'s, 'a> {
     alloc: Global,
+    runner: Runner,
     checked: &'a Checked,
     structs: &'s Indexed<'a, StructDef>,
+    /// Whether something calls each task, by its number.
     called: Vec<bool>,
+}
+
+/// How many tasks and workflows of a library were looked at.
+#[derive(Clone, Copy)]
+struct Passed {
     tasks: usize,
     flows: usize,
 }
@@ -60,6 +68,7 @@ impl<'s, 'a> Linting<'s, 'a> {
     fn part(&self, source: Source<'a>, name: &'a str) -> Part<'s, 'a> {
         Part {
             alloc: self.alloc,
+            runner: self.runner,
             structs: self.structs,
             name,
             names: Names::new(self.alloc),
@@ -67,17 +76,16 @@ impl<'s, 'a> Linting<'s, 'a> {
         }
     }
 
-    /// The next task of the library.
+    /// The task of that number; `flows` says whether its document has a workflow.
     fn push_task(
-        &mut self,
+        &self,
         found: &mut Vec<Warning<'a>>,
         source: Source<'a>,
         task: &'a TaskSection,
+        number: usize,
         flows: bool,
     ) -> Result<(), NoMemory> {
         let name = task.name.name.as_str();
-        let number = self.tasks;
-        self.tasks = number.saturating_add(1);
         if flows && self.called.get(number).copied() == Some(false) {
             found.push(Warning {
                 span: task.name.span,
@@ -93,15 +101,14 @@ impl<'s, 'a> Linting<'s, 'a> {
         part.push_all(found, elements.as_slice())
     }
 
-    /// The next workflow of the library.
+    /// The workflow of that number.
     fn push_workflow(
-        &mut self,
+        &self,
         found: &mut Vec<Warning<'a>>,
         source: Source<'a>,
         workflow: &'a Workflow,
+        number: usize,
     ) -> Result<(), NoMemory> {
-        let number = self.flows;
-        self.flows = number.saturating_add(1);
         if let Some(warning) = no_outputs(workflow) {
             found.push(warning)?;
         }
@@ -114,22 +121,41 @@ impl<'s, 'a> Linting<'s, 'a> {
         part.push_all(found, elements.as_slice())
     }
 
-    /// The warnings on the next document of the library, in the order of its text.
+    /// The warnings on the next section.
+    fn push_section(
+        &self,
+        found: &mut Vec<Warning<'a>>,
+        source: Source<'a>,
+        section: &'a Section,
+        flows: bool,
+        passed: &mut Passed,
+    ) -> Result<(), NoMemory> {
+        match section {
+            Section::Task(task) => {
+                let number = passed.tasks;
+                passed.tasks = number.saturating_add(1);
+                self.push_task(found, source, task, number, flows)
+            }
+            Section::Workflow(workflow) => {
+                let number = passed.flows;
+                passed.flows = number.saturating_add(1);
+                self.push_workflow(found, source, workflow, number)
+            }
+            Section::Import(_) | Section::Struct(_) => Ok(()),
+        }
+    }
+
+    /// The warnings on the next document, in the order of its text.
     fn document(
-        &mut self,
+        &self,
         source: Source<'a>,
         document: &'a Document,
+        passed: &mut Passed,
     ) -> Result<Vec<Warning<'a>>, NoMemory> {
         let mut found = Vec::new(self.alloc);
         let flows = has_workflow(document);
         for section in document.sections.as_slice() {
-            match section {
-                Section::Task(task) => self.push_task(&mut found, source, task, flows)?,
-                Section::Workflow(workflow) => {
-                    self.push_workflow(&mut found, source, workflow)?
-                }
-                Section::Import(_) | Section::Struct(_) => {}
-            }
+            self.push_section(&mut found, source, section, flows, passed)?;
         }
         Ok(found)
     }
@@ -137,21 +163,38 @@ impl<'s, 'a> Linting<'s, 'a> {
     /// Appends the warnings on the next document, and answers how many they are: none where its
     /// bytes are not known.
     fn tell_document(
-        &mut self,
+        &self,
         note: &mut Note,
-        sources: &'a [PathFile],
-        number: u32,
+        source: Source<'a>,
         doc: &'a Doc,
+        passed: &mut Passed,
     ) -> Result<usize, NoMemory> {
-        let path = doc.path.as_str();
-        let bytes = bytes_of(sources, path).unwrap_or(&[]);
-        let source = Source { doc: number, bytes };
-        let found = self.document(source, &doc.document)?;
-        if bytes.is_empty() {
+        let found = self.document(source, &doc.document, passed)?;
+        if source.bytes.is_empty() {
             return Ok(0);
         }
-        tell(self.alloc, note, path, bytes, found.as_slice())?;
+        let path = doc.path.as_str();
+        tell(self.alloc, note, path, source.bytes, found.as_slice())?;
         Ok(found.len())
+    }
+
+    /// Appends the warnings on all documents, and answers how many they are.
+    fn tell_all(
+        &self,
+        note: &mut Note,
+        docs: &'a [Doc],
+        sources: &'a [PathFile],
+    ) -> Result<usize, NoMemory> {
+        let mut passed = Passed { tasks: 0, flows: 0 };
+        let mut count: usize = 0;
+        let mut number: u32 = 0;
+        for doc in docs {
+            let bytes = bytes_of(sources, doc.path.as_str()).unwrap_or(&[]);
+            let source = Source { doc: number, bytes };
+            count = count.saturating_add(self.tell_document(note, source, doc, &mut passed)?);
+            number = number.saturating_add(1);
+        }
+        Ok(count)
     }
 }
 
@@ -159,30 +202,25 @@ impl<'s, 'a> Linting<'s, 'a> {
 /// documents and of their texts, each with its place, a sentence, the line of the source and a line
 /// of carets, and at the end how many they are. None where there are none.
 ///
-/// `sources` has the bytes of the documents by their paths. It takes time linear in these but for a
-/// logarithm. Nothing is promised of what it says.
-pub fn lints(
+/// `sources` has the bytes of the documents by their paths, and `runner` is what runs their commands.
+/// It takes time linear in these bytes but for a logarithm. Nothing is promised of what it says.
+pub fn lints<'a>(
     alloc: Global,
-    library: &Library,
-    checked: &Checked,
-    sources: &[PathFile],
+    library: &'a Library,
+    checked: &'a Checked,
+    sources: &'a [PathFile],
+    runner: Runner,
 ) -> Result<Option<String>, NoMemory> {
     let structs = Indexed::new(alloc, checked.structs.as_slice())?;
-    let mut linting = Linting {
+    let linting = Linting {
         alloc,
+        runner,
         checked,
         structs: &structs,
         called: called_tasks(alloc, checked)?,
-        tasks: 0,
-        flows: 0,
     };
     let mut note = Note::new(alloc);
-    let mut count: usize = 0;
-    for (number, doc) in library.docs.as_slice().iter().enumerate() {
-        let number = u32::try_from(number).unwrap_or(u32::MAX);
-        let told = linting.tell_document(&mut note, sources, number, doc)?;
-        count = count.saturating_add(told);
-    }
+    let count = linting.tell_all(&mut note, library.docs.as_slice(), sources)?;
     if count == 0 {
         return Ok(None);
     }

@@ -27,7 +27,11 @@ fn assigns(word: &[u8]) -> bool {
     let Some(len) = word.iter().position(|byte| !is_of_name(*byte)) else {
         return false;
     };
-    len > 0 && matches!(word.get(len..).unwrap_or(&[]), [b'=', ..] | [b'+', b'=', ..])
+    len > 0
+        && matches!(
+            word.get(len..).unwrap_or(&[]),
+            [b'=', ..] | [b'+', b'=', ..]
+        )
 }
 
 /// Whether a command may still stand behind a word at its beginning, since that is reserved or an
