@@ -3,4 +3,5 @@
 
 mod recalling_shelf;
 
+pub use lint_notes::Runner;
 pub use recalling_shelf::RecallingShelf;

@@ -3,6 +3,7 @@ ghost use Rattle.std.specs.Prelude.{◌≡◌};
 use code_notes::code_text;
 use fault_notes::document_note;
 use input_notes::{inputs_note, inputs_warning};
+use lint_notes::{Runner, lints};
 use sqlite_items::Items;
 use std::alloc::Global;
 use wdl_library::Library;
@@ -18,16 +19,18 @@ pub struct RecallingShelf<F> {
     /// The shelf that reads.
     pub shelf: F,
     read: Items<PathFile>,
+    runner: Runner,
 }
 
 impl<F> RecallingShelf<F> {
-    /// Nothing is kept yet. It takes no memory.
-    pub fn new(alloc: Global, shelf: F) -> RecallingShelf<F>
+    /// Nothing is kept yet. `runner` is what runs commands. It takes no memory.
+    pub fn new(alloc: Global, shelf: F, runner: Runner) -> RecallingShelf<F>
         ensures shelf { result.shelf ≡ shelf }
     {
         RecallingShelf {
             shelf,
             read: Items::new(alloc),
+            runner,
         }
     }
 
@@ -93,8 +96,8 @@ impl<F> Explain for RecallingShelf<F> {
         inputs_note(alloc, code, name.as_ref(), text, checked).ok()
     }
 
-    fn lints(&self, _: Global, _: &Library, _: &Checked) -> Option<String> {
-        None
+    fn lints(&self, alloc: Global, library: &Library, checked: &Checked) -> Option<String> {
+        lints(alloc, library, checked, self.read.as_slice(), self.runner).ok()?
     }
 
     fn warnings(&self, alloc: Global, path: &Text, _: &Env) -> Option<String> {

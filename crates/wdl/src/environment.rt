@@ -1,4 +1,5 @@
 //! What the program reads of its environment.
+use command_notes::Runner;
 use either::Either;
 use run_notes::Style;
 use std::env::{Env, VarError};
@@ -32,6 +33,14 @@ pub(crate) fn shell<R: Env + AllocGlobal>(rt: &R) -> Result<Option<String>, NoMe
         Ok(_) | Err(VarError::NotPresent) => Ok(Some(String::from_str(rt.alloc(), "sh")?)),
         Err(VarError::NotUnicode) => Ok(None),
         Err(VarError::OutOfMemory) => Err(NoMemory),
+    }
+}
+
+/// Returns what runs commands, for those who warn of what it does not understand.
+pub(crate) fn runner_of(shell: &Option<String>) -> Runner {
+    match shell {
+        Some(name) if name.as_str() == "sh" => Runner::Sh,
+        _ => Runner::Other,
     }
 }
 

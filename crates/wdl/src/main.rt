@@ -6,8 +6,10 @@ ghost use Rattle.std.specs.Prelude.{◌≡◌, ◌<◌, None};
 mod environment;
 mod words;
 
-use command_notes::RecallingShelf;
-use environment::{clear_of, folder, note_stream, outer_mark, shell, shows_notes, style_of};
+use command_notes::{RecallingShelf, Runner};
+use environment::{
+    clear_of, folder, note_stream, outer_mark, runner_of, shell, shows_notes, style_of,
+};
 use file_notes::SeeingShelf;
 use job_launcher::{Launching, Notes, ShellLauncher};
 use keeper_sql::SqlKeeper;
@@ -85,7 +87,7 @@ fn main(rt: HostRuntime) -> ExitCode {
     } = words;
     let stream = rt.stderr();
     let is_read = shows_notes(&rt, &stream, asked);
-    let files = RecallingShelf::new(alloc, FileShelf::new(&rt));
+    let files = RecallingShelf::new(alloc, FileShelf::new(&rt), runner_of(&shell));
     let mut shelf = SeeingShelf::new(files, &rt, folder(&rt), is_read);
     let mut out = StreamSink::new(rt.stdout());
     let style = style_of(&stream);

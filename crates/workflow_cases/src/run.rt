@@ -2,7 +2,7 @@ ghost use Rattle.std.specs.Prelude.{◌≡◌, ◌<◌, None};
 
 use crate::reading::Case;
 use crate::sinks::Sinks;
-use command_notes::RecallingShelf;
+use command_notes::{RecallingShelf, Runner};
 use run_notes::{RunNotes, Style};
 use std::alloc::Global;
 use std::marker::Brand;
@@ -96,7 +96,7 @@ pub fn run_case<R: Threads + Wait + Clock + Sync>(
         ..
     } = case;
     let launcher = TableLauncher::new(alloc, rows, refused)?;
-    let mut shelf = RecallingShelf::new(alloc, shelf);
+    let mut shelf = RecallingShelf::new(alloc, shelf, Runner::Other);
     let mut keeper = keeper.again(unkept);
     let ended = run::<TableLauncher, MapKeeper, R, Brand>(
         rt,
