@@ -55,7 +55,8 @@ pub(crate) fn outer_mark<R: Env + AllocGlobal>(rt: &R) -> Result<Option<String>,
 
 /// Returns the folder in which the program was started, if it can be named.
 pub(crate) fn folder<R: Env + AllocGlobal>(rt: &R) -> Option<String> {
-    env::current_dir(rt).ok()
+    let folder = env::current_dir(rt).ok()?;
+    String::from_str(rt.alloc(), folder.as_str()).ok()
 }
 
 /// Returns whether a person reads the notes: where they are asked for by a word, the stream is a
