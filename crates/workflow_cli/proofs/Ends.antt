@@ -5,7 +5,7 @@ use Rattle.wdl_base.specs.declared.request.Request.{Request}
 use Rattle.report_text.specs.declared.status.Status.{Status}
 use Rattle.report_text.specs.declared.status.Status.TheVariants as status
 use Rattle.wdl_words.specs.declared.wants.Wants.{Wants}
-use Rattle.wdl_words.specs.declared.wants.Wants.TheVariants.{Run, Check, Inputs, Cwl, Load, Bundle, Help, Version}
+use Rattle.wdl_words.specs.declared.wants.Wants.TheVariants.{Run, Check, Inputs, Cwl, Load, Bundle, Explain, Help, Version}
 use Rattle.work_desk.specs.declared.stop.Stop.{Stop}
 use Rattle.work_desk.specs.declared.stop.Stop.TheVariants as end
 use Rattle.workflow_stages.specs.declared.ended.Work.{Work}
@@ -33,6 +33,7 @@ are_outputs (Inputs file) = refl
 are_outputs (Cwl file inputs) = refl
 are_outputs (Load number) = refl
 are_outputs (Bundle file) = refl
+are_outputs (Explain code) = refl
 are_outputs (Help about) = refl
 are_outputs Version = refl
 
