@@ -27,7 +27,7 @@ use std::time::Clock;
 use usage_notes::usage_note;
 use wdl_port::{Keeper, Launcher, Shelf, Sink};
 use wdl_value::Steps;
-use words::{Words, words};
+use words::{CommandLine, words};
 use workflow_cli::{FileShelf, StreamSink, workflow};
 use workflow_stages::{Explain, write_all};
 

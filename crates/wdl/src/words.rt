@@ -6,7 +6,7 @@ use wdl_value::NoMemory;
 
 /// The words after the program's name.
 #[derive(Drop)]
-pub(crate) struct Words {
+pub(crate) struct CommandLine {
     /// All but `--notes`.
     pub words: Vec<String>,
     /// Whether notes are asked for, by `--notes` in front of any `--`.
@@ -14,7 +14,7 @@ pub(crate) struct Words {
 }
 
 /// Returns the words. Where they are no text there are none, which has no reading.
-pub(crate) fn words<R: Env + AllocGlobal>(rt: &R) -> Result<Words, NoMemory> {
+pub(crate) fn words<R: Env + AllocGlobal>(rt: &R) -> Result<CommandLine, NoMemory> {
     let mut words = Vec::new(rt.alloc());
     let mut notes = false;
     let mut plain = false;
@@ -32,5 +32,5 @@ pub(crate) fn words<R: Env + AllocGlobal>(rt: &R) -> Result<Words, NoMemory> {
         Err(e) if e.kind() == ErrorKind::OutOfMemory => return Err(NoMemory),
         Err(_) => {}
     }
-    Ok(Words { words, notes })
+    Ok(CommandLine { words, notes })
 }
