@@ -81,7 +81,7 @@ fn main(rt: HostRuntime) -> ExitCode {
         let _ = err.write(no_memory_line().as_bytes());
         return ExitCode::from(number_of(&Status::NoMemory));
     };
-    let Words {
+    let CommandLine {
         words,
         notes: asked,
     } = words;
