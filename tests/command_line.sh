@@ -98,7 +98,7 @@ echo "what codes mean"
 # told_of CODE: what is said of it, in one line, without the marks of code.
 told_of() { "$program" explain "$1" 2>&1 | tr -d '`' | tr '\n' ' ' | tr -s ' '; }
 # Each row of docs/CODES.md: the code, its word, when it comes, an example and what to do, without links and the marks of code.
-sed -n 's/^| `*\([1-6][0-9][0-9]\)`* | \(.*\) |$/\1 | \2/p' "$top/docs/CODES.md" | sed 's/\[\([^]]*\)\]([^)]*)/\1/g' | tr -d '`' >codes
+sed -n 's/^| `*\([1-6][0-9][0-9]\)`* | \(.*\) |$/\1 | \2/p' "$top/docs/CODES.md" | sed 's/ |$//; s/\[\([^]]*\)\]([^)]*)/\1/g' | tr -d '`' >codes
 codes=0
 while IFS= read -r row; do
   code=${row%% *}
@@ -106,9 +106,9 @@ while IFS= read -r row; do
   told=$(told_of "$code" | tr '[:upper:]' '[:lower:]')
   missing=
   while IFS= read -r part; do
-    case $told in *"$(echo "$part" | tr '[:upper:]' '[:lower:]' | tr -s ' ')"*) ;; *) missing="$missing; $part" ;; esac
+    case $told in *"$(printf '%s\n' "$part" | tr '[:upper:]' '[:lower:]' | tr -s ' ')"*) ;; *) missing="$missing; $part" ;; esac
   done <<PARTS
-$(echo "$row" | awk -F ' [|] ' '{ for (i = 1; i <= NF; i++) if ($i != "" && $i != " ") print $i }')
+$(printf '%s\n' "$row" | awk -F ' [|] ' '{ for (i = 1; i <= NF; i++) if ($i != "" && $i != " ") print $i }')
 PARTS
   same "explain $code says what docs/CODES.md says" '' "$missing"
 done <codes

@@ -128,8 +128,7 @@ for command in $commands; do
 done
 same "the statuses" "$(help_of | sed -n 's/^ *\([0-9][0-9]*\)  */\1 /p')" "$(section 'EXIT STATUS' | \
   sed '/^\.TP/d; s/\.$//' | awk '/^\.B/ { number = $2; next } { print number, tolower(substr($0, 1, 1)) substr($0, 2) }')"
-# Variables that are only taken out of the environment of commands have no paragraph.
-same "the variables" "$(grep -aoE 'WDL_[A-Z_]+' "$program" | grep -v '^WDL_RUNTIME_$\|^WDL_INPUTS$' | words)" "$(section ENVIRONMENT | tags | sed 's/^B //' | words)"
+same "the variables" "$(sed -n '/^## run/,$p' "$top/docs/USAGE.md" | grep -oE 'WDL_[A-Z]+' | words)" "$(section ENVIRONMENT | tags | sed 's/^B //' | words)"
 if has man && has groff; then
   same "warnings of groff" '' "$(groff -man -ww -Tutf8 "$top/tools/share/wdl.1" 2>&1 >/dev/null)"
   man -l "$top/tools/share/wdl.1" 2>&1 | grep -q 'check, run and translate' && pass || fail "the page as man shows it"

@@ -150,7 +150,7 @@ begin() {
 end() {
   wait "$pid" 2>/dev/null
   ended=$?
-  while kill -0 "-$pid" 2>/dev/null; do sleep 0.01; done
+  while kill -0 "-$pid" 2>/dev/null || grep -qsF "WDL_ROOT=$root" /proc/[0-9]*/environ; do sleep 0.01; done
 }
 
 # until_launched NUMBER: waits until so many commands were launched, or the run ended.

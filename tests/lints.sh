@@ -1,6 +1,6 @@
 #!/bin/sh
 # Tests the warnings of `check`: each case of tests/lints has documents that are in order, and the lines of the warnings on them, all of them and in their
-# order. The documents of examples/ have none. Its last line is 'N passed, M failed'.
+# order. The documents of examples/ and what they import have none. Its last line is 'N passed, M failed'.
 #
 #   tests/lints.sh PROGRAM [FILE..]
 #
@@ -72,7 +72,7 @@ while [ "$at" -lt "$count" ]; do
   fi
 done
 if [ -n "$all" ]; then
-  for file in "$top"/examples/*.wdl "$top"/examples/parts/*.wdl; do
+  for file in "$top"/examples/*.wdl; do
     (cd "$top" && WDL_NOTES=1 exec "$program" check "$file") >"$work/out" 2>"$work/err" </dev/null
     same "$file has no warning" '0 ok' "$? $(cat "$work/out" "$work/err")"
   done
