@@ -64,11 +64,11 @@ fn checked(
 }
 
 /// What the values of the declarations of a workflow become, each of which sees those before it.
-fn answers(
+fn answers<'a>(
     alloc: Global,
     text: &str,
-    structs: &Indexed<StructDef>,
-    locals: &Indexed<Local>,
+    structs: &'a Indexed<'a, StructDef>,
+    locals: &'a Indexed<'a, Local<'a>>,
 ) -> Result<String, Fail> {
     let document = document(alloc, text)?;
     let statements = statements(alloc, &document)?;
