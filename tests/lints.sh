@@ -79,5 +79,7 @@ if [ -n "$all" ]; then
   # Warnings are notes: without a terminal there are none.
   printf 'version 1.1\nworkflow w { }\n' >"$work/silent.wdl"
   same "without notes" 'ok' "$("$program" check "$work/silent.wdl" 2>&1 </dev/null)"
+  printf 'version 1.1\ntask t { command <<< [[ -f a ]] >>> }\n' >"$work/bash.wdl"
+  same "a command that Bash runs" 'ok' "$(WDL_NOTES=1 WDL_SHELL=bash "$program" check "$work/bash.wdl" 2>&1 </dev/null)"
 fi
 conclude
