@@ -7,11 +7,13 @@ use wdl_lex::lex;
 use wdl_parse_doc::parse;
 use wdl_value::NoMemory;
 
+/// The document of a text.
 pub fn document(alloc: Global, text: &str) -> Result<Document, Fail> {
     let tokens = lex(alloc, text.as_bytes(), 0)?;
     Ok(parse(alloc, tokens.as_slice())?)
 }
 
+/// The statements of the body of its workflow.
 pub fn statements<'a>(
     alloc: Global,
     document: &'a Document,
