@@ -1,9 +1,11 @@
-ghost use Rattle.std.specs.Prelude.{◌≡◌, None, Ok, Err, IfOk, IsErrOf};
+ghost use Rattle.std.specs.Prelude.{◌≡◌, true, None, Ok, Err, IfOk, IsErrOf};
 ghost use Rattle.wdl_port.specs.Causes.{HasCauseOf};
 
 use crate::database::Database;
 use crate::opening::open;
-use crate::rows::{read, write};
+use crate::putting::put;
+use crate::rows::read;
+use crate::stamps::stands;
 use crate::trouble::Trouble;
 use sqlite_items::Items;
 use std::alloc::Global;
@@ -12,8 +14,9 @@ use wdl_port::{KeepFault, Keeper};
 use wdl_value::{Entry, Text};
 
 /// A journal in a SQLite file, in the table `entry (place, attempt, body)`, whose bodies are the
-/// rows' texts. It does not tell its rows. A row that was put is on the disk, and no other process
-/// can open the file until the keeper is dropped.
+/// rows' texts, and the table `stamp (place, attempt, stamps)`, which tells the lengths and times of
+/// the files that were there when a row was put. It does not tell its rows. A row that was put is on
+/// the disk with its stamps, and no other process can open the file until the keeper is dropped.
 ///
 /// It counts each refusal of the database for another cause than memory, and each row that is no
 /// row of a journal, is of another place or attempt than its body, or is out of order. A file that
@@ -72,6 +75,8 @@ fn counted<T: Drop>(taken: Result<T, Trouble>, faults: &mut u64) -> Result<T, Ke
 impl<'a> Keeper for SqlKeeper<'a> {
     ghost kept = { λ s. None };
 
+    ghost lapses = { λ s e. true };
+
     ghost path = { λ s. s.path };
 
     ghost faults = { λ s. s.faults };
@@ -102,7 +107,15 @@ impl<'a> Keeper for SqlKeeper<'a> {
 
     fn put(&mut self, alloc: Global, entry: &Entry) -> Result<(), KeepFault> {
         let taken = match &mut self.database {
-            Some(database) => write(alloc, database, entry),
+            Some(database) => put(self.rt, alloc, database, entry),
+            None => Err(Trouble::Failed),
+        };
+        counted(taken, &mut self.faults)
+    }
+
+    fn stands(&mut self, alloc: Global, entry: &Entry) -> Result<bool, KeepFault> {
+        let taken = match &mut self.database {
+            Some(database) => stands(self.rt, alloc, database, entry),
             None => Err(Trouble::Failed),
         };
         counted(taken, &mut self.faults)

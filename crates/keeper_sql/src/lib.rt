@@ -4,7 +4,9 @@
 mod database;
 mod keeper;
 mod opening;
+mod putting;
 mod rows;
+mod stamps;
 mod trouble;
 
 pub use database::Database;

@@ -3,8 +3,9 @@
 ghost use Rattle.std.specs.Prelude.{◌≡◌, None, false, OnOk, IsSome};
 ghost use Rattle.wdl_base.specs.Plain.{has_nul};
 
-use keeper_sql::{Database, SqlKeeper, Trouble};
-use run_keeper::{RowFault, entry_of, row_text};
+use crate::want::Want;
+use keeper_sql::{Database, SqlKeeper};
+use run_keeper::{entry_of, row_text};
 use sqlite::params;
 use std::alloc::{AllocError, Global};
 use std::fs;
@@ -14,7 +15,7 @@ use std::test::Fail;
 use wdl_port::{KeepFault, Keeper};
 use wdl_value::{Entry, NoMemory, Source};
 
-const TABLE: &str =
+pub(crate) const TABLE: &str =
     "CREATE TABLE entry (place TEXT NOT NULL, attempt INTEGER NOT NULL, body TEXT NOT NULL, PRIMARY KEY (place, attempt)) STRICT";
 
 const INSERT: &str = "INSERT INTO entry (place, attempt, body) VALUES ('say', ?1, ?2)";
@@ -48,46 +49,6 @@ const ROWS: &str = "\
 {\"v\":2};\
 {\"attempt\":0,\"command\":\"echo hi\",\"dir\":\"/tmp/wdl-run/say\",\"err\":\"\",\"files\":[],\"laid\":[],\"out\":\"68690a\",\"place\":\"tell\",\"status\":0,\"v\":2};\
 {\"attempt\":1,\"command\":\"echo hi\",\"dir\":\"/tmp/wdl-run/say\",\"err\":\"\",\"files\":[],\"laid\":[],\"out\":\"68690a\",\"place\":\"say\",\"status\":0,\"v\":2}";
-
-/// What a test's own steps want, which is memory or a file.
-#[derive(Debug, Drop)]
-struct Want;
-
-impl From<AllocError> for Want {
-    fn from(_e: AllocError) -> Want {
-        Want
-    }
-}
-
-impl From<NoMemory> for Want {
-    fn from(_e: NoMemory) -> Want {
-        Want
-    }
-}
-
-impl From<KeepFault> for Want {
-    fn from(_e: KeepFault) -> Want {
-        Want
-    }
-}
-
-impl From<RowFault> for Want {
-    fn from(_e: RowFault) -> Want {
-        Want
-    }
-}
-
-impl From<Trouble> for Want {
-    fn from(_e: Trouble) -> Want {
-        Want
-    }
-}
-
-impl From<std::io::Error> for Want {
-    fn from(_e: std::io::Error) -> Want {
-        Want
-    }
-}
 
 /// How many entries are put.
 const COUNT: u32 = 1_000;
