@@ -365,19 +365,19 @@ by docker run --rm --init --name wdl-t-NUMBER --user "$(id -u):$(id -g)" --env H
   --mount 'type=bind,source=/data a,target=/data a,readonly' --mount type=bind,source=/b,target=/b,readonly \
   --mount "type=bind,source=$root,target=$root,readonly" --mount "type=bind,source=$t,target=$t" --workdir "$t" --network=none '*' --entrypoint bash tools.sif
 unset WDL_MOUNTS WDL_SRUN_ARGS WDL_NODE_SHELL WDL_IMAGE WDL_APPTAINER_ARGS WDL_IMAGE_SHELL WDL_DOCKER_ARGS
-# The inputs of a task: given SHELL WORDS..
+# What a task asks for, and its inputs: asks SHELL WORDS..
 odd="$work/data, of:mine/a b"
 mkdir -p "${odd%/*}" && : >"$odd"
-given() {
+asks() {
   shell=$1
   shift
-  command='echo "$WDL_TASK"; tr "\\0" "|" <"$WDL_INPUTS"; exit 3'
+  command='echo "$WDL_TASK $WDL_RUNTIME_memory"; tr "\\0" "|" <"$WDL_INPUTS"; exit 3'
   printf '%s\n' "$@" -c "$command" >want_arguments
   document w.wdl "task t { input { File f Array[File] more } command <<<$command>>> output { String r = read_string(stdout()) }
-runtime { returnCodes: 3 } }
+runtime { returnCodes: 3 container: [\"a:1\", \"b:2\"] cpu: \"1.5\" memory: \"8 GB\" gpu: true } }
 workflow w { call t { input: f = \"$odd\", more = [\"$odd\", \"$root/x\"] } output { String r = t.r } }"
   export WDL_SHELL="$top/examples/shells/$shell" PATH="$work/stand_ins:$plain_path"
-  expect "the inputs of a task in $shell" 0 "{\"w.r\":\"t\\\\n$odd|$root/x|\"}\n" '' run --root "$root" w.wdl
+  expect "what a task asks of $shell" 0 "{\"w.r\":\"t 8 GB\\\\n$odd|$root/x|\"}\n" '' run --root "$root" w.wdl
   PATH=$plain_path
   unset WDL_SHELL
   numbered arguments >is
@@ -386,14 +386,19 @@ workflow w { call t { input: f = \"$odd\", more = [\"$odd\", \"$root/x\"] } outp
     diff want_arguments is
   fi
 }
-export WDL_IMAGE=a.sif
-given slurm --quiet --nodes=1 --ntasks=1 --job-name=t sh
-given docker run --rm --init --name wdl-t-NUMBER --user "$(id -u):$(id -g)" --env HOME=/tmp \
+asks slurm --quiet --nodes=1 --ntasks=1 --job-name=t --cpus-per-task=2 --mem=7630M --gpus=1 sh
+asks docker run --rm --init --name wdl-t-NUMBER --user "$(id -u):$(id -g)" --env HOME=/tmp \
   --mount "type=bind,source=$root,target=$root,readonly" --mount "type=bind,\"source=$odd\",\"target=$odd\",readonly" \
-  --mount "type=bind,source=$t,target=$t" --workdir "$t" --entrypoint sh a.sif
-given apptainer exec --bind "$root:$root:ro" --mount "type=bind,\"source=$odd\",\"destination=$odd\",ro" \
-  --bind "$t:$t" --pwd "$t" a.sif sh
-unset WDL_IMAGE
+  --mount "type=bind,source=$t,target=$t" --workdir "$t" --cpus 1.5 --memory 8000000000 --entrypoint sh a:1
+asks apptainer exec --bind "$root:$root:ro" --mount "type=bind,\"source=$odd\",\"destination=$odd\",ro" \
+  --bind "$t:$t" --pwd "$t" --cpus 1.5 --memory 8000000000 docker://a:1 sh
+export WDL_SHELL="$top/examples/shells/slurm" PATH="$work/stand_ins:$plain_path"
+rm -f arguments
+runs "an amount that is not understood" 1 '' 'failed t: status 125\n' \
+  'task t { command <<<>>> runtime { memory: "two" } } workflow w { call t }'
+[ ! -e arguments ] && pass || fail "something was started for an amount that is not understood"
+PATH=$plain_path
+unset WDL_SHELL
 # A run within a job is not told what that job was.
 export WDL_RUNTIME_cpu=9 WDL_RUNTIME_container=a:1 WDL_INPUTS=/none
 runs "what another job was told" 0 '{"w.r":"none none none"}\n' '' 'task t {
