@@ -316,6 +316,17 @@ ends 141 ' (a program in it was ended by signal 13, SIGPIPE)'
 ends 143 ' (a program in it was ended by signal 15, SIGTERM)'
 ends 159 ' (a program in it was ended by signal 31)'
 ends 160 ''
+cat >control.json <<'END'
+{"killed.how":"printf 'a\\302\\233[31mb\\033[31mc\\td' >&2; exit 7"}
+END
+noted run --root "$root" --inputs control.json killed.wdl
+same "control characters that a command wrote" "    a$(printf '\302')?[31mb?[31mc$(printf '\t')d" "$(sed -n '/standard error ends with/ { n; p; }' err)"
+# A run without a job makes no directories.
+printf 'version 1.1\nworkflow empty { }\n' >empty.wdl
+noted run empty.wdl
+tells "the default root" err 'the files of each job are below /tmp/wdl-run; the next run without --root empties these directories'
+noted run --root "$root" empty.wdl
+same "another root" "the files of each job are below $root" "$(tail -n 1 err)"
 root=$work/blocked
 mkdir -p "$root/say"
 echo >"$root/say/mine"

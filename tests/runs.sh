@@ -193,14 +193,14 @@ if has setsid; then
     ended "$signal to its group"
   done
 else skip "signals to a group" "setsid is not installed"; fi
-if has script; then
+if has script && heard HUP; then
   rm -rf "$root"
-  script -qec "'$program' run --inputs minute.json --root $root long.wdl" /dev/null >/dev/null 2>&1 </dev/null &
+  $as_by_default script -qec "'$program' run --inputs minute.json --root $root long.wdl" /dev/null >/dev/null 2>&1 </dev/null &
   run=$!
   there "$root/long/begun"
   kill -KILL "$run"
   ended "the end of its terminal"
-else skip "the end of a terminal" "script is not installed"; fi
+else skip "the end of a terminal" "script is not installed, or SIGHUP is ignored here"; fi
 rm -rf "$root"
 cat >outer.wdl <<END_OF_FILE
 version 1.1
@@ -316,6 +316,25 @@ done
 same "forty runs that were ended, and begun again" "0 wrong" "$wrong wrong"
 same "what they left aside" 0 "$stuck"
 same "no process is left" yes "$(gone "$root" 3)"
+rm -rf "$root"
+cat >many.wdl <<'END_OF_FILE'
+version 1.1
+task t {
+  input { Int i }
+  command <<< [ ! -e left ] && echo ~{i} >left >>>
+}
+workflow w {
+  scatter (i in range(200)) { call t { input: i = i } }
+}
+END_OF_FILE
+# After that many jobs the guard removes what they put aside, while the next run goes on.
+for round in 1 2 3; do
+  said run --root "$root" many.wdl
+  same "200 jobs, round $round" '0 {}' "$(told)"
+done
+tries=0
+while ls -A "$root" | grep -q wdl-old && [ "$tries" -lt 600 ]; do tries=$((tries + 1)) && sleep 0.1; done
+same "what they put aside goes after the run" '' "$(ls -A "$root" | grep wdl-old)"
 rm -rf "$root"
 said run --inputs a.json --root "$root" say.wdl
 same "nothing is left in a root beside the jobs and the lock" '.wdl-lock say ' "$(ls -A "$root" | tr '\n' ' ')"

@@ -365,6 +365,42 @@ by docker run --rm --init --name wdl-t-NUMBER --user "$(id -u):$(id -g)" --env H
   --mount 'type=bind,source=/data a,target=/data a,readonly' --mount type=bind,source=/b,target=/b,readonly \
   --mount "type=bind,source=$root,target=$root,readonly" --mount "type=bind,source=$t,target=$t" --workdir "$t" --network=none '*' --entrypoint bash tools.sif
 unset WDL_MOUNTS WDL_SRUN_ARGS WDL_NODE_SHELL WDL_IMAGE WDL_APPTAINER_ARGS WDL_IMAGE_SHELL WDL_DOCKER_ARGS
+# The inputs of a task: given SHELL WORDS..
+odd="$work/data, of:mine/a b"
+mkdir -p "${odd%/*}" && : >"$odd"
+given() {
+  shell=$1
+  shift
+  command='echo "$WDL_TASK"; tr "\\0" "|" <"$WDL_INPUTS"; exit 3'
+  printf '%s\n' "$@" -c "$command" >want_arguments
+  document w.wdl "task t { input { File f Array[File] more } command <<<$command>>> output { String r = read_string(stdout()) }
+runtime { returnCodes: 3 } }
+workflow w { call t { input: f = \"$odd\", more = [\"$odd\", \"$root/x\"] } output { String r = t.r } }"
+  export WDL_SHELL="$top/examples/shells/$shell" PATH="$work/stand_ins:$plain_path"
+  expect "the inputs of a task in $shell" 0 "{\"w.r\":\"t\\\\n$odd|$root/x|\"}\n" '' run --root "$root" w.wdl
+  PATH=$plain_path
+  unset WDL_SHELL
+  numbered arguments >is
+  if cmp -s is want_arguments; then pass; else
+    fail "the arguments of $shell for a task"
+    diff want_arguments is
+  fi
+}
+export WDL_IMAGE=a.sif
+given slurm --quiet --nodes=1 --ntasks=1 --job-name=t sh
+given docker run --rm --init --name wdl-t-NUMBER --user "$(id -u):$(id -g)" --env HOME=/tmp \
+  --mount "type=bind,source=$root,target=$root,readonly" --mount "type=bind,\"source=$odd\",\"target=$odd\",readonly" \
+  --mount "type=bind,source=$t,target=$t" --workdir "$t" --entrypoint sh a.sif
+given apptainer exec --bind "$root:$root:ro" --mount "type=bind,\"source=$odd\",\"destination=$odd\",ro" \
+  --bind "$t:$t" --pwd "$t" a.sif sh
+unset WDL_IMAGE
+# A run within a job is not told what that job was.
+export WDL_RUNTIME_cpu=9 WDL_RUNTIME_container=a:1 WDL_INPUTS=/none
+runs "what another job was told" 0 '{"w.r":"none none none"}\n' '' 'task t {
+  command <<< echo ${WDL_RUNTIME_cpu-none} ${WDL_RUNTIME_container-none} ${WDL_INPUTS-none} >>>
+  output { String r = read_string(stdout()) }
+} workflow w { call t output { String r = t.r } }'
+unset WDL_RUNTIME_cpu WDL_RUNTIME_container WDL_INPUTS
 # A slurm that runs the command in an image on the node.
 export WDL_NODE_SHELL="$top/examples/shells/docker" WDL_IMAGE=debian:12
 by slurm run --rm --init --name wdl-t-NUMBER --user "$(id -u):$(id -g)" --env HOME=/tmp \
@@ -415,19 +451,34 @@ leaves "links to files" 0 "{\"w.b\":\"1\",\"w.d\":null,\"w.e\":null,\"w.fs\":[\"
   'printf 1 >a; ln -s a b; mkdir folder; printf 2 >folder/a; ln -s folder c; ln -s gone d; ln -s e e; mkfifo f' \
   'Array[File] fs = glob("*") String b = read_string("b") File? d = "d" File? e = "c/a"' \
   'Array[File] fs = t.fs String b = t.b File? d = t.d File? e = t.e'
-leaves "300 files" 0 '{"w.n":300}\n' '' 'for i in $(seq 300); do echo $i >f$i; done' 'Int n = length(glob("f*"))' 'Int n = t.n'
-leaves "4,096 files" 0 '{"w.n":4096}\n' '' 'for i in $(seq 4096); do : >f$i; done' 'Int n = length(glob("f*"))' 'Int n = t.n'
-leaves "4,097 files" 9 '' 'cannot launch t\n' 'for i in $(seq 4097); do : >f$i; done' '' ''
+leaves "5,000 files" 0 '{"w.n":5000}\n' '' 'for i in $(seq 5000); do : >f$i; done' 'Int n = length(glob("f*"))' 'Int n = t.n'
+# 65,601 names, of which the last is d/9: not all are kept.
+many='mkdir c; for i in $(seq 820); do : >c/$i; done; for i in $(seq 79); do cp -rl c c$i; done; mkdir d; : >d/9'
+leaves "65,601 files" 0 '{"w.r":"a"}\n' '' "$many; echo a" 'String r = read_string(stdout()) File first = "c/1"' 'String r = t.r'
+leaves "a glob of 65,601 files" 1 '' 'failed t fs: 516 BodyLong\n' "$many" 'Array[File] fs = glob("d/*")' 'Array[File] fs = t.fs'
+leaves "the last of 65,601 files" 1 '' 'failed t last: 516 BodyLong\n' "$many" 'File? last = "d/9"' 'File? last = t.last'
 leaves "a name of 1,023 bytes" 0 '{"w.n":1}\n' '' 'd=$(printf %0255d 0); mkdir -p $d/$d/$d; : >$d/$d/$d/$d' \
   'Int n = length(glob("*/*/*/*"))' 'Int n = t.n'
-leaves "a name of 1,025 bytes" 9 '' 'cannot launch t\n' 'd=$(printf %0255d 0); mkdir -p $d/$d/$d/$d; : >$d/$d/$d/$d/0' '' ''
-leaves "8 levels" 0 '{"w.deep":null,"w.r":"8"}\n' '' 'mkdir -p 1/2/3/4/5/6/7/8; printf 8 >1/2/3/4/5/6/7/f; : >1/2/3/4/5/6/7/8/f' \
-  'String r = read_string("1/2/3/4/5/6/7/f") File? deep = "1/2/3/4/5/6/7/8/f"' 'String r = t.r File? deep = t.deep'
-logs='for i in 1 2 3 4 5; do head -c 60000 /dev/zero >log$i; done; head -c 9000000 /dev/zero >log; printf 1234567890 >result'
+long='d=$(printf %0255d 0); mkdir -p $d/$d/$d/$d; : >$d/$d/$d/$d/0; : >a'
+leaves "a name of 1,025 bytes" 0 '{"w.name":"a"}\n' '' "$long" 'File a = "a"' 'String name = basename(t.a)'
+leaves "a glob beside it" 1 '' 'failed t n: 516 BodyLong\n' "$long" 'Int n = length(glob("*"))' 'Int n = t.n'
+leaves "a name that is not UTF-8" 0 '{"w.name":"b"}\n' '' ': >"$(printf "a\377")"; : >b' 'File b = "b"' 'String name = basename(t.b)'
+leaves "what it leaves out" 1 '' 'failed t c: 516 BodyLong\n' ': >"$(printf "a\377")"; : >b' 'File? c = "c"' 'File? c = t.c'
+deep=$(printf 'd/%.0s' $(seq 63))
+leaves "64 levels" 0 '{"w.deep":null,"w.r":"8"}\n' '' "mkdir -p ${deep}; printf 8 >${deep}f" \
+  "String r = read_string(\"${deep}f\") File? deep = \"${deep}g\"" 'String r = t.r File? deep = t.deep'
+leaves "65 levels" 1 '' 'failed t deep: 516 BodyLong\n' "mkdir -p ${deep}d; printf 8 >${deep}f" "File? deep = \"${deep}g\"" 'File? deep = t.deep'
+logs='for i in 1 2 3 4 5; do head -c 600000 /dev/zero >log$i; done; head -c 9000000 /dev/zero >log; printf 1234567890 >result'
 leaves "a short result beside long logs" 0 '{"w.r":"1234567890"}\n' '' "$logs" 'String r = read_string("result")' 'String r = t.r'
-leaves "a log that is not kept" 1 '' 'failed t r: 516 BodyLong\n' "$logs" 'String r = read_string("log5")' 'String r = t.r'
-leaves "a log that is kept" 1 '' 'failed t r: 512 NotText\n' "$logs" 'String r = read_string("log4")' 'String r = t.r'
+leaves "a log that is not kept" 1 '' 'failed t r: 516 BodyLong\n' "$logs" 'String r = read_string("log4")' 'String r = t.r'
+leaves "a log that is kept" 1 '' 'failed t r: 512 NotText\n' "$logs" 'String r = read_string("log3")' 'String r = t.r'
 leaves "a stream that was removed" 1 '' 'failed t r: 516 BodyLong\n' 'rm _stdout' 'String r = read_string(stdout())' 'String r = t.r'
+# The notes say how many files there were.
+document w.wdl "task t { command <<< $many >>> } workflow w { call t }"
+WDL_NOTES=1 "$program" run --root "$root" w.wdl >out 2>err
+same "65,601 files that no output needs" '0 {}' "$? $(cat out)"
+note='t: the command left 65601 files, of which 65535 are known by name: an answer has at most 65,536 files'
+same "the note on 65,601 files" yes "$(grep -qF -- "$note" err && echo yes)"
 rm -r "$t"
 
 echo "whose directories"

@@ -267,4 +267,65 @@ sed 's/status = 3/status = 0/' failing.wdl >mended.wdl
 same "the run once its cause is mended" '0 {"failing.all":"badslowthird"}' "$? $(cat out)"
 same "what was launched in both" "bad slow third" "$(sort begun | tr '\n' ' ' | sed 's/ $//')"
 
+# The first stop is told, and nothing begins after it, whatever stops the run once more while the last job is waited for. A limit on the size of files stands
+# in for a full disk: the row of the job with large files does not fit.
+cat >stops.wdl <<END
+version 1.1
+task step {
+  input { String name Int seconds = 0 Int status = 0 Int bytes = 10 }
+  command <<<
+    echo "~{name}" >>"$work/begun"
+    sleep 0.~{seconds}
+    for file in f1 f2 f3 f4; do head -c ~{bytes} /dev/zero | tr '\\0' a >\$file; done
+    exit ~{status}
+  >>>
+  output { String out = read_string("f1") }
+}
+workflow stops {
+  input { Int first_bytes = 10 Int first_status = 0 Int last_bytes = 10 Int last_status = 0 Int other_bytes = 10 }
+  call step as first { input: name = "first", seconds = 2, bytes = first_bytes, status = first_status }
+  call step as last { input: name = "last", seconds = 9, bytes = last_bytes, status = last_status }
+  call step as third after first { input: name = "third", bytes = other_bytes }
+  call step as fourth { input: name = "fourth", bytes = other_bytes }
+}
+END
+# stops NAME WANTED INPUTS: runs the document with two workers.
+stops() {
+  rm -rf run journal journal-wal begun
+  [ "${4-}" != refused ] || { mkdir -p run/first && echo notes >run/first/notes; }
+  echo "$3" >inputs.json
+  (
+    trap '' XFSZ
+    ulimit -f 800 && exec "$program" run --workers 2 --inputs inputs.json --journal journal --root "$work/run" stops.wdl >out 2>err </dev/null
+  )
+  same "$1" "$2" "$? $(cat out err): $(sort begun | tr '\n' ' ')"
+}
+stops "a failed job, and then a full disk" '1 failed first: status 3: first last ' '{"stops.first_status":3,"stops.last_bytes":60000}'
+stops "a full disk, and then a failed job" '10 journal fault: first last ' '{"stops.first_bytes":60000,"stops.last_status":3}'
+stops "a full disk twice" '10 journal fault: first last ' '{"stops.first_bytes":60000,"stops.last_bytes":60000}'
+stops "two failed jobs" '1 failed first: status 3: first last ' '{"stops.first_status":3,"stops.last_status":4}'
+stops "a job that is not launched, and then a full disk" '9 cannot launch first: last ' '{"stops.last_bytes":60000}' refused
+stops "a job that is not launched, and then a failed one" '9 cannot launch first: last ' '{"stops.last_status":4}' refused
+
+echo "the order in which jobs begin"
+# What is ready first begins first: all of `x`, then what needs each of them.
+cat >waiting.wdl <<END
+version 1.1
+task step {
+  input { String name }
+  command <<< echo "~{name}" >>"$work/begun" >>>
+  output { String out = name }
+}
+workflow waiting {
+  scatter (i in range(3)) {
+    call step as x { input: name = "x~{i}" }
+    call step as y { input: name = "y" + x.out }
+  }
+  call step as after_all { input: name = "all" + length(y.out) }
+}
+END
+rm -rf run begun
+run 1 waiting.wdl
+same "first ready, first begun" '0 x0 x1 x2 yx0 yx1 yx2 all3 ' "$status $(tr '\n' ' ' <begun)"
+
 conclude

@@ -3,7 +3,8 @@
 # reads what `wdl` tells a job about its task, and runs a client (srun, docker, ..) so that it
 # ends with the script. Nothing is started before all values were understood.
 #
-# `wdl` sets these variables; a version that sets none of them is served too:
+# `wdl` sets these variables, but for the last, which it does not set yet; a version that sets none
+# of them is served too:
 #
 #   WDL_PLACE, WDL_TASK  the place and the name of the call, such as scatter-0/1/align and align
 #   WDL_ROOT             the folder of --root

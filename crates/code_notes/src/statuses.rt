@@ -97,16 +97,15 @@ status 9: `cannot launch PLACE`
 
 The root is in use by another run, or by commands of an earlier one, for more
 than ten seconds; the directory of that call could not be made or is not a
-job's; the shell could not be started; or what the command left could not be
-listed or read. The reason is in the notes (`WDL_NOTES=1`).
+job's; or the shell could not be started there. The reason is in the notes
+(`--notes`).
 
 What to do:
   Wait for the other run, or name another folder by `--root`; check that the
   folders from `--root` down belong to you, and that in the place of the
   directory is nothing, an empty directory, or one of an earlier job (with a
   file `.wdl-job` or `_stdout`): anything else is left alone and is yours to
-  move; check that `WDL_SHELL` names a program; let a command leave at most
-  4,096 files, each with a name in UTF-8 of at most 1,024 bytes.
+  move; check that `WDL_SHELL` names a program.
 ";
 
 const STATUS_10: &str = "\

@@ -97,8 +97,9 @@ const TOO_LARGE: &str = "\
 510 TooLarge: an expression without a value, status 1
 
 A list of more than 100,000 items, a value of more than the size 4,194,304, a
-command that has more than 65,536 bytes together with the files that it is
-given, `maxRetries` below 0 or above 100.
+command or a written text of more than 65,536 bytes, files written for one
+command of more than 4,194,304 bytes together, `maxRetries` below 0 or above
+100.
 
 Example:
   Array[Int] xs = range(100001)
@@ -161,15 +162,20 @@ Example:
 const BODY_LONG: &str = "\
 516 BodyLong: an expression without a value, status 1
 
-What is read is longer than what is kept of it: 65,536 bytes of standard
-output, 4,096 of standard error, 65,536 of each other file that a command
-leaves, and 262,144 of all of these with their names, the shortest first.
+What is read is not kept: it has more than 65,536 bytes of standard output,
+4,096 of standard error or 1,048,576 of another file, is past 2,097,152 bytes of
+all files with their names, the shortest first, or cannot be read. Where not all
+names of the files that a command left are kept, also `glob`, and a file that is
+not among them: kept are the first 65,536 in byte order, up to 1,048,576 bytes
+of names, and no name that is not UTF-8 or has more than 1,024 bytes. The notes
+say how many files there were, and why.
 
 Example:
   task t { command <<<printf '%4097s' a >&2 >>> output { String o = read_string(stderr()) } } workflow w { call t }
 
 What to do:
-  Read less: let the command shorten it, or pass the file on as a File.
+  Read less: let the command shorten it, or pass the file on as a File; put many
+  files into an archive.
 ";
 
 /// Returns what is said of the number, if it is one of these.

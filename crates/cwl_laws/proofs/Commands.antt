@@ -1,5 +1,5 @@
 -- The command of a task and that of its tool.
-use Rattle.std.proofs.Common.{arith, ◌≡◌, ℕ, ◌+◌, ◌==◌, nat_le, Bool, true, false, cond, not, ◌&&◌, ◌||◌, List, [], ◌∷◌, ◌++◌, append_assoc, append-nil, length, map, Option, Some, None, option_and_then, Ok, Err, Contains, sym, ap, ◌∙◌, subst, refl}
+use Rattle.std.proofs.Common.{◌≡◌, ℕ, ◌==◌, nat_le, Bool, true, false, cond, not, ◌&&◌, ◌||◌, List, [], ◌∷◌, ◌++◌, append_assoc, append-nil, length, map, Option, Some, None, option_and_then, Ok, Err, Contains, sym, ap, ◌∙◌, subst, refl}
 use Rattle.std.specs.List.{list_all, list_any}
 use Rattle.std.specs.Str.{bytes_eq}
 use Rattle.std.proofs.lemmas.Bool.{false≢true, and_parts}
@@ -352,12 +352,8 @@ module _ (structs : Structs) (names more : List Bound) (inputs : List TInput) (o
       let r = parts_fill parts holes typed in
       subst (λ o. CommandsAgree (and_then o command_within) (command_of (argument (map cwl_in inputs) parts) Taken)) (sym (r.1 []))
       (subst (λ b. CommandsAgree (command_within (start r.0)) (cond b None (means.within (pieces_text Taken (argument (map cwl_in inputs) parts))))) (sym (no_reference (map cwl_in inputs) parts command))
-      (subst (λ o. CommandsAgree (command_within (start r.0)) (means.within o)) (sym r.2)
-      (subst (λ n. CommandsAgree (cond (nat_le n 65536) (Ok (start r.0)) (Err TooLarge)) (means.within (Some r.0))) (sym (plus_zero (length r.0))) (by_limit r.0 (nat_le (length r.0) 65536)))))
+      (subst (λ o. CommandsAgree (command_within (start r.0)) (means.within o)) (sym r.2) (by_limit r.0 (nat_le (length r.0) 65536))))
     where
-      plus_zero : (n : ℕ) → n + 0 ≡ n
-      plus_zero n = omega arith
-
       by_limit : (s : List ℕ) (b : Bool) → CommandsAgree (cond b (Ok (start s)) (Err TooLarge)) (cond b (Some s) None)
       by_limit s true = refl
       by_limit s false = tt

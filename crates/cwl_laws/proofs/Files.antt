@@ -5,9 +5,10 @@ use Rattle.std.specs.Option.{unwrap_or}
 use Rattle.std.specs.Str.{bytes_eq}
 use Rattle.std.proofs.lemmas.Bool.{false≢true, and_from, and_parts, or_parts}
 use Rattle.std.proofs.lemmas.Slice.Eq.{bytes_eq-Decides}
+use Rattle.wdl_base.specs.Answers.{is_cut}
 use Rattle.wdl_base.specs.declared.answer.Answer.{Answer}
 use Rattle.wdl_base.specs.declared.body.Seen.{Seen}
-use Rattle.wdl_base.specs.declared.fault.EvalCode.TheVariants.{FileMissing, TooLarge}
+use Rattle.wdl_base.specs.declared.fault.EvalCode.TheVariants.{BodyLong, FileMissing, TooLarge}
 use Rattle.wdl_base.specs.declared.place.Segment.{Segment}
 use Rattle.wdl_base.specs.Places.{place_text}
 use Rattle.wdl_value.specs.declared.env.Bind.{Bind}
@@ -31,7 +32,7 @@ use Rattle.wdl_typed.specs.declared.expr.TExpr.TheVariants as e
 use Rattle.wdl_typed.specs.declared.expr.TExpr.TheOpen as layer
 use Rattle.wdl_typed.specs.Evaluation.{Met, Setting, from_cast, met, settled, then_, value_met, value_of, value_step}
 use Rattle.wdl_typed.specs.KnownTypes.{is_some}
-use Rattle.wdl_typed.specs.Requests.{Lander, after, is_outside, job_dir, land_at, landed, landed_file, named_file}
+use Rattle.wdl_typed.specs.Requests.{Lander, after, is_outside, job_dir, land_at, landed, landed_file, named_file, unlisted_file}
 use Rattle.cwl_model.specs.declared.tool.Origin.TheVariants as origin
 use Rattle.cwl_model.specs.Means.{Ground, file_at, has_file, job_path}
 use Rattle.cwl_laws.specs.Tools.{SameValue}
@@ -217,12 +218,12 @@ glob_value env dir answer name =
     by_limit false h = refl
 
 glob_landed : (structs : Structs) (dir : List ℕ) (answer : Answer) (name : List ℕ) → IsFileName name
-    → landed structs dir answer (v.File name) ty.File ≡ cond (has_file answer.files name) (Ok (v.File (dir ++ 47 ∷ name))) (Err FileMissing)
+    → landed structs dir answer (v.File name) ty.File ≡ cond (has_file answer.files name) (Ok (v.File (dir ++ 47 ∷ name))) (unlisted_file answer false)
 glob_landed structs dir answer name h =
     landed_is structs dir answer name
     ∙ ap (λ b. cond (b && not (is_some (stripped (dir ++ 47 ∷ []) name))) (Ok (v.File name)) (named_file dir answer false (local_name dir name))) (no_root name h.flat)
     ∙ ap (named_file dir answer false) local
-    ∙ ap (λ b. cond b (Ok (v.File (dir ++ 47 ∷ name))) (Err FileMissing)) left
+    ∙ ap (λ b. cond b (Ok (v.File (dir ++ 47 ∷ name))) (unlisted_file answer false)) left
   where
     local : local_name dir name ≡ Some name
     local = ap (λ o. relative_name (unwrap_or o name)) (not_front dir name h.flat) ∙ flat_name name h.flat h.here h.up
@@ -233,16 +234,22 @@ glob_landed structs dir answer name h =
         ∙ ap (λ b. is_some (cond b (Some answer.err) (seen_body name answer.files))) h.err
         ∙ seen_has answer.files name
 
--- A file by its name is the file of that name in the job's directory, where it is there.
+-- A file by its name is the file of that name in the job's directory, where its name was kept.
 pub glob_met : (structs : Structs) (g : Ground) (place : List Segment) (answer : Answer) (env : List Bind) (name : List ℕ) → IsFileName name
     → SameValue (and_then (value_of (after env (job_dir g.site place 0) answer) (e.Cast (e.Lit (v.Str name)) ty.File)) (λ x. landed structs (job_dir g.site place 0) answer x ty.File)) (file_at g place answer (origin.Glob name))
 glob_met structs g place answer env name h =
     subst (λ (o : Outcome Value). SameValue (and_then o (λ x. landed structs (job_dir g.site place 0) answer x ty.File)) (file_at g place answer (origin.Glob name)))
     (sym (glob_value env (job_dir g.site place 0) answer name)) (by_limit (is_within (v.Str name)))
   where
-    by_test : (b : Bool) → SameValue (cond b (Ok (v.File (job_dir g.site place 0 ++ 47 ∷ name))) (Err FileMissing)) (cond b (Some (v.File (job_path g place name))) None)
+    unlisted : (b : Bool) → SameValue (cond b (Err BodyLong) (Err FileMissing)) None
+    unlisted true = tt
+    unlisted false = tt
+
+    by_test : (b : Bool)
+        → SameValue (cond b (Ok (v.File (job_dir g.site place 0 ++ 47 ∷ name))) (unlisted_file answer false))
+        (cond b (Some (v.File (job_path g place name))) None)
     by_test true = ap v.File (job_path_is g place name)
-    by_test false = tt
+    by_test false = unlisted (is_cut answer.files)
 
     by_limit : (b : Bool) → SameValue (and_then (cond b (Ok (v.File name)) (Err TooLarge)) (λ x. landed structs (job_dir g.site place 0) answer x ty.File)) (cond (b && has_file answer.files name) (Some (v.File (job_path g place name))) None)
     by_limit true =

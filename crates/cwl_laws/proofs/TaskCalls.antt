@@ -20,7 +20,7 @@ use Rattle.wdl_typed.specs.Bodies.{signature, task_signature}
 use Rattle.wdl_typed.specs.Declarations.{input_names, plain_key}
 use Rattle.wdl_typed.specs.Flow.{Callee, Flowing, Names, Run, Sight, arg_bind, args_known, args_met, asked, call_of, call_place, called, env_of, failing_at, has_ended, missing, output_keys, task_called, with_args, with_fault}
 use Rattle.wdl_typed.specs.Lists.{are_distinct}
-use Rattle.wdl_typed.specs.Requests.{Asked, Failing, Filled, Successes, Tried, asked_with, asks, command_met, named as called_by, retries_met, tried, with_inputs, with_privates}
+use Rattle.wdl_typed.specs.Requests.{Asked, Failing, Filled, Successes, Tried, asked_as, asked_with, asks, command_met, named as called_by, retries_met, tried, with_inputs, with_privates}
 use Rattle.wdl_typed.specs.Scope.{is_among, lookup, same_key}
 use Rattle.flow_laws.proofs.Attempts.{asked_gives}
 use Rattle.flow_laws.proofs.KnownNames.{known_among}
@@ -86,20 +86,23 @@ module _ (r : Run) (small : AreStatuses r.table) (n : Names) (t : TaskDef) (tool
         (subst (λ o. Agrees Outs (asked r n place t call (after_retries (is.codes env).successes (called_by (codes "maxRetries") (retries_met env o)))) (tool_run (ground_of r) tool place (command_of tool.argument Taken))) (sym is.retries)
         (by_command (command_met env t.command []) (command_of tool.argument Taken) (is.command object env bound)))
       where
+        all_asked : Filled → Asked
+        all_asked = asked_as t (record { env = env; files = [] }) (is.codes env).successes zero []
+
         after_retries : Successes → Tried ℕ → Tried Asked
         after_retries s o =
-            tried o (λ n. tried (called_by (codes "command") (command_met env t.command [])) (λ f. Ok (record { env = env; codes = s; retries = n; command = f.text; files = f.files })))
+            tried o (λ n. tried (called_by (codes "command") (command_met env t.command [])) (λ f. Ok (asked_as t (record { env = env; files = [] }) s n [] f)))
 
         after_codes : Outcome Successes → Tried Asked
         after_codes o = tried (called_by (codes "returnCodes") o) (λ s. after_retries s (called_by (codes "maxRetries") (retries_met env t.retries)))
 
         by_command : (o : Outcome Filled) (p : Option (List ℕ)) → CommandsAgree o p
             → Agrees Outs
-            (asked r n place t call (tried (called_by (codes "command") o) (λ f. Ok (record { env = env; codes = (is.codes env).successes; retries = zero; command = f.text; files = f.files }))))
+            (asked r n place t call (tried (called_by (codes "command") o) (λ f. Ok (all_asked f))))
             (tool_run (ground_of r) tool place p)
         by_command (Ok f) (Some s) h =
-            subst (λ text. Agrees Outs (asked r n place t call (Ok (record { env = env; codes = (is.codes env).successes; retries = zero; command = f.text; files = f.files }))) (tool_run (ground_of r) tool place (Some text))) h
-            (attempts_agree r n place t call (record { env = env; codes = (is.codes env).successes; retries = zero; command = f.text; files = f.files }) tool Outs refl small (is.codes env).same
+            subst (λ text. Agrees Outs (asked r n place t call (Ok (all_asked f))) (tool_run (ground_of r) tool place (Some text))) h
+            (attempts_agree r n place t call (all_asked f) tool Outs refl small (is.codes env).same
             (λ answer. told_agree call r place answer t.outputs tool.outputs (is.outputs place) env))
         by_command (Err c) None h = fault_agrees (record { name = codes "command"; why = Code c })
         by_command (Ok f) None h = absurd h

@@ -1,28 +1,27 @@
 use crate::directory::path_in;
-use crate::listing::list;
+use crate::listing::Listing;
 use crate::reach::{Reach, reach_of};
-use crate::trouble::Trouble;
 use sqlite_items::Items;
 use std::alloc::Global;
+use std::fs;
 use std::fs::{File, Files};
 use std::io::{ErrorKind, Read};
-use std::{fs, io};
-use wdl_value::{Body, Seen, Text};
+use wdl_value::{Body, NoMemory, Seen, Text, TextFault};
 
 /// A file that cannot be read counts as one that is too long: the command has ended, and only an
 /// output that needs the file fails.
-fn unread(why: &io::Error) -> Result<Body, Trouble> {
-    match why.kind() {
-        ErrorKind::OutOfMemory => Err(Trouble::NoMemory),
+fn unread(reason: ErrorKind) -> Result<Body, NoMemory> {
+    match reason {
+        ErrorKind::OutOfMemory => Err(NoMemory),
         _ => Ok(Body::Long),
     }
 }
 
 /// The bytes of an open file, or `Long` where it has more than the limit.
-fn read_up_to<F: Read + Drop>(alloc: Global, file: F, limit: u64) -> Result<Body, Trouble> {
+fn read_up_to<F: Read + Drop>(alloc: Global, file: F, limit: u64) -> Result<Body, NoMemory> {
     let mut bytes = Vec::new(alloc);
     if let Err(e) = file.take(limit.saturating_add(1)).read_to_end(&mut bytes) {
-        return unread(&e);
+        return unread(e.kind());
     }
     if bytes.len() as u64 <= limit {
         Ok(Body::Bytes(Items::from_vec(bytes)))
@@ -38,43 +37,50 @@ pub(crate) fn body_of<R: Files>(
     alloc: Global,
     path: &str,
     limit: u64,
-) -> Result<Option<Body>, Trouble> {
+) -> Result<Option<Body>, NoMemory> {
     // Nothing else is opened: a named pipe would wait for its writer.
     match fs::metadata(rt, path) {
         Ok(found) if found.is_file() => {}
         Ok(_) => return Ok(None),
         Err(e) if e.kind() == ErrorKind::NotFound => return Ok(None),
-        Err(e) => return Ok(Some(unread(&e)?)),
+        Err(e) => return Ok(Some(unread(e.kind())?)),
     }
     match File::open(rt, path) {
         Ok(file) => Ok(Some(read_up_to(alloc, file, limit)?)),
         Err(e) if e.kind() == ErrorKind::NotFound => Ok(None),
-        Err(e) => Ok(Some(unread(&e)?)),
+        Err(e) => Ok(Some(unread(e.kind())?)),
     }
 }
 
-/// The file of this name, with its body where it is kept up to a limit; `None` where the file is
-/// gone.
-fn seen_of<R: Files>(
+/// The body of the file of this name, which is kept up to a limit, if at all; `None` where the file
+/// is gone.
+fn kept_body<R: Files>(
     rt: &R,
     alloc: Global,
     dir: &str,
     name: &str,
     kept: Option<u64>,
-) -> Result<Option<Seen>, Trouble> {
+) -> Result<Option<Body>, NoMemory> {
     let Some(limit) = kept else {
-        return Ok(Some(seen(alloc, name, Body::Long)?));
+        return Ok(Some(Body::Long));
     };
     let path = path_in(alloc, dir, name)?;
-    match body_of(rt, alloc, path.as_str(), limit)? {
-        Some(body) => Ok(Some(seen(alloc, name, body)?)),
-        None => Ok(None),
-    }
+    body_of(rt, alloc, path.as_str(), limit)
 }
 
-fn seen(alloc: Global, name: &str, body: Body) -> Result<Seen, Trouble> {
-    let name = Text::new(alloc, name)?;
-    Ok(Seen { name, body })
+/// Adds a file, if its name is a text, as each is that a system gives, and another one than the last.
+/// A folder that changes while it is listed may give a name twice.
+fn push(alloc: Global, files: &mut Items<Seen>, name: &str, body: Body) -> Result<(), NoMemory> {
+    if let Some(last) = files.as_slice().last()
+        && last.name.is(name)
+    {
+        return Ok(());
+    }
+    match Text::new(alloc, name) {
+        Ok(name) => Ok(files.push(Seen { name, body })?),
+        Err(TextFault::Nul) => Ok(()),
+        Err(TextFault::NoMemory) => Err(NoMemory),
+    }
 }
 
 fn read_all<R: Files>(
@@ -83,25 +89,30 @@ fn read_all<R: Files>(
     dir: &str,
     listed: &[(String, u64)],
     mut reach: Reach,
-) -> Result<Items<Seen>, Trouble> {
+) -> Result<Items<Seen>, NoMemory> {
     let mut files = Items::new(alloc);
     for (name, length) in listed {
         let kept = reach.takes(*length).then_some(*length);
-        if let Some(file) = seen_of(rt, alloc, dir, name.as_str(), kept)? {
-            files.push(file)?;
+        if let Some(body) = kept_body(rt, alloc, dir, name.as_str(), kept)? {
+            push(alloc, &mut files, name.as_str(), body)?;
         }
     }
     Ok(files)
 }
 
-/// The regular files below a directory, in byte order of their names. A file whose body is not kept
-/// is not read.
+/// The listed files below a directory. A file whose body is not kept is not read, and so none is
+/// unless `reads`.
 pub(crate) fn files_of<R: Files + AllocGlobal + Clone + Drop>(
     rt: &R,
     alloc: Global,
     dir: &str,
-) -> Result<Items<Seen>, Trouble> {
-    let listing = list(rt, alloc, dir)?;
-    let reach = reach_of(alloc, &listing)?;
+    listing: &Listing,
+    reads: bool,
+) -> Result<Items<Seen>, NoMemory> {
+    let reach = if reads {
+        reach_of(alloc, listing)?
+    } else {
+        Reach::NOWHERE
+    };
     read_all(rt, alloc, dir, listing.files.as_slice(), reach)
 }

@@ -11,7 +11,7 @@ use std::fs::{Files, Metadata, Permissions};
 use std::io::ErrorKind;
 use std::os::unix::fs::PermissionsExt;
 use std::process::Processes;
-use wdl_value::Laid;
+use wdl_value::{Laid, Text};
 
 /// The file by which a directory is known as a job's. It is the first that is made there.
 pub(crate) const JOB: &str = ".wdl-job";
@@ -21,6 +21,10 @@ pub(crate) const OUT: &str = "_stdout";
 
 /// The file of a job's directory that takes its standard error.
 pub(crate) const ERR: &str = "_stderr";
+
+/// The file of a job's directory that has the paths of its inputs, each ended by a NUL. It is there
+/// only where the job has inputs.
+pub(crate) const INPUTS: &str = "_inputs";
 
 /// The path of a name below a directory.
 pub(crate) fn path_in(alloc: Global, dir: &str, name: &str) -> Result<String, AllocError> {
@@ -148,5 +152,25 @@ pub(crate) fn lay_down<R: Files>(
         let path = path_in(alloc, dir, file.name.as_str())?;
         fs::write(rt, path.as_str(), file.body.as_str())?;
     }
+    Ok(())
+}
+
+/// Writes the paths of a request's inputs into its directory, where there are any.
+pub(crate) fn lay_inputs<R: Files>(
+    rt: &R,
+    alloc: Global,
+    dir: &str,
+    inputs: &[Text],
+) -> Result<(), Trouble> {
+    if inputs.is_empty() {
+        return Ok(());
+    }
+    let mut paths = Vec::new(alloc);
+    for input in inputs {
+        paths.extend_from_slice(input.as_str().as_bytes())?;
+        paths.push(0)?;
+    }
+    let path = path_in(alloc, dir, INPUTS)?;
+    fs::write(rt, path.as_str(), paths.as_slice())?;
     Ok(())
 }

@@ -3,6 +3,7 @@
 
 mod child;
 mod collect;
+mod cut;
 mod directory;
 mod kind;
 mod listing;

@@ -13,8 +13,6 @@ pub(crate) enum Step {
     Files,
     /// Starting the shell there.
     Start,
-    /// Reading what the command left.
-    Answer,
 }
 
 /// Why a launch is refused.
@@ -28,10 +26,10 @@ pub(crate) enum Refusal {
     NotOfJob,
     /// A folder between the root and the directory belongs to another user.
     OthersFolder,
-    /// The names of the files that the command left pass the limits of an answer.
-    TooManyFiles,
-    /// A name holds NUL.
-    NotText,
+    /// The command and its environment are longer than what the system starts a program with.
+    TooLong,
+    /// What the command left is told by no answer.
+    NoAnswer,
     /// The system refused something.
     System(Step, ErrorKind),
     /// The reason has been told: the root is not free.
@@ -45,7 +43,6 @@ impl fmt::Display for Step {
             Step::Directory => "cannot make the directory of the job",
             Step::Files => "cannot write the files of the job",
             Step::Start => "cannot start the shell",
-            Step::Answer => "cannot read what the command left",
         })
     }
 }
@@ -64,11 +61,11 @@ impl fmt::Display for Refusal {
             Refusal::OthersFolder => f.write_str(
                 "a folder above it belongs to another user; name a root of your own by --root",
             ),
-            Refusal::TooManyFiles => f.write_str(
-                "the command left more than 4,096 files, a name of more than 1,024 bytes, or \
-                 262,144 bytes of names; keep them in an archive",
+            Refusal::TooLong => f.write_str(
+                "the command, its runtime attributes (WDL_RUNTIME_..) and the environment of wdl \
+                 are together longer than the system starts a program with",
             ),
-            Refusal::NotText => f.write_str("the name of a file that the command left is no text"),
+            Refusal::NoAnswer => f.write_str("what the command left is told by no answer"),
             Refusal::System(step, kind) => write!(f, "{step}: {kind}"),
             Refusal::Told => Ok(()),
         }

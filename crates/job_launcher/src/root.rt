@@ -20,6 +20,10 @@ const PAUSE_MILLIS: u64 = 100;
 
 const TRIES: u32 = 100;
 
+/// The most jobs of a run that waits until its trash is removed. The removal of a thousand
+/// directories may take as long as their jobs.
+const FEW: u64 = 64;
+
 /// What a run has of its root, from its first launch to its end.
 #[derive(Drop)]
 pub(crate) struct Root<P: OpenProcess + Drop> {
@@ -243,7 +247,7 @@ impl<P: OpenProcess + Drop> Hold<P> {
         })
     }
 
-    /// Removes the trash of the run, and frees its root.
+    /// Has the trash of the run removed, and frees its root.
     pub(crate) fn release(self) -> io::Result<()> {
         match self {
             Hold::Root(root) => root.release(),
@@ -258,10 +262,10 @@ impl<P: OpenProcess + Drop> Root<P> {
             _lock: lock,
             guard,
             trash,
-            launched: _,
+            launched,
         } = self;
         drop(trash);
-        let released = guard.release();
+        let released = guard.release(launched <= FEW);
         drop(lock);
         released
     }

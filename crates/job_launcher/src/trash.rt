@@ -13,8 +13,8 @@ use std::{fs, io};
 /// How the names of the folders begin in which runs put old directories aside.
 const BEGINNING: &str = ".wdl-old-";
 
-/// Where a run puts what stands in the places of its jobs' directories, to be removed at its end: a
-/// folder of its root, `.wdl-old-MARK`, which is made when it is first needed.
+/// Where a run puts what stands in the places of its jobs' directories, to be removed once it is done:
+/// a folder of its root, `.wdl-old-MARK`, which is made when it is first needed.
 #[derive(Drop)]
 pub(crate) struct Trash {
     folder: String,
@@ -47,6 +47,17 @@ fn move_to<R: Files>(rt: &R, from: &str, to: &str) -> io::Result<()> {
     }
 }
 
+/// Moves a directory into a folder, which is made where it is missing.
+fn move_into<R: Files>(rt: &R, from: &str, folder: &str, to: &str) -> io::Result<()> {
+    match move_to(rt, from, to) {
+        Err(e) if e.kind() == ErrorKind::NotFound => {
+            make_folder(rt, folder)?;
+            move_to(rt, from, to)
+        }
+        other => other,
+    }
+}
+
 impl Trash {
     /// The trash of a run, for the job of this number.
     pub(crate) fn new(alloc: Global, folder: &str, job: u64) -> Result<Trash, AllocError> {
@@ -62,9 +73,9 @@ impl Trash {
     where
         R: Files + Processes + AllocGlobal + Clone + Drop,
     {
-        make_folder(rt, self.folder.as_str())?;
-        let to = path_in(alloc, self.folder.as_str(), self.job.as_str())?;
-        match move_to(rt, dir, to.as_str()) {
+        let folder = self.folder.as_str();
+        let to = path_in(alloc, folder, self.job.as_str())?;
+        match move_into(rt, dir, folder, to.as_str()) {
             Err(e) if e.kind() == ErrorKind::CrossesDevices => self.remove_there(rt, alloc, dir),
             other => Ok(other?),
         }

@@ -1,6 +1,5 @@
 ghost use Rattle.std.specs.Prelude.{◌≡◌, ◌↔◌};
 ghost use Rattle.job_launcher.specs.declared.trouble.Trouble.TheVariants.{NoMemory as OutOfMemory};
-ghost use Rattle.wdl_base.specs.declared.error.TextFault.TheVariants.{NoMemory as TextNoMemory};
 ghost use Rattle.wdl_port.specs.declared.fault.LaunchFault.TheVariants.{NoMemory as LaunchNoMemory};
 
 use crate::refusal::{Refusal, Step};
@@ -9,7 +8,7 @@ use std::io;
 use std::io::ErrorKind;
 use thiserror::Error;
 use wdl_port::LaunchFault;
-use wdl_value::{NoMemory, TextFault};
+use wdl_value::NoMemory;
 
 /// Why a launch failed.
 #[derive(Clone, Copy, Debug, Error)]
@@ -43,18 +42,8 @@ impl From<io::Error> for Trouble {
     fn from(e: io::Error) -> Trouble {
         match e.kind() {
             ErrorKind::OutOfMemory => Trouble::NoMemory,
+            ErrorKind::ArgumentListTooLong => Trouble::Refused(Refusal::TooLong),
             kind => Trouble::Refused(Refusal::System(Step::Directory, kind)),
-        }
-    }
-}
-
-impl From<TextFault> for Trouble {
-    ghost from_gives = { λ e t. (t ≡ OutOfMemory) ↔ (e ≡ TextNoMemory) };
-
-    fn from(e: TextFault) -> Trouble {
-        match e {
-            TextFault::Nul => Trouble::Refused(Refusal::NotText),
-            TextFault::NoMemory => Trouble::NoMemory,
         }
     }
 }

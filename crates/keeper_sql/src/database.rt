@@ -43,6 +43,15 @@ impl Database {
         Ok(self.conn.execute(sql, values)?)
     }
 
+    /// Returns the text in the first column of a query's first row, if there is a row.
+    pub fn text(&mut self, sql: &str, values: &[ValueRef<'_>]) -> Result<Option<String>, Trouble> {
+        match self.conn.query_row(sql, values) {
+            Ok(row) => Ok(Some(row.get(0)?)),
+            Err(Error::QueryReturnedNoRows) => Ok(None),
+            Err(e) => Err(Trouble::from(e)),
+        }
+    }
+
     /// Returns the number in the first column of a query's first row.
     pub fn number(&mut self, sql: &str, values: &[ValueRef<'_>]) -> Result<i64, Trouble> {
         Ok(self.conn.query_row(sql, values)?.get(0)?)

@@ -3,4 +3,8 @@
 #![tactic(auto)]
 
 #[cfg(test)]
+mod stamps;
+#[cfg(test)]
 mod tests;
+#[cfg(test)]
+mod want;

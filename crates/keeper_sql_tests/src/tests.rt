@@ -3,18 +3,20 @@
 ghost use Rattle.std.specs.Prelude.{◌≡◌, None, false, OnOk, IsSome};
 ghost use Rattle.wdl_base.specs.Plain.{has_nul};
 
-use keeper_sql::{Database, SqlKeeper, Trouble};
-use run_keeper::{RowFault, entry_of, row_text};
+use crate::want::Want;
+use keeper_sql::{Database, KeeperNotes, SqlKeeper};
+use run_keeper::{entry_of, row_text};
 use sqlite::params;
 use std::alloc::{AllocError, Global};
-use std::fs;
 use std::fs::{Files, OpenOptions};
+use std::io::Sink;
 use std::rt::HostRuntime;
 use std::test::Fail;
+use std::{fs, io};
 use wdl_port::{KeepFault, Keeper};
 use wdl_value::{Entry, NoMemory, Source};
 
-const TABLE: &str =
+pub(crate) const TABLE: &str =
     "CREATE TABLE entry (place TEXT NOT NULL, attempt INTEGER NOT NULL, body TEXT NOT NULL, PRIMARY KEY (place, attempt)) STRICT";
 
 const INSERT: &str = "INSERT INTO entry (place, attempt, body) VALUES ('say', ?1, ?2)";
@@ -49,46 +51,6 @@ const ROWS: &str = "\
 {\"attempt\":0,\"command\":\"echo hi\",\"dir\":\"/tmp/wdl-run/say\",\"err\":\"\",\"files\":[],\"laid\":[],\"out\":\"68690a\",\"place\":\"tell\",\"status\":0,\"v\":2};\
 {\"attempt\":1,\"command\":\"echo hi\",\"dir\":\"/tmp/wdl-run/say\",\"err\":\"\",\"files\":[],\"laid\":[],\"out\":\"68690a\",\"place\":\"say\",\"status\":0,\"v\":2}";
 
-/// What a test's own steps want, which is memory or a file.
-#[derive(Debug, Drop)]
-struct Want;
-
-impl From<AllocError> for Want {
-    fn from(_e: AllocError) -> Want {
-        Want
-    }
-}
-
-impl From<NoMemory> for Want {
-    fn from(_e: NoMemory) -> Want {
-        Want
-    }
-}
-
-impl From<KeepFault> for Want {
-    fn from(_e: KeepFault) -> Want {
-        Want
-    }
-}
-
-impl From<RowFault> for Want {
-    fn from(_e: RowFault) -> Want {
-        Want
-    }
-}
-
-impl From<Trouble> for Want {
-    fn from(_e: Trouble) -> Want {
-        Want
-    }
-}
-
-impl From<std::io::Error> for Want {
-    fn from(_e: std::io::Error) -> Want {
-        Want
-    }
-}
-
 /// How many entries are put.
 const COUNT: u32 = 1_000;
 
@@ -104,7 +66,7 @@ fn text(alloc: Global, item: u32, status: u8) -> Result<String, AllocError> {
 }
 
 /// Puts that entry as one that was launched.
-fn put(alloc: Global, keeper: &mut SqlKeeper<'_>, item: u32, status: u8) -> Result<(), Want>
+fn put(alloc: Global, keeper: &mut SqlKeeper<'_, Sink>, item: u32, status: u8) -> Result<(), Want>
     requires { IsSome keeper.old.path }
     ensures { OnOk result (IsSome keeper.new.path) }
 {
@@ -115,7 +77,7 @@ fn put(alloc: Global, keeper: &mut SqlKeeper<'_>, item: u32, status: u8) -> Resu
 }
 
 /// Puts an answer of the first entry, and then all entries, the last first.
-fn fill(alloc: Global, keeper: &mut SqlKeeper<'_>) -> Result<(), Want>
+fn fill(alloc: Global, keeper: &mut SqlKeeper<'_, Sink>) -> Result<(), Want>
     requires { IsSome keeper.old.path }
     ensures { OnOk result (IsSome keeper.new.path) }
 {
@@ -145,7 +107,7 @@ fn are_entries(alloc: Global, rows: &[Entry]) -> Result<bool, NoMemory> {
 }
 
 /// Whether the keeper gives the entries.
-fn keeps_entries(alloc: Global, keeper: &mut SqlKeeper<'_>) -> Result<bool, Want>
+fn keeps_entries(alloc: Global, keeper: &mut SqlKeeper<'_, Sink>) -> Result<bool, Want>
     requires { IsSome keeper.old.path }
 {
     let rows = keeper.rows(alloc)?;
@@ -161,7 +123,7 @@ fn make_dir(rt: &HostRuntime, dir: &str) -> Result<(), Want> {
 
 /// Whether a keeper gives all entries that it was given.
 fn keeps_what_is_put(rt: &HostRuntime) -> Result<bool, Want> {
-    let mut keeper = SqlKeeper::new(rt);
+    let mut keeper = SqlKeeper::new(rt, KeeperNotes::new(io::sink(), ""));
     keeper.start(rt.alloc(), "kept/j")?;
     fill(rt.alloc(), &mut keeper)?;
     keeps_entries(rt.alloc(), &mut keeper)
@@ -169,7 +131,7 @@ fn keeps_what_is_put(rt: &HostRuntime) -> Result<bool, Want> {
 
 /// Whether the next keeper of the file gives them too.
 fn keeps_what_was_put(rt: &HostRuntime) -> Result<bool, Want> {
-    let mut keeper = SqlKeeper::new(rt);
+    let mut keeper = SqlKeeper::new(rt, KeeperNotes::new(io::sink(), ""));
     keeper.start(rt.alloc(), "kept/j")?;
     keeps_entries(rt.alloc(), &mut keeper)
 }
@@ -211,7 +173,7 @@ fn holds(rt: &HostRuntime, at: &str, bodies: &str) -> Result<bool, Want> {
 fn gives_rows(rt: &HostRuntime, at: &str, count: usize) -> Result<bool, Want>
     requires { has_nul at.now ≡ false }
 {
-    let mut keeper = SqlKeeper::new(rt);
+    let mut keeper = SqlKeeper::new(rt, KeeperNotes::new(io::sink(), ""));
     keeper.start(rt.alloc(), at)?;
     Ok(keeper.rows(rt.alloc())?.len() == count && keeper.faults == 0)
 }
@@ -225,7 +187,7 @@ fn old_rows_are_rewritten(rt: HostRuntime) -> Result<(), Fail> {
 }
 
 /// Whether `start` on that path and then `rows` count a fault each.
-fn counts_faults(alloc: Global, keeper: &mut SqlKeeper<'_>, at: &str) -> bool
+fn counts_faults(alloc: Global, keeper: &mut SqlKeeper<'_, Sink>, at: &str) -> bool
     requires plain { has_nul at.now ≡ false }
     requires fresh { keeper.old.path ≡ None }
 {
@@ -239,10 +201,14 @@ fn counts_faults(alloc: Global, keeper: &mut SqlKeeper<'_>, at: &str) -> bool
 
 /// Whether a second keeper cannot have the file of the first, which goes on.
 fn has_it_alone(rt: &HostRuntime) -> Result<bool, Want> {
-    let mut keeper = SqlKeeper::new(rt);
+    let mut keeper = SqlKeeper::new(rt, KeeperNotes::new(io::sink(), ""));
     keeper.start(rt.alloc(), "one/j")?;
     put(rt.alloc(), &mut keeper, 0, 0)?;
-    let is_refused = counts_faults(rt.alloc(), &mut SqlKeeper::new(rt), "one/j");
+    let is_refused = counts_faults(
+        rt.alloc(),
+        &mut SqlKeeper::new(rt, KeeperNotes::new(io::sink(), "")),
+        "one/j",
+    );
     put(rt.alloc(), &mut keeper, 1, 0)?;
     Ok(is_refused && keeper.faults == 0)
 }
@@ -260,7 +226,11 @@ const BAD: &str = "bad/j";
 /// Whether the file is refused, and left as it is.
 fn is_refused(rt: &HostRuntime) -> Result<bool, Want> {
     let before = fs::read(rt, BAD)?;
-    let refused = counts_faults(rt.alloc(), &mut SqlKeeper::new(rt), BAD);
+    let refused = counts_faults(
+        rt.alloc(),
+        &mut SqlKeeper::new(rt, KeeperNotes::new(io::sink(), "")),
+        BAD,
+    );
     Ok(refused && fs::read(rt, BAD)?.as_slice() == before.as_slice())
 }
 
@@ -302,8 +272,19 @@ fn is_refused_as_text(rt: &HostRuntime) -> Result<bool, Want> {
 fn is_refused_as_folder(rt: &HostRuntime) -> Result<bool, Want> {
     make_dir(rt, "bad")?;
     fs::create_dir(rt, BAD)?;
-    let is_folder_refused = counts_faults(rt.alloc(), &mut SqlKeeper::new(rt), BAD);
-    Ok(is_folder_refused && counts_faults(rt.alloc(), &mut SqlKeeper::new(rt), "bad/none/j"))
+    let is_folder_refused = counts_faults(
+        rt.alloc(),
+        &mut SqlKeeper::new(rt, KeeperNotes::new(io::sink(), "")),
+        BAD,
+    );
+    Ok(
+        is_folder_refused
+            && counts_faults(
+                rt.alloc(),
+                &mut SqlKeeper::new(rt, KeeperNotes::new(io::sink(), "")),
+                "bad/none/j",
+            ),
+    )
 }
 
 /// Whether each database of another table is refused.

@@ -1,15 +1,15 @@
--- Texts of rows, and those of their entries in version 2.
+-- Texts of rows, and those in which their entries are written.
 use Rattle.std.specs.Prelude.{◌≡◌, ◌<◌, ℕ, List, [], ◌∷◌, length, take, get_or, ⊤}
 use Rattle.std.specs.List.{AllByRecursion}
 use Rattle.wdl_base.specs.declared.entry.Entry.{Entry}
 use Rattle.run_keeper.specs.Reads.{IsNoRow}
 use Rattle.run_keeper.specs.RowText.{IsRowOf, row_text}
 
--- the text is a row's, and the other is that of its entry in version 2
+-- the text is a row's, and the other is that in which its entry is written
 abbrev pub IsRenewed : List ℕ → List ℕ → Type 0
 IsRenewed s t = (e : Entry) × IsRowOf s e × (t ≡ row_text e)
 
--- each text is a row's, and is replaced by the text of its entry in version 2
+-- each text is a row's, and is replaced by that in which its entry is written
 abbrev pub AreRenewed : List (List ℕ) → List (List ℕ) → Type 0
 AreRenewed [] [] = ⊤
 AreRenewed [] (t ∷ ts) = ⊥

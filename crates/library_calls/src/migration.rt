@@ -32,7 +32,7 @@ impl From<AllocError> for MigrateFault {
     }
 }
 
-/// The row's text in version 2 of the entry of a row's text.
+/// The text in which the entry of a row's text is written.
 fn renewed(alloc: Global, row: &Text) -> Result<Text, RowFault>
     ensures row { IfOk result (IsRenewed row.now) }
     ensures refused { IsErrOf result NotARow → IsNoRow row.now }
@@ -41,7 +41,8 @@ fn renewed(alloc: Global, row: &Text) -> Result<Text, RowFault>
     Ok(row_text(alloc, &entry)?)
 }
 
-/// Each row's text, replaced by the version 2 text of its entry, in order. It is `NotARow` exactly
+/// Each row's text, replaced by that in which its entry is written, in order: version 2 where the
+/// request reads and has neither attributes nor inputs, else version 3. It is `NotARow` exactly
 /// where a text is no row's, with the number of the first such.
 pub fn migrate(alloc: Global, rows: &[Text]) -> Result<Items<Text>, MigrateFault>
     requires { length rows.now < 2 ^ 32 }

@@ -61,6 +61,9 @@ fn request(alloc: Global, name: &str, attempt: u32) -> Result<Request, Want> {
         dir: Text::empty(alloc),
         command: Text::empty(alloc),
         files: Items::new(alloc),
+        attributes: Items::new(alloc),
+        inputs: Items::new(alloc),
+        reads: true,
     })
 }
 
@@ -225,11 +228,42 @@ fn a_keeper_keeps_its_rows_in_order(rt: HostRuntime) -> Result<(), Fail> {
     Ok(())
 }
 
+/// Whether an entry of that name stands for its files.
+fn stands(alloc: Global, keeper: &mut MapKeeper, name: &str) -> Result<bool, Want>
+    requires { IsSome keeper.old.path }
+    ensures { keeper.new.path ≡ keeper.old.path }
+{
+    let entry = entry(alloc, name, 0, 0)?;
+    match keeper.stands(alloc, &entry) {
+        Ok(stands) => Ok(stands),
+        Err(_) => Err(Want),
+    }
+}
+
+#[test]
+fn a_keeper_lets_the_listed_places_lapse(rt: HostRuntime) -> Result<(), Fail> {
+    let alloc = rt.alloc();
+    let mut lapsed = Items::new(alloc);
+    lapsed.push(place(alloc, "b")?)?;
+    let mut keeper = MapKeeper::new(alloc, calls(alloc, 4)?).with_lapsed(lapsed);
+    start(alloc, &mut keeper)?;
+    assert!(rt; stands(alloc, &mut keeper, "a")?);
+    assert!(rt; !stands(alloc, &mut keeper, "b")?);
+    assert!(rt; stands(alloc, &mut keeper, "a").is_err());
+    let mut keeper = keeper.again(Items::new(alloc));
+    start(alloc, &mut keeper)?;
+    assert!(rt; !stands(alloc, &mut keeper, "b")?);
+    Ok(())
+}
+
 #[test]
 fn a_keeper_without_rows_counts_each_call(rt: HostRuntime) -> Result<(), Fail> {
     let alloc = rt.alloc();
     let mut keeper = NoKeeper::new();
     assert!(rt; matches!(&keeper.start(alloc, "j"), Err(KeepFault::Failed)));
     assert!(rt; keeper.path.is_some());
+    let entry = entry(alloc, "a", 0, 0)?;
+    assert!(rt; matches!(&keeper.stands(alloc, &entry), Err(KeepFault::Failed)));
+    assert_eq!(rt; keeper.faults, 2);
     Ok(())
 }

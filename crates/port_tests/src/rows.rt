@@ -22,7 +22,21 @@ const FULL: &str = "\
         \"laid\":[[\".written-0\",\"610a\"],[\".written-1\",\"\"]],\
         \"out\":\"\",\"place\":\"scatter-0/12/say\",\"status\":255,\"v\":2}";
 
-/// Texts that are no rows, one a line.
+/// The row of a request with attributes and inputs whose outputs read nothing.
+const WIDE: &str = "\
+    {\"attempt\":0,\"attributes\":[[\"cpu\",\"4\"],[\"container\",\"a\\nb\"]],\
+        \"command\":\"\",\"dir\":\"/d\",\"err\":\"\",\"files\":[[\".\",null]],\
+        \"inputs\":[\"/data/é\",\"x\"],\"laid\":[],\"out\":null,\"place\":\"say\",\
+        \"reads\":false,\"status\":0,\"v\":3}";
+
+/// The same without attributes and inputs.
+const SILENT: &str = "\
+    {\"attempt\":0,\"attributes\":[],\"command\":\"\",\"dir\":\"/d\",\
+        \"err\":\"\",\"files\":[],\"inputs\":[],\"laid\":[],\"out\":null,\"place\":\"say\",\
+        \"reads\":false,\"status\":0,\"v\":3}";
+
+/// Texts that are no rows, one a line. The last ones are of version 3: of a request that version 2
+/// tells, with a name that is none, without a member, and of another version.
 const BAD: &str = "\
     {}\n\
     \n\
@@ -55,7 +69,22 @@ const BAD: &str = "\
         \"err\":\"\",\"files\":[],\"laid\":[],\
         \"out\":\"68690a\",\"place\":\"say\",\"status\":0,\"v\":1}\n\
     {\"command\":\"echo hi\",\"dir\":\"/tmp/wdl-run/say\",\
-        \"err\":\"\",\"files\":[],\"out\":\"68690a\",\"place\":\"say\",\"status\":0,\"v\":2}";
+        \"err\":\"\",\"files\":[],\"out\":\"68690a\",\"place\":\"say\",\"status\":0,\"v\":2}\n\
+    {\"attempt\":0,\"attributes\":[],\"command\":\"\",\"dir\":\"/d\",\
+        \"err\":\"\",\"files\":[],\"inputs\":[],\"laid\":[],\"out\":null,\"place\":\"say\",\
+        \"reads\":true,\"status\":0,\"v\":3}\n\
+    {\"attempt\":0,\"attributes\":[[\"4\",\"4\"]],\"command\":\"\",\"dir\":\"/d\",\
+        \"err\":\"\",\"files\":[],\"inputs\":[],\"laid\":[],\"out\":null,\"place\":\"say\",\
+        \"reads\":true,\"status\":0,\"v\":3}\n\
+    {\"attempt\":0,\"attributes\":[],\"command\":\"\",\"dir\":\"/d\",\
+        \"err\":\"\",\"files\":[],\"laid\":[],\"out\":null,\"place\":\"say\",\
+        \"reads\":false,\"status\":0,\"v\":3}\n\
+    {\"attempt\":0,\"attributes\":[],\"command\":\"\",\"dir\":\"/d\",\
+        \"err\":\"\",\"files\":[],\"inputs\":[],\"laid\":[],\"out\":null,\"place\":\"say\",\
+        \"reads\":false,\"status\":0,\"v\":2}\n\
+    {\"attempt\":0,\"attributes\":[],\"command\":\"\",\"dir\":\"/d\",\
+        \"err\":\"\",\"files\":[],\"inputs\":[],\"laid\":[],\"out\":null,\"place\":\"say\",\
+        \"reads\":false,\"status\":0,\"v\":4}";
 
 fn place(alloc: Global) -> Result<Place, NoMemory> {
     let Ok(name) = Name::new(alloc, "say") else {
@@ -73,6 +102,9 @@ fn request(alloc: Global) -> Result<Request, NoMemory> {
         dir: Text::from_plain(alloc, "/tmp/wdl-run/say")?,
         command: Text::from_plain(alloc, "echo hi")?,
         files: Items::new(alloc),
+        attributes: Items::new(alloc),
+        inputs: Items::new(alloc),
+        reads: true,
     })
 }
 
@@ -95,7 +127,7 @@ fn written(alloc: Global) -> Result<Text, NoMemory> {
     row_text(alloc, &entry)
 }
 
-/// Whether a row's text is read as an entry whose text in version 2 is this one.
+/// Whether a row's text is read as an entry whose text is this one.
 fn is_read(alloc: Global, row: &str, renewed: &str) -> Result<bool, NoMemory> {
     match entry_of(alloc, row) {
         Ok(entry) => Ok(entry.source == Source::Kept && row_text(alloc, &entry)?.is(renewed)),
@@ -107,7 +139,13 @@ fn is_read(alloc: Global, row: &str, renewed: &str) -> Result<bool, NoMemory> {
 fn an_entry_is_written_and_read(rt: HostRuntime) -> Result<(), Fail> {
     let alloc = rt.alloc();
     assert_eq!(rt; written(alloc)?.as_str(), ROW);
-    for (row, renewed) in [(ROW, ROW), (OLD, ROW), (FULL, FULL)] {
+    for (row, renewed) in [
+        (ROW, ROW),
+        (OLD, ROW),
+        (FULL, FULL),
+        (WIDE, WIDE),
+        (SILENT, SILENT),
+    ] {
         assert!(rt; is_read(alloc, row, renewed)?, "at {row}");
     }
     Ok(())

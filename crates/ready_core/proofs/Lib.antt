@@ -8,4 +8,5 @@ pub mod Running
 pub mod Runs
 pub mod Shared
 pub mod Standing
+pub mod Stops
 pub mod Turning

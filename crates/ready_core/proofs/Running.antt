@@ -1,7 +1,8 @@
 -- The fields of a core, from one call to the next.
-use Rattle.std.proofs.Common.{zero, suc, false, ◌⊎◌, cond, not, ◌&&◌, ◌||◌, None, IfSome, IfNone, ◌≡◌, ℕ, Bool, ◌+◌, ◌<◌, ◌≤◌, true, List, [], ◌∷◌, ◌++◌, Contains, Option, Some, IsSome, is_some, length, length-append, remove, slice_index_or, vec_capacity, vec_len, deque_len, arith, sym, ap, ◌∙◌, subst, refl}
-use Rattle.std.proofs.lemmas.Bool.{false≢true}
-use Rattle.std.proofs.lemmas.List.Elements.{All-contains}
+use Rattle.std.proofs.Common.{zero, suc, false, ◌⊎◌, cond, not, ◌&&◌, ◌||◌, None, IfSome, IfNone, ◌≡◌, ℕ, Bool, ◌+◌, ◌<◌, ◌≤◌, true, List, [], ◌∷◌, ◌++◌, Contains, Option, Some, IsSome, is_some, length, length-append, nat_lt, remove, slice_index_or, take, vec_capacity, vec_len, deque_len, arith, sym, ap, ◌∙◌, subst, refl, All}
+use Rattle.std.proofs.lemmas.Bool.{false≢true, ltb-false, ltb-true}
+use Rattle.std.proofs.lemmas.List.{take_all, take_more}
+use Rattle.std.proofs.lemmas.List.Elements.{All-append, All-contains}
 use Rattle.wdl_base.specs.declared.entry.Entry.{Entry}
 use Rattle.wdl_base.specs.declared.fault.Fault.{Fault}
 use Rattle.wdl_base.specs.declared.request.Request.{Request}
@@ -19,7 +20,7 @@ use Rattle.ready_core.specs.Cores as core
 use Rattle.ready_core.specs.Cores.{CoreState, Origin, all_taken, flow_at, has_fault, idle_at, is_taken, met_after, requests}
 use Rattle.ready_core.specs.Courses.{IsAwaited, IsOnCourse, kept, origin_of, plan_of}
 use Rattle.ready_core.specs.Inside.{HasRoomFor, IsRun, Stands, state}
-use Rattle.ready_core.specs.Logs.{HasRoom, IsEmpty, IsPlaceOf, IsWider, Settles, Takes}
+use Rattle.ready_core.specs.Logs.{HasRoom, IsEmpty, IsPlaceOf, IsWider, Settles, Stops, Takes, spare}
 use Rattle.ready_core.specs.Rows.{TakenJob}
 use Rattle.ready_core.specs.Turns as turns
 use Rattle.ready_core.specs.Turns.{AreShared, IsFirst, IsFollowed, IsNext, IsRoomier, IsSight, IsTurn, is_closed}
@@ -28,7 +29,8 @@ use Rattle.ready_core.proofs.Counting.{passes_at}
 use Rattle.ready_core.proofs.Paired.{paired_request}
 use Rattle.ready_core.proofs.Runs.{differ, grow}
 use Rattle.ready_core.proofs.Shared.{all_were_taken, may_take, shared_settled, shared_taken}
-use Rattle.ready_core.proofs.Standing.{IsOut, out_fresh, out_held, out_job, settled_stands, started_stands, taken_stands, was_out, without}
+use Rattle.ready_core.proofs.Standing.{IsOut, out_fresh, out_held, out_job, settled_gone, settled_stands, started_stands, taken_stands, was_out, without}
+use Rattle.ready_core.proofs.Stops.{spare_other}
 use Rattle.ready_core.proofs.Turning.{fault_later, fault_met, few_before, no_fault_before, open_parts}
 
 -- ---- room
@@ -38,7 +40,7 @@ room_taken m n a b j h e t =
     record {
       taken = omega (arith, h.taken, e, t.taken_len, t.taken_room);
       out = omega (arith, h.out, e, t.out_len, t.out_room);
-      steps = omega (arith, h.steps, e, t.steps_len, t.steps_room);
+      steps = omega (arith, h.steps, e, t.steps_len, t.steps_room, spare_other a.steps.items b.steps.items (step.Took j.request.place) refl t.steps);
     }
 
 room_settled : (m n : ℕ) (at : ℕ) (e : Entry) (a b : Log) → HasRoom m (m + 1) a → n ≤ m → Settles a at e b → HasRoom n n b
@@ -46,7 +48,7 @@ room_settled m n at e a b h less s =
     record {
       taken = subst (λ (v : _). vec_len v + n ≤ vec_capacity v) (sym s.taken) (omega (arith, h.taken, less));
       out = omega (arith, h.out, less, s.out_len, s.out_room);
-      steps = omega (arith, h.steps, less, s.steps_len, s.steps_room);
+      steps = omega (arith, h.steps, less, s.steps_len, s.steps_room, spare_other a.steps.items b.steps.items (step.Settled s.job.request.place) refl s.steps);
     }
 
 room_wider : (n : ℕ) (a b : Log) → HasRoom n n a → IsWider a b → HasRoom n n b
@@ -54,8 +56,12 @@ room_wider n a b h w =
     record {
       taken = omega (arith, h.taken, w.taken_len, w.taken_room);
       out = omega (arith, h.out, w.out_len, w.out_room);
-      steps = omega (arith, h.steps, w.steps_len, w.steps_room);
+      steps = omega (arith, h.steps, w.steps_len, w.steps_room, ap spare w.steps);
     }
+
+room_stopped : (n : ℕ) (a b : Log) → HasRoom n n a → Stops a b → HasRoom n n b
+room_stopped n a b h s =
+    subst (HasRoom n n) (sym s.same) (record { taken = h.taken; out = h.out; steps = omega (arith, h.steps, s.steps_len, s.steps_room) })
 
 pub room_first : (n m k : ℕ) (log : Log) → HasRoom (m + k) (m + k + 1) log → m ≡ n → HasRoom n n log
 room_first n m k log h e = record { taken = omega (arith, h.taken, e); out = omega (arith, h.out, e); steps = omega (arith, h.steps, e) }
@@ -84,6 +90,7 @@ settles_bare s t e plan h =
       fed = h.fed;
       out = h.out;
       left = h.left;
+      gone = h.gone;
       origin = h.origin;
       after = h.after;
     }
@@ -263,6 +270,22 @@ pub place_found : (jobs : List TakenJob) (at : ℕ) (r q : Request) (x : TakenJo
 place_found jobs at r q x within is e h =
     (within, λ j f. ap (λ (y : TakenJob). same_request y.request r) (sym (one_at jobs at x j within is f)) ∙ ap (λ (y : Request). same_request y r) (sym e) ∙ h)
 
+-- one job more that is not it
+pub none_through : (jobs : List TakenJob) (at : ℕ) (r : Request) (x : TakenJob) → x ≡ slice_index_or jobs at x → same_request x.request r ≡ false
+    → All (λ (j : TakenJob). same_request j.request r ≡ false) (take at jobs) → All (λ (j : TakenJob). same_request j.request r ≡ false) (take (at + 1) jobs)
+none_through jobs at r x is differs none = by_place (nat_lt at (length jobs)) refl
+  where
+    P : TakenJob → Type 0
+    P j = same_request j.request r ≡ false
+
+    one : All P (slice_index_or jobs at x ∷ [])
+    one zero d h = ap (λ (j : TakenJob). same_request j.request r) (sym is) ∙ differs
+    one (suc k) d h = absurd (omega (arith, h))
+
+    by_place : (b : Bool) → nat_lt at (length jobs) ≡ b → All P (take (at + 1) jobs)
+    by_place true e = subst (All P) (sym (take_more jobs at x (ltb-true at (length jobs) e))) (All-append P (take at jobs) (slice_index_or jobs at x ∷ []) none one)
+    by_place false e = subst (All P) (take_all at jobs (ltb-false at (length jobs) e) ∙ sym (take_all (at + 1) jobs (omega (arith, ltb-false at (length jobs) e)))) none
+
 pub moved_place : (jobs out : List TakenJob) (q r : Request) (at : Option ℕ) → jobs ≡ out → q ≡ r → IsPlaceOf jobs q at → IsPlaceOf out r at
 moved_place jobs out q r at e f h = subst (λ (x : Request). IsPlaceOf out x at) f (subst (λ (x : List TakenJob). IsPlaceOf x q at) e h)
 
@@ -302,6 +325,17 @@ fault_some f None h = tt
 pub fault_none : (f : Flowing) (x : Option Fault) → turns.IsFaultOf f x → IfNone x ((f.faults ≡ []) ⊎ (too_many f ≡ true))
 fault_none f (Some x) h = tt
 fault_none f None h = h
+
+-- ---- the stop
+
+pub run_stopped : (s : Course) (log next : Log) (t : Turn) → IsRun s log t → Stops log next → IsRun s next t
+run_stopped s log next t r h =
+    subst (λ (l : Log). HasRoom (deque_len t.ready) (deque_len t.ready) l → IsRun s l t) (sym h.same)
+    (λ room. record { main = r.main; stands = r.stands; turn = r.turn; met = r.met; room = room; course = r.course })
+    (room_stopped (deque_len t.ready) log next r.room h)
+
+pub state_stopped : (s : Course) (log next : Log) → Stops log next → state s next ≡ core.stopped (state s log)
+state_stopped s log next h = ap (state s) h.same ∙ ap (stated (plan_of s) (origin_of s) log.journal.items log.taken.items log.out.items) h.steps
 
 -- ---- settling an answer
 
@@ -426,6 +460,7 @@ module _ (s : Course) (log next : Log) (t fresh after : Turn) (at : ℕ) (e : En
         fed = ap (λ (o : Origin). core.fed_at o next.journal.items) (kept_origin s) ∙ ap (core.fed_at p) settles.journal ∙ stands_then.fed;
         out = omega (arith, x.counted, stands_then.counted, ap length settles.out, length-append log.journal.items (e ∷ []));
         left = without log.out.items next.out.items at e.request is_out settles.out;
+        gone = λ c. settled_gone p log.journal.items log.taken.items (remove log.out.items at) e stands_then (subst (λ (x : List TakenJob). Contains (requests x) e.request) settles.out c);
         origin = kept_origin s;
         after =
             same_state (plan_of (kept s)) (kept_origin s) settles.journal taken_next refl

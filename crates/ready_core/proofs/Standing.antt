@@ -2,7 +2,7 @@
 use Rattle.std.proofs.Common.{◌≡◌, ℕ, ◌<◌, ◌≤◌, Bool, true, false, cond, ◌⊎◌, inl, inr, List, [], ◌∷◌, ◌++◌, Contains, IsSome, count_by, length, length-append, nat_lt, remove, slice_index_or, arith, sym, ap, ◌∙◌, subst, refl}
 use Rattle.std.proofs.lemmas.Bool.{false≢true, false_from_ne_true, ltb-false, or_parts, or_cases}
 use Rattle.std.proofs.lemmas.List.Edits.{length-remove}
-use Rattle.std.proofs.lemmas.List.Elements.{Contains-append_cases}
+use Rattle.std.proofs.lemmas.List.Elements.{Contains-append_cases, Contains-append_right}
 use Rattle.wdl_base.specs.declared.entry.Entry.{Entry}
 use Rattle.wdl_base.specs.declared.request.Request.{Request}
 use Rattle.wdl_base.specs.Same.{same_place, same_request}
@@ -174,6 +174,18 @@ are_held s h r c =
 pub without : (out rest : List TakenJob) (at : ℕ) (r : Request) → IsOut out at r → rest ≡ remove out at → AreWithout out r rest
 unfolding AreWithout
 without out rest at r w e = (at, w.job, w.within, w.is, w.same, e)
+
+-- what has an entry is out no longer
+pub settled_gone : (o : Origin) (es : List Entry) (taken out : List TakenJob) (e : Entry) → Stands o (es ++ e ∷ []) taken out → Contains (requests out) e.request → ⊥
+settled_gone o es taken out e s c =
+    let r = e.request in
+    let q = requested out r c in
+    let w : IsOut out q.1.0 r = record { job = q.0; within = q.1.1; is = q.1.2; same = q.2 } in
+    omega (
+      arith,
+      none_counted (es ++ e ∷ []) r (out_fresh out (es ++ e ∷ []) taken q.1.0 r s.once s.balances w),
+      counts (λ (x : Entry). is_job_at r.place r.attempt x.request) (es ++ e ∷ []) e (Contains-append_right es (e ∷ []) e (contains_first e [])) (job_at r r.place r.attempt refl refl),
+    )
 
 balance_settled : (out : List TakenJob) (es : List Entry) (taken : List TakenJob) (at : ℕ) (e : Entry) → Balances out es taken → IsOut out at e.request → Balances (remove out at) (es ++ e ∷ []) taken
 unfolding Balances

@@ -1,11 +1,11 @@
 -- What contracts see of a core, and its two transitions.
-use Rattle.std.specs.Prelude.{◌≡◌, ℕ, ◌+◌, ◌<◌, ◌≤◌, Bool, true, false, not, ◌&&◌, ◌||◌, ◌==◌, List, [], ◌∷◌, ◌++◌, Contains, Option, Some, count_by, length, map, remove, slice_index_or}
+use Rattle.std.specs.Prelude.{◌≡◌, ℕ, ◌+◌, ◌<◌, ◌≤◌, Bool, true, false, not, ◌&&◌, ◌||◌, ◌==◌, List, [], ◌∷◌, ◌++◌, Contains, Option, Some, count_by, if◌then◌else◌, length, map, remove, slice_index_or}
 use Rattle.std.specs.List.{list_all, list_any}
 use Rattle.wdl_base.specs.declared.entry.Entry.{Entry}
 use Rattle.wdl_base.specs.declared.place.Segment.{Segment}
 use Rattle.wdl_base.specs.declared.request.Request.{Request}
 use Rattle.wdl_base.specs.declared.step.Step.{Step}
-use Rattle.wdl_base.specs.declared.step.Step.TheVariants.{Took, Settled}
+use Rattle.wdl_base.specs.declared.step.Step.TheVariants.{Took, Settled, Stopped}
 use Rattle.wdl_base.specs.Same.{same_place}
 use Rattle.wdl_value.specs.declared.env.Bind.{Bind}
 use Rattle.wdl_value.specs.Tables.{has_row, table}
@@ -97,6 +97,20 @@ WasOut es js r = settlings r.place es < takings r.place js
 abbrev pub requests : List TakenJob → List Request
 requests = map (λ (j : TakenJob). j.request)
 
+-- ---- steps
+
+abbrev pub is_stopped : Step → Bool
+is_stopped (Took p) = false
+is_stopped (Settled p) = false
+is_stopped Stopped = true
+
+abbrev pub has_stopped : List Step → Bool
+has_stopped = list_any is_stopped
+
+-- the same steps with a stop, which stands at most once
+abbrev pub with_stop : List Step → List Step
+with_stop steps = if has_stopped steps then steps else steps ++ Stopped ∷ []
+
 -- ---- the core
 
 -- `plan` is the plan that was told of the answers of the journal and of no others. There is none past the limits, nor from a settle
@@ -119,6 +133,9 @@ started o plan = record { origin = o; journal = []; taken = []; out = []; steps 
 -- the flow over the journal
 abbrev pub flow_of : CoreState → Flowing
 flow_of s = flow_at s.origin s.journal
+
+abbrev pub stopped : CoreState → CoreState
+stopped s = record s { steps = with_stop s.steps }
 
 -- what that flow costs
 abbrev pub cost_of : CoreState → ℕ
@@ -143,7 +160,7 @@ pub record Takes (s : CoreState) (j : TakenJob) (t : CoreState) : Type 0 where
 unfoldable pub AreWithout : List TakenJob → Request → List TakenJob → Type 0
 AreWithout out r rest = (at : ℕ) × (j : TakenJob) × (at < length out) × (slice_index_or out at j ≡ j) × (j.request ≡ r) × (rest ≡ remove out at)
 
--- one settle: the request was out, its place and attempt had no entry, and the journal stays fed
+-- one settle: the request was out and is so no longer, its place and attempt had no entry, and the journal stays fed
 pub record Settles (s : CoreState) (e : Entry) (t : CoreState) : Type 0 where
   pub was_out : WasOut s.journal s.taken e.request
   pub held : Contains (requests s.out) e.request
@@ -151,6 +168,7 @@ pub record Settles (s : CoreState) (e : Entry) (t : CoreState) : Type 0 where
   pub fed : fed_at t.origin t.journal ≡ true
   pub out : length t.out + 1 ≡ length s.out
   pub left : AreWithout s.out e.request t.out
+  pub gone : ¬ (Contains (requests t.out) e.request)
   pub origin : t.origin ≡ s.origin
   pub after : t ≡ record s { journal = s.journal ++ e ∷ []; out = t.out; steps = s.steps ++ Settled e.request.place ∷ []; plan = t.plan }
 

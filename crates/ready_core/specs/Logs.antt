@@ -1,10 +1,12 @@
 -- What the calls of a log do.
-use Rattle.std.specs.Prelude.{◌≡◌, ℕ, ◌+◌, ◌<◌, ◌≤◌, true, false, List, [], ◌∷◌, ◌++◌, All, Option, Some, None, length, remove, slice_index_or, vec_capacity, vec_len}
+use Rattle.std.specs.Prelude.{◌≡◌, ℕ, ◌+◌, ◌<◌, ◌≤◌, true, false, List, [], ◌∷◌, ◌++◌, All, Option, Some, None, cond, length, remove, slice_index_or, vec_capacity, vec_len}
 use Rattle.wdl_base.specs.declared.entry.Entry.{Entry}
 use Rattle.wdl_base.specs.declared.request.Request.{Request}
+use Rattle.wdl_base.specs.declared.step.Step.{Step}
 use Rattle.wdl_base.specs.declared.step.Step.TheVariants as step
 use Rattle.wdl_base.specs.Same.{same_request}
 use Rattle.ready_core.specs.declared.log.Log.{Log}
+use Rattle.ready_core.specs.Cores.{has_stopped, with_stop}
 use Rattle.ready_core.specs.Rows.{TakenJob}
 
 -- the place of a job with that request
@@ -21,11 +23,15 @@ pub record IsEmpty (l : Log) : Type 0 where
   pub out_len : vec_len l.out ≡ 0
   pub steps_len : vec_len l.steps ≡ 0
 
--- room for so many jobs, and for so many steps
+-- how many stops may still be noted
+unfoldable pub spare : List Step → ℕ
+spare steps = cond (has_stopped steps) 0 1
+
+-- room for so many jobs, for so many steps, and for the one stop
 pub record HasRoom (m n : ℕ) (l : Log) : Type 0 where
   pub taken : vec_len l.taken + m ≤ vec_capacity l.taken
   pub out : vec_len l.out + m ≤ vec_capacity l.out
-  pub steps : vec_len l.steps + n ≤ vec_capacity l.steps
+  pub steps : vec_len l.steps + n + spare l.steps.items ≤ vec_capacity l.steps
 
 -- the same entries, jobs and steps, with no less room
 pub record IsWider (a b : Log) : Type 0 where
@@ -51,6 +57,13 @@ pub record Takes (a : Log) (j : TakenJob) (b : Log) : Type 0 where
   pub steps_len : vec_len b.steps ≡ vec_len a.steps + 1
   pub taken_room : vec_capacity b.taken ≡ vec_capacity a.taken
   pub out_room : vec_capacity b.out ≡ vec_capacity a.out
+  pub steps_room : vec_capacity b.steps ≡ vec_capacity a.steps
+
+-- a stop noted, for which there was room
+pub record Stops (a b : Log) : Type 0 where
+  pub same : b ≡ record a { steps = b.steps }
+  pub steps : b.steps.items ≡ with_stop a.steps.items
+  pub steps_len : vec_len b.steps + spare b.steps.items ≡ vec_len a.steps + spare a.steps.items
   pub steps_room : vec_capacity b.steps ≡ vec_capacity a.steps
 
 -- an answer settled, whose job is no longer out

@@ -9,8 +9,8 @@ pub enum SettleFault {
     NoMemory(Answered),
 }
 
-/// What a core has done: its journal, and one step for each job that was taken and each answer that
-/// was settled.
+/// What a core has done: its journal, and one step for each job that was taken, for each answer that
+/// was settled, and for the stop of the run.
 #[derive(Debug, Drop)]
 pub struct History {
     pub journal: Items<Entry>,

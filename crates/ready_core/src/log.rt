@@ -1,5 +1,6 @@
-ghost use Rattle.std.specs.Prelude.{◌≡◌, ◌<◌, ◌+◌, OnOk, vec_capacity, vec_len};
+ghost use Rattle.std.specs.Prelude.{◌≡◌, ◌<◌, ◌≤◌, ◌+◌, OnOk, vec_capacity, vec_len};
 ghost use Rattle.std.specs.VecDeque.{deque_len};
+ghost use Rattle.ready_core.specs.Cores as spec;
 ghost use Rattle.ready_core.specs.Logs as logs;
 
 use crate::history::History;
@@ -32,6 +33,18 @@ pub fn place_of(jobs: &[Job], request: &Request) -> Option<usize>
     None
 }
 
+/// Whether the run stopped.
+fn has_stopped(steps: &[Step]) -> bool
+    ensures stopped { result ≡ spec.has_stopped steps.now }
+{
+    for step in steps {
+        if let Step::Stopped = step {
+            return true;
+        }
+    }
+    false
+}
+
 impl Log {
     /// Nothing was done.
     pub fn new(alloc: Global) -> Log
@@ -45,7 +58,8 @@ impl Log {
         }
     }
 
-    /// Makes room to take each of these jobs, and to settle one answer more.
+    /// Makes room to take each of these jobs, to settle one answer more, and to note the stop of
+    /// the run.
     pub fn make_room(
         &mut self,
         ready: &VecDeque<Pending>,
@@ -58,7 +72,7 @@ impl Log {
         let jobs = ready.len() + fresh.len();
         self.taken.reserve(jobs)?;
         self.out.reserve(jobs)?;
-        self.steps.reserve(jobs + 1)?;
+        self.steps.reserve(jobs + 2)?;
         self.journal.reserve(1)?;
         Ok(())
     }
@@ -87,6 +101,17 @@ impl Log {
         let job = self.out.remove(at);
         self.journal.push_reserved(answered.into_entry());
         self.steps.push_reserved(Step::Settled(job.into_place()));
+    }
+
+    /// Notes the stop of the run, unless that was done. There is room for it.
+    pub fn stop(&mut self)
+        requires room { vec_len self.old.steps + logs.spare self.old.steps.items ≤ vec_capacity self.old.steps }
+        ensures stops { logs.Stops self.old self.new }
+    {
+        if has_stopped(self.steps.as_slice()) {
+            return;
+        }
+        self.steps.push_reserved(Step::Stopped);
     }
 
     /// The journal and the steps.

@@ -164,6 +164,14 @@ impl Core {
         Ok(())
     }
 
+    /// Notes in the steps that the run stopped, unless that stands there. Its room was made by
+    /// `new`, so it takes no memory.
+    pub fn stop(&mut self)
+        ensures stopped { self.new ≡ spec.stopped self.old }
+    {
+        self.log.stop();
+    }
+
     /// A fault of the flow over the journal. `None` only where it has none or is past its limits;
     /// once there is a fault, one stays. It takes no memory.
     #[tactic(auto, using(crate::proofs::Running::fault_some, crate::proofs::Running::fault_none))]
@@ -228,7 +236,8 @@ impl Core {
         }
     }
 
-    /// One step for each job that was taken and each answer that was settled. It takes no memory.
+    /// One step for each job that was taken, for each answer that was settled, and for the stop of
+    /// the run. It takes no memory.
     pub fn steps(&self) -> &[Step]
         ensures steps { result.now ≡ self.now.steps }
     {

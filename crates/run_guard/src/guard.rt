@@ -18,7 +18,7 @@ pub const SESSION: &str = "setsid";
 /// processes that have the mark: by TERM, and after five seconds by KILL, so that the next run,
 /// which waits for ten, finds none of them. One that was started while the others were looked for
 /// gets it a second later. A line on the input releases the guard; it then removes the folder `$2`,
-/// where there is one.
+/// where there is one, and gives way to other processes where the line says `later`.
 const SCRIPT: &str = "mark=$1 old=$2 told=
 trap '' HUP INT QUIT TERM
 left() { grep -lsF \"$mark\" /proc/[0-9]*/environ; }
@@ -30,8 +30,10 @@ end() {
     kill -s \"$1\" \"${process%/environ}\"
   done
 }
-if read -r _; then
+if read -r how; then
   [ -d \"$old\" ] || exit 0
+  case $old in /*) cd / ;; esac
+  case $how in later) renice -n 19 $$ ;; esac
   rm -rf -- \"$old\" || { chmod -R u+rwx -- \"$old\"; rm -rf -- \"$old\"; }
   exit
 fi
@@ -116,15 +118,18 @@ pub fn add_mark(job: &mut Command, mark: &str) -> Result<(), AllocError>
 }
 
 impl<P: OpenProcess + Drop> Guard<P> {
-    /// Releases the guard, and waits until it has removed its folder and ended. What the jobs left
-    /// running goes on.
-    pub fn release(self) -> io::Result<()> {
+    /// Releases the guard. What the jobs left running goes on. `waits` tells whether to wait until it
+    /// has removed its folder and ended; else it does so after this process, and gives way to others.
+    pub fn release(self, waits: bool) -> io::Result<()> {
         let Guard { mut child, mark } = self;
         drop(mark);
         if let Some(input) = &mut child.stdin {
-            input.write_all(b"\n")?;
+            let line: &[u8] = if waits { b"now\n" } else { b"later\n" };
+            input.write_all(line)?;
         }
-        child.wait()?;
+        if waits {
+            child.wait()?;
+        }
         Ok(())
     }
 }

@@ -1,12 +1,12 @@
 -- Data that is written in one way, without NUL, and read back.
-use Rattle.std.proofs.Common.{◌≡◌, ℕ, suc, ◌^◌, ◌<◌, ◌≤◌, false, List, [], ◌∷◌, map, Option, Some, option_map, option_and_then, refl, sym, ap, ◌∙◌, append-nil, arith}
+use Rattle.std.proofs.Common.{◌≡◌, ℕ, suc, ◌^◌, ◌<◌, ◌≤◌, Bool, false, List, [], ◌∷◌, map, Option, Some, option_map, option_and_then, refl, sym, ap, ◌∙◌, append-nil, arith}
 use Rattle.json.specs.Json as json
 use Rattle.json.specs.Token.{Token}
 use Rattle.json.specs.Tree as tree
 use Rattle.json.proofs.Printed.Decimals.{IsNumber-decimal}
 use Rattle.json.proofs.Printed.Tokens.{tokens-print}
 use Rattle.json.proofs.Printed.Trees.{value-json_tokens, ArePrintable-json_tokens}
-use Rattle.serde_json.specs.Data.{Data, null, number, unsigned, string, object, Members, no_members, member, put}
+use Rattle.serde_json.specs.Data.{Data, null, boolean, number, unsigned, string, object, Members, no_members, member, put}
 use Rattle.serde_json.specs.Read.{read, max_depth, of_json, of_items, of_members}
 use Rattle.serde_json.specs.View.{items_of}
 use Rattle.serde_json.specs.Written.{outline, items_outline, members_outline, items_have_float, members_have_float, compact_text}
@@ -40,6 +40,9 @@ string_written s = record { exact = refl; no_nul = text_nul (string s) }
 pub number_written : (n : ℕ) → IsWritten (number (unsigned n))
 number_written n = record { exact = refl; no_nul = text_nul (number (unsigned n)) }
 
+pub boolean_written : (b : Bool) → IsWritten (boolean b)
+boolean_written b = record { exact = refl; no_nul = text_nul (boolean b) }
+
 pub null_written : IsWritten null
 null_written = record { exact = refl; no_nul = refl }
 
@@ -48,6 +51,9 @@ string_read n s = record { numbers = tt; same = refl; shallow = omega arith }
 
 pub null_read : (n : ℕ) → IsRead n null
 null_read n = record { numbers = tt; same = refl; shallow = omega arith }
+
+pub boolean_read : (n : ℕ) (b : Bool) → IsRead n (boolean b)
+boolean_read n b = record { numbers = tt; same = refl; shallow = omega arith }
 
 pub number_read : (m n : ℕ) → n < 2 ^ 64 → IsRead m (number (unsigned n))
 number_read m n h = record { numbers = IsNumber-decimal n h; same = rw (number_of-decimal n h) refl; shallow = omega arith }

@@ -1,12 +1,12 @@
 -- Data that is written in one way, and how a row is built of its parts.
 use Rattle.std.specs.Prelude.{◌≡◌, false, codes}
-use Rattle.serde_json.specs.Data.{Data, number, unsigned, string, Members, put}
+use Rattle.serde_json.specs.Data.{Data, boolean, number, unsigned, string, Members, put}
 use Rattle.serde_json.specs.Written.{compact_text, has_float}
 use Rattle.wdl_base.specs.Places.{place_text}
 use Rattle.wdl_base.specs.Plain.{has_nul}
 use Rattle.wdl_base.specs.declared.answer.Answer.{Answer}
 use Rattle.wdl_base.specs.declared.request.Request.{Request}
-use Rattle.run_keeper.specs.RowText.{body_data, list_data, seen_data, laid_data}
+use Rattle.run_keeper.specs.RowText.{body_data, list_data, seen_data, laid_data, attribute_data}
 
 pub record IsWritten (d : Data) : Type 0 where
   pub exact : has_float d ≡ false
@@ -25,6 +25,13 @@ with_answer a ms =
     put (codes "files") (list_data seen_data a.files) (
     put (codes "err") (body_data a.err) ms)))
 
--- what version 2 has besides
+-- what versions 2 and 3 have besides
 abbrev pub with_attempt : Request → Members → Members
 with_attempt r ms = put (codes "laid") (list_data laid_data r.files) (put (codes "attempt") (number (unsigned r.attempt)) ms)
+
+-- what version 3 has besides
+abbrev pub with_surroundings : Request → Members → Members
+with_surroundings r ms =
+    put (codes "reads") (boolean r.reads) (
+    put (codes "inputs") (list_data string r.inputs) (
+    put (codes "attributes") (list_data attribute_data r.attributes) ms))

@@ -4,6 +4,7 @@
 mod error;
 mod list;
 mod member;
+mod optional;
 mod read;
 mod row_value;
 mod write;

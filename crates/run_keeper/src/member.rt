@@ -1,4 +1,4 @@
-ghost use Rattle.std.specs.Prelude.{◌≡◌, ◌<◌, ◌^◌, ℕ, List, Ok, IfOk};
+ghost use Rattle.std.specs.Prelude.{◌≡◌, ◌<◌, ◌^◌, ℕ, List, Ok};
 ghost use Rattle.serde_json.specs.Data.{number, unsigned, string};
 ghost use Rattle.serde_json.specs.View.{view};
 ghost use Rattle.wdl_base.specs.PlaceReading.{IsPlace};
@@ -12,11 +12,11 @@ ghost use Rattle.run_keeper.specs.Reads.{Gives};
 
 use crate::error::RowFault;
 use crate::list::seen_list;
+use crate::optional::{attempt_in, attributes_in, inputs_in, laid_in, reads_in};
 use crate::row_value::{body_of, text_of};
 use serde_json::Value;
-use sqlite_items::Items;
 use std::alloc::Global;
-use wdl_value::{Answer, Laid, Place, PlaceFault, Request, place_of};
+use wdl_value::{Answer, Place, PlaceFault, Request, place_of};
 
 pub(crate) fn number_of(value: &Value) -> Result<u64, RowFault>
     ensures { (n : ℕ) → view value.now ≡ number (unsigned n) → result ≡ Ok n }
@@ -84,16 +84,9 @@ pub(crate) fn answer_in(alloc: Global, row: &Value) -> Result<Answer, RowFault>
     }
 }
 
-/// The request of a row, with the attempt and the laid files that are given.
-pub(crate) fn request_in(
-    alloc: Global,
-    row: &Value,
-    attempt: u32,
-    files: Items<Laid>,
-) -> Result<Request, RowFault>
-    ensures attempt { IfOk result (λ r. r.attempt ≡ attempt) }
-    ensures files { IfOk result (λ r. r.files ≡ files) }
-    ensures reads { (r : RequestOf) → IsRequest r → HasRequest (view row.now) r → attempt ≡ r.attempt → files ≡ r.files → Gives result r }
+/// The request of a row.
+pub(crate) fn request_in(alloc: Global, row: &Value) -> Result<Request, RowFault>
+    ensures { (r : RequestOf) → IsRequest r → HasRequest (view row.now) r → Gives result r }
 {
     let Some(place) = row.get("place") else {
         return Err(RowFault::NotARow);
@@ -106,9 +99,12 @@ pub(crate) fn request_in(
     };
     Ok(Request {
         place: place_in(alloc, place)?,
-        attempt,
+        attempt: attempt_in(row)?,
         dir: text_of(alloc, dir)?,
         command: text_of(alloc, command)?,
-        files,
+        files: laid_in(alloc, row)?,
+        attributes: attributes_in(alloc, row)?,
+        inputs: inputs_in(alloc, row)?,
+        reads: reads_in(row)?,
     })
 }

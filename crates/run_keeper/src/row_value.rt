@@ -1,8 +1,9 @@
-ghost use Rattle.std.specs.Prelude.{◌≡◌, ℕ, List};
+ghost use Rattle.std.specs.Prelude.{◌≡◌, ℕ, true, List};
 ghost use Rattle.hex.specs.Hex.{IsBytes};
 ghost use Rattle.serde_json.specs.Data.{string};
 ghost use Rattle.serde_json.specs.View.{view};
-ghost use Rattle.run_keeper.specs.Entries.{IsText, IsBody, IsSeen, IsLaid};
+ghost use Rattle.wdl_base.specs.Names.{is_name};
+ghost use Rattle.run_keeper.specs.Entries.{IsText, IsBody, IsSeen, IsLaid, IsAttribute};
 ghost use Rattle.run_keeper.specs.Reads.{Gives, Recovers};
 ghost use Rattle.run_keeper.specs.RowText as spec;
 
@@ -11,7 +12,7 @@ use hex::FromHexError;
 use serde_json::Value;
 use sqlite_items::Items;
 use std::alloc::Global;
-use wdl_value::{Body, Laid, Seen, Text, TextFault};
+use wdl_value::{Attribute, Body, Laid, Name, NameFault, Seen, Text, TextFault};
 
 /// The text of a string.
 pub(crate) fn plain(alloc: Global, s: &str) -> Result<Text, RowFault>
@@ -94,5 +95,33 @@ pub(crate) fn laid_of(alloc: Global, value: &Value) -> Result<Laid, RowFault>
     Ok(Laid {
         name: text_of(alloc, name)?,
         body: hex_text_of(alloc, body)?,
+    })
+}
+
+fn name_of(alloc: Global, value: &Value) -> Result<Name, RowFault>
+    ensures { (name : List ℕ) → is_name name ≡ true → view value.now ≡ string name → Gives result name }
+{
+    let Some(s) = value.as_str() else {
+        return Err(RowFault::NotARow);
+    };
+    match Name::new(alloc, s) {
+        Ok(name) => Ok(name),
+        Err(NameFault::NotAName) => Err(RowFault::NotARow),
+        Err(NameFault::NoMemory) => Err(RowFault::NoMemory),
+    }
+}
+
+pub(crate) fn attribute_of(alloc: Global, value: &Value) -> Result<Attribute, RowFault>
+    ensures { Recovers spec.attribute_data IsAttribute (view value.now) result }
+{
+    let Some(name) = value.get(0usize) else {
+        return Err(RowFault::NotARow);
+    };
+    let Some(text) = value.get(1usize) else {
+        return Err(RowFault::NotARow);
+    };
+    Ok(Attribute {
+        name: name_of(alloc, name)?,
+        value: text_of(alloc, text)?,
     })
 }

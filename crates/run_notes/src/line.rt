@@ -5,6 +5,9 @@ use crate::tally::Tally;
 use std::time::Duration;
 use wdl_value::NoMemory;
 
+/// The directory of the jobs of a run without `--root`.
+const DEFAULT_ROOT: &str = "/tmp/wdl-run";
+
 /// What happened to a job.
 #[derive(Clone, Copy)]
 pub(crate) enum Event {
@@ -23,6 +26,8 @@ pub(crate) enum Event {
     Unlaunched,
     /// It took the answer of a row.
     Kept,
+    /// Its row no longer stands for its files.
+    Lapsed,
 }
 
 /// Appends how a command ended.
@@ -63,6 +68,7 @@ pub(crate) fn push_event(note: &mut Note, place: &str, event: Event) -> Result<(
         } => push_end(note, status, took, failed),
         Event::Unlaunched => note.push("not launched"),
         Event::Kept => note.push("kept from the journal"),
+        Event::Lapsed => note.push("runs again, since a file of it has changed"),
     }
 }
 
@@ -91,7 +97,8 @@ fn push_kinds(note: &mut Note, tally: &Tally) -> Result<(), NoMemory> {
     note.push(" tried again)\n")
 }
 
-/// Appends what a run came to, in two lines. `root` is the directory of its jobs.
+/// Appends what a run came to, in two lines. `root` is the directory of its jobs. The one that is
+/// taken without `--root` gets a warning, since the next run takes it too.
 pub(crate) fn push_summary(
     note: &mut Note,
     tally: &Tally,
@@ -113,5 +120,8 @@ pub(crate) fn push_summary(
     push_kinds(note, tally)?;
     note.push("the files of each job are below ")?;
     note.push(root)?;
+    if root == DEFAULT_ROOT {
+        note.push("; the next run without --root empties these directories")?;
+    }
     note.push("\n")
 }

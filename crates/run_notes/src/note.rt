@@ -4,11 +4,21 @@ use wdl_value::NoMemory;
 /// The most bytes of a text in double quotes that are shown.
 const TEXT_BYTES: usize = 80;
 
+/// The byte with which the control characters U+0080 to U+009F begin in UTF-8. The second one is 0x80
+/// to 0x9F.
+const LEAD: u8 = 0xC2;
+
 /// A text of lines that is built up. It holds what programs wrote, so it need not be UTF-8.
 #[derive(Drop)]
 pub(crate) struct Note {
     alloc: Global,
     bytes: Vec<u8>,
+}
+
+/// Whether a terminal would obey a byte that follows another one: a control character, or the second
+/// byte of one.
+fn is_control(byte: u8, before: u8) -> bool {
+    byte.is_ascii_control() || (before == LEAD && byte >= 0x80 && byte < 0xA0)
 }
 
 /// The bytes in front of the first newline, and those behind it.
@@ -60,15 +70,15 @@ impl Note {
         self.push(digits.as_str())
     }
 
-    /// Appends a byte of a text in double quotes.
-    fn push_escaped(&mut self, byte: u8) -> Result<(), NoMemory> {
+    /// Appends a byte of a text in double quotes, which follows another one.
+    fn push_escaped(&mut self, byte: u8, before: u8) -> Result<(), NoMemory> {
         match byte {
             b'\n' => self.push("\\n"),
             b'\t' => self.push("\\t"),
             b'\r' => self.push("\\r"),
             b'"' => self.push("\\\""),
             b'\\' => self.push("\\\\"),
-            _ if byte.is_ascii_control() => self.push("?"),
+            _ if is_control(byte, before) => self.push("?"),
             _ => Ok(self.bytes.push(byte)?),
         }
     }
@@ -77,8 +87,10 @@ impl Note {
     /// more than 80.
     pub(crate) fn push_text(&mut self, bytes: &[u8]) -> Result<(), NoMemory> {
         self.push("\"")?;
+        let mut before: u8 = 0;
         for byte in bytes.iter().take(TEXT_BYTES) {
-            self.push_escaped(*byte)?;
+            self.push_escaped(*byte, before)?;
+            before = *byte;
         }
         self.push("\"")?;
         if bytes.len() > TEXT_BYTES {
@@ -90,13 +102,15 @@ impl Note {
     /// Appends what a program wrote, with `?` in place of control characters but tabs, which a
     /// terminal would obey.
     fn push_bytes(&mut self, bytes: &[u8]) -> Result<(), NoMemory> {
+        let mut before: u8 = 0;
         for byte in bytes {
-            let shown = if byte.is_ascii_control() && *byte != b'\t' {
+            let shown = if is_control(*byte, before) && *byte != b'\t' {
                 b'?'
             } else {
                 *byte
             };
             self.bytes.push(shown)?;
+            before = *byte;
         }
         Ok(())
     }

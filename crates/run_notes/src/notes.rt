@@ -234,6 +234,10 @@ impl<'s, N: Sink, C: Clock + Drop> Progress for RunNotes<'s, N, C> {
         self.tally.keep(entry.request.attempt);
         self.tell(&entry.request.place, Event::Kept);
     }
+
+    fn lapsed(&mut self, request: &Request) {
+        self.tell(&request.place, Event::Lapsed);
+    }
 }
 
 impl<'s, N: Sink, C: Clock + Drop> Watch for RunNotes<'s, N, C> {

@@ -65,7 +65,7 @@ fn limit_of(argument: &TExpr) -> &'static str {
     match argument {
         TExpr::Apply(Func::Stdout, _) => "at most 65,536 bytes of standard output are kept",
         TExpr::Apply(Func::Stderr, _) => "at most 4,096 bytes of standard error are kept",
-        _ => "at most 65,536 bytes of a file are kept",
+        _ => "at most 1,048,576 bytes of a file are kept",
     }
 }
 

@@ -16,6 +16,8 @@ impl Progress for Silent {
     fn unlaunched(&mut self, _: &Request) {}
 
     fn kept(&mut self, _: &Entry) {}
+
+    fn lapsed(&mut self, _: &Request) {}
 }
 
 impl Watch for Silent {

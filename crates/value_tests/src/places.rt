@@ -3,8 +3,8 @@
 use std::alloc::Global;
 use std::test::Fail;
 use wdl_value::{
-    Answer, Body, Entry, Items, Laid, Name, Place, PlaceFault, Request, Segment, Source, Text,
-    place_of, place_text, same_place, same_request,
+    Answer, Attribute, Body, Entry, Items, Laid, Name, Place, PlaceFault, Request, Segment, Source,
+    Text, place_of, place_text, same_place, same_request,
 };
 
 /// The place of a call in a condition in a scatter.
@@ -27,26 +27,41 @@ fn places_of_two_calls_differ(rt: HostRuntime) -> Result<(), Fail> {
     Ok(())
 }
 
-/// The request of one call, with a file laid down.
-fn request_of(alloc: Global, command: &str) -> Result<Request, Fail> {
+/// The attribute `cpu`, alone.
+fn attributes_of(alloc: Global, cpu: &str) -> Result<Items<Attribute>, Fail> {
+    let mut attributes = Items::new(alloc);
+    attributes.push(Attribute {
+        name: Name::new(alloc, "cpu")?,
+        value: Text::new(alloc, cpu)?,
+    })?;
+    Ok(attributes)
+}
+
+/// The request of one call, with a file laid down and another one given.
+fn request_of(alloc: Global, command: &str, cpu: &str) -> Result<Request, Fail> {
     let mut files = Items::new(alloc);
     files.push(Laid {
         name: Text::new(alloc, ".written-0")?,
         body: Text::new(alloc, "a\nb\n")?,
     })?;
+    let mut inputs = Items::new(alloc);
+    inputs.push(Text::new(alloc, "/data/reads.fq")?)?;
     Ok(Request {
         place: place_of_call(alloc, "say")?,
         attempt: 0,
         dir: Text::new(alloc, "/tmp/wdl-run/say")?,
         command: Text::new(alloc, command)?,
         files,
+        attributes: attributes_of(alloc, cpu)?,
+        inputs,
+        reads: true,
     })
 }
 
 #[test]
 fn a_copied_entry_has_the_same_request(rt: HostRuntime) -> Result<(), Fail> {
     let alloc = rt.alloc();
-    let request = request_of(alloc, "echo hi")?;
+    let request = request_of(alloc, "echo hi", "1")?;
     let Ok(answer) = Answer::new(0, Body::Long, Body::Long, Items::new(alloc)) else {
         assert!(rt; false);
         return Ok(());
@@ -58,7 +73,8 @@ fn a_copied_entry_has_the_same_request(rt: HostRuntime) -> Result<(), Fail> {
     };
     let copy = entry.copy(alloc)?;
     assert!(rt; same_request(&copy.request, &entry.request));
-    assert!(rt; !same_request(&copy.request, &request_of(alloc, "echo ho")?));
+    assert!(rt; !same_request(&copy.request, &request_of(alloc, "echo ho", "1")?));
+    assert!(rt; !same_request(&copy.request, &request_of(alloc, "echo hi", "2")?));
     Ok(())
 }
 

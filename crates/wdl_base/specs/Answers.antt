@@ -1,6 +1,7 @@
 -- What an answer keeps.
 use Rattle.std.specs.Prelude.{ℕ, ◌+◌, Bool, true, false, ◌==◌, ◌&&◌, not, nat_le, List, [], ◌∷◌, length, codes}
 use Rattle.std.specs.Cmp.Lexicographic.{slice_cmp}
+use Rattle.std.specs.List.{list_any}
 use Rattle.std.specs.Ordering.{is_lt, nat_cmp}
 use Rattle.std.specs.Str.{bytes_eq}
 use Rattle.wdl_base.specs.declared.body.Body.{Body}
@@ -21,7 +22,7 @@ is_file_name name =
     && not (bytes_eq name (codes "_stderr"))
 
 abbrev pub is_file : Seen → Bool
-is_file file = is_file_name file.name && is_short 65536 file.body
+is_file file = is_file_name file.name && is_short 1048576 file.body
 
 abbrev pub are_files : List Seen → Bool
 are_files [] = true
@@ -40,16 +41,25 @@ abbrev pub body_size : Body → ℕ
 body_size (Bytes bytes) = length bytes
 body_size Long = 0
 
+abbrev pub names_size : List Seen → ℕ
+names_size [] = 0
+names_size (file ∷ files) = length file.name + names_size files
+
 -- the bytes of the names and bodies
 abbrev pub files_size : List Seen → ℕ
 files_size [] = 0
 files_size (file ∷ files) = length file.name + body_size file.body + files_size files
 
+-- Not all names were kept. A file named by a point, which no file can be, says so.
+abbrev pub is_cut : List Seen → Bool
+is_cut files = list_any (λ (f : Seen). bytes_eq f.name (codes ".")) files
+
 abbrev pub is_answer : Body → Body → List Seen → Bool
 is_answer out err files =
     is_short 65536 out
     && is_short 4096 err
-    && nat_le (length files) 4096
+    && nat_le (length files) 65536
     && are_files files
     && ascend files
-    && nat_le (files_size files) 262144
+    && nat_le (names_size files) 1048576
+    && nat_le (files_size files) 2097152

@@ -1,16 +1,18 @@
 ghost use Rattle.std.specs.Prelude.{◌≡◌, ◌<◌, min, true, false, IfOk, OnErr, OnOk};
 ghost use Rattle.wdl_base.specs.Answers.{
   is_answer,
+  is_cut,
   is_file_name,
   is_file,
   are_files,
   is_below,
   ascend,
   body_size,
+  names_size,
   files_size,
 };
 
-use crate::body::{BODY_LIMIT, Body, Seen};
+use crate::body::{Body, Seen};
 use crate::error::{AnswerFault, NoMemory};
 use crate::text::Text;
 use sqlite_items::Items;
@@ -23,19 +25,29 @@ pub const OUT_LIMIT: usize = 65_536;
 pub const ERR_LIMIT: usize = 4_096;
 
 /// The most files of an answer.
-pub const FILE_COUNT: usize = 4_096;
+pub const FILE_COUNT: usize = 65_536;
 
 /// The most bytes of the name of an answer's file.
 pub const FILE_NAME_BYTES: usize = 1_024;
 
+/// The most bytes of the body of an answer's file.
+pub const FILE_BODY_BYTES: usize = 1_048_576;
+
+/// The most bytes of the names of an answer's files together.
+pub const FILE_NAMES_BYTES: usize = 1_048_576;
+
 /// The most bytes of the names and bodies of an answer's files together.
-pub const FILE_BYTES: usize = 262_144;
+pub const FILE_BYTES: usize = 2_097_152;
+
+/// The name that marks an answer of which not all files' names are kept. No file has it.
+pub const CUT_NAME: &str = ".";
 
 /// How a job ended: its status, what it wrote to its standard streams, and the files that it left.
 ///
-/// At most 65,536 bytes of standard output and 4,096 of standard error are kept; the files are at
-/// most 4,096, with names of 1 to 1,024 bytes that are relative, in byte order, distinct and
-/// neither `_stdout` nor `_stderr`, and with at most 262,144 bytes of names and bodies together.
+/// At most 65,536 bytes of standard output and 4,096 of standard error are kept. The files are at
+/// most 65,536, with names of 1 to 1,024 bytes that are relative, in byte order, distinct and
+/// neither `_stdout` nor `_stderr`. A body has at most 1,048,576 bytes, the names together at most
+/// 1,048,576, and names and bodies together at most 2,097,152.
 #[derive(Debug, Drop)]
 pub struct Answer {
     pub status: u8,
@@ -64,7 +76,7 @@ pub fn is_kept_name(name: &Text) -> bool
 fn is_kept_file(file: &Seen) -> bool
     ensures { result ≡ is_file file.now }
 {
-    is_kept_name(&file.name) && file.body.is_within(BODY_LIMIT)
+    is_kept_name(&file.name) && file.body.is_within(FILE_BODY_BYTES)
 }
 
 fn are_kept_files(files: &[Seen]) -> bool
@@ -110,6 +122,17 @@ fn kept_size(body: &Body) -> usize
     }
 }
 
+/// The bytes of the names, or the last number where they are more.
+fn size_of_names(files: &[Seen]) -> usize
+    ensures { result ≡ min (names_size files.now) 18446744073709551615 }
+{
+    let mut total: usize = 0;
+    for file in files {
+        total = total.saturating_add(file.name.as_str().len());
+    }
+    total
+}
+
 /// The bytes of the names and bodies, or the last number where they are more.
 fn size_of_files(files: &[Seen]) -> usize
     ensures { result ≡ min (files_size files.now) 18446744073709551615 }
@@ -131,7 +154,19 @@ fn is_kept(out: &Body, err: &Body, files: &[Seen]) -> bool
         && files.len() <= FILE_COUNT
         && are_kept_files(files)
         && do_ascend(files)
+        && size_of_names(files) <= FILE_NAMES_BYTES
         && size_of_files(files) <= FILE_BYTES
+}
+
+fn has_mark(files: &[Seen]) -> bool
+    ensures { result ≡ is_cut files.now }
+{
+    for file in files {
+        if file.name.is(CUT_NAME) {
+            return true;
+        }
+    }
+    false
 }
 
 fn copy_all(alloc: Global, files: &[Seen]) -> Result<Items<Seen>, NoMemory>
@@ -164,6 +199,14 @@ impl Answer {
             });
         }
         Err(AnswerFault::NotAnAnswer)
+    }
+
+    /// Whether the command left files whose names are not kept. A file named `.`, which no command
+    /// can leave, says so.
+    pub fn is_cut(&self) -> bool
+        ensures { result ≡ is_cut self.now.files }
+    {
+        has_mark(self.files.as_slice())
     }
 
     /// A copy of the answer, with its files.

@@ -19,7 +19,10 @@ mod steps;
 mod template;
 mod text;
 
-pub use answer::{Answer, ERR_LIMIT, FILE_BYTES, FILE_COUNT, FILE_NAME_BYTES, OUT_LIMIT};
+pub use answer::{
+    Answer, CUT_NAME, ERR_LIMIT, FILE_BODY_BYTES, FILE_BYTES, FILE_COUNT, FILE_NAME_BYTES,
+    FILE_NAMES_BYTES, OUT_LIMIT,
+};
 pub use body::{BODY_LIMIT, Body, Laid, Seen};
 pub use entry::{Entry, Source};
 pub use error::{AnswerFault, NameFault, NoMemory, TextFault};
@@ -28,7 +31,7 @@ pub use laws::places_are_read;
 pub use name::{Key, Name, is_identifier};
 pub use place::{Place, Segment, copy_place, place_text};
 pub use place_reading::{PlaceFault, place_of};
-pub use request::Request;
+pub use request::{Attribute, Request, copy_attributes, copy_texts};
 pub use reserved::{RESERVED, is_reserved};
 pub use same::{same_place, same_request};
 pub use span::Span;

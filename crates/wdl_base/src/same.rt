@@ -3,7 +3,8 @@ ghost use Rattle.wdl_base.specs.Same as spec;
 
 use crate::body::Laid;
 use crate::place::Segment;
-use crate::request::Request;
+use crate::request::{Attribute, Request};
+use crate::text::Text;
 
 fn same_segment(a: &Segment, b: &Segment) -> bool
     ensures { result ≡ spec.same_segment a.now b.now }
@@ -56,6 +57,44 @@ fn same_laid(mut a: &[Laid], mut b: &[Laid]) -> bool
     }
 }
 
+fn same_attributes(mut a: &[Attribute], mut b: &[Attribute]) -> bool
+    ensures { result ≡ spec.same_attributes a.entry.now b.entry.now }
+{
+    while let [x, xs @ ..] = a {
+        let [y, ys @ ..] = b else {
+            return false;
+        };
+        if !(x.name.same(&y.name) && x.value.same(&y.value)) {
+            return false;
+        }
+        a = xs;
+        b = ys;
+    }
+    match b {
+        [] => true,
+        [..] => false,
+    }
+}
+
+fn same_texts(mut a: &[Text], mut b: &[Text]) -> bool
+    ensures { result ≡ spec.same_texts a.entry.now b.entry.now }
+{
+    while let [x, xs @ ..] = a {
+        let [y, ys @ ..] = b else {
+            return false;
+        };
+        if !x.same(y) {
+            return false;
+        }
+        a = xs;
+        b = ys;
+    }
+    match b {
+        [] => true,
+        [..] => false,
+    }
+}
+
 /// Whether two requests are equal. It takes no memory.
 pub fn same_request(a: &Request, b: &Request) -> bool
     ensures { result ≡ spec.same_request a.now b.now }
@@ -65,4 +104,7 @@ pub fn same_request(a: &Request, b: &Request) -> bool
         && a.dir.same(&b.dir)
         && a.command.same(&b.command)
         && same_laid(a.files.as_slice(), b.files.as_slice())
+        && same_attributes(a.attributes.as_slice(), b.attributes.as_slice())
+        && same_texts(a.inputs.as_slice(), b.inputs.as_slice())
+        && a.reads == b.reads
 }

@@ -1,10 +1,12 @@
 use crate::place::Place;
 
-/// An event of a run: a job was taken, or its answer was settled.
+/// An event of a run: a job was taken, its answer was settled, or the run stopped. `Stopped` stands
+/// at most once, at the moment of the first stop.
 #[derive(Debug, Drop)]
 pub enum Step {
     Took(Place),
     Settled(Place),
+    Stopped,
 }
 
 /// How many jobs were put on the desk, picked by a worker, finished and collected.

@@ -1,5 +1,5 @@
 -- What is written is read back.
-use Rattle.std.specs.Prelude.{◌≡◌, ℕ, ◌≤◌, ◌==◌, Bool, true, false, not, ◌&&◌, List, [], ◌∷◌, length, Some, Ok}
+use Rattle.std.specs.Prelude.{◌≡◌, ℕ, ◌==◌, Bool, true, false, not, ◌&&◌, ◌||◌, nat_le, List, [], ◌∷◌, length, Some, Ok}
 use Rattle.std.specs.List.{list_any, list_all}
 use Rattle.std.specs.Str.{is_utf8}
 use Rattle.wdl_base.specs.declared.answer.Answer.{Answer}
@@ -14,6 +14,7 @@ use Rattle.wdl_value.specs.declared.value.Value.TheVariants as v
 use Rattle.wdl_value.specs.Apply.{apply}
 use Rattle.wdl_value.specs.Files.{file_body}
 use Rattle.wdl_value.specs.Fits.{Structs, fits}
+use Rattle.wdl_value.specs.Limits.{is_within}
 use Rattle.wdl_value.specs.Parts.{items_in, rows_in}
 use Rattle.wdl_base.specs.Plain.{has_nul}
 use Rattle.wdl_value.specs.ValueText.{text_of}
@@ -69,9 +70,13 @@ written_type func.WriteTsv = ty.Array (ty.Array ty.Str false) false
 written_type func.WriteMap = ty.Map ty.Str ty.Str
 written_type f = ty.Empty
 
--- For texts without a newline and a carriage return at their end, without tabs for `write_tsv` and `write_map` and
--- without empty rows, and at most 65,536 bytes of UTF-8: what a file with that body is read as is the value.
+-- A value that keeps the limits of values, as each one in a run does, or that is written in at most 65,536 bytes.
+abbrev pub keeps_limits : Func → Value → Bool
+keeps_limits f x = is_within x || nat_le (length (written f x)) 65536
+
+-- For texts of UTF-8 without a newline and a carriage return at their end, without tabs for `write_tsv` and `write_map`
+-- and without empty rows: what a file with that body is read as is the value.
 abbrev pub ReadBack : Type 0
-ReadBack = (structs : Structs) (f : Func) (x : Value) → fits structs x (written_type f) ≡ true → can_be_read f x ≡ true → length (written f x) ≤ 65536
+ReadBack = (structs : Structs) (f : Func) (x : Value) → fits structs x (written_type f) ≡ true → can_be_read f x ≡ true → keeps_limits f x ≡ true
     → is_utf8 (written f x) ≡ true → has_nul (written f x) ≡ false
     → (dir path : List ℕ) (answer : Answer) → file_body dir (Some answer) path ≡ Some (Bytes (written f x)) → apply dir (Some answer) (reader f) (v.File path ∷ []) ≡ Ok x

@@ -7,8 +7,8 @@ use wdl_value::NoMemory;
 /// Why a file has no text.
 #[derive(Clone, Copy, Debug, PartialEq, Eq, Error)]
 pub enum WrittenFault {
-    /// The text has more than 65,536 bytes.
-    #[error("the text has more than 65,536 bytes")]
+    /// A text has more than 65,536 bytes, or the file more than 4,194,304.
+    #[error("a text has more than 65,536 bytes, or the file more than 4,194,304")]
     TooLarge,
     #[error("out of memory")]
     NoMemory,

@@ -10,4 +10,4 @@ mod writing;
 pub use fault::WrittenFault;
 pub use laws::written_is_read_back;
 pub use name::written_name;
-pub use writing::written_text;
+pub use writing::{TEXT_BYTES, WRITTEN_BYTES, written_text};

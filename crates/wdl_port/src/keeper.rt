@@ -5,6 +5,8 @@ ghost use Rattle.std.specs.Prelude.{
   Option,
   Some,
   None,
+  Ok,
+  Bool,
   true,
   false,
   IfOk,
@@ -27,10 +29,14 @@ use wdl_value::Entry;
 /// place and attempt, in strictly rising order of the text of the place and then of the attempt.
 ///
 /// `Failed` comes only where the count of faults rose in that call, or stands at the last value of
-/// `u64`. A call that fails, or that wants memory, leaves the rows as they were.
+/// `u64`. A call that fails, or that wants memory, leaves the rows as they were. No call changes
+/// which entries lapse.
 pub trait Keeper {
     /// The rows, where the keeper tells them.
     ghost kept: { Self → Option (List Row) };
+
+    /// Whether an entry may no longer stand for its files.
+    ghost lapses: { Self → Row → Bool };
 
     /// The path on which it was started, if any.
     ghost path: { Self → Option (List ℕ) };
@@ -48,6 +54,7 @@ pub trait Keeper {
         ensures not_started { IsErrOf result KeepFault.NoMemory → path self.new ≡ None }
         ensures rows { kept self.new ≡ kept self.old }
         ensures rise { ToldRise (kept self.new) }
+        ensures lapses { lapses self.new ≡ lapses self.old }
         ensures cause { HasCauseOf (faults self.old) (faults self.new) result KeepFault.Failed };
 
     /// The rows of a keeper that was started, in their order.
@@ -58,6 +65,7 @@ pub trait Keeper {
         ensures sources { IfOk result (λ all. are_kept all ≡ true) }
         ensures rows { kept self.new ≡ kept self.old }
         ensures path { path self.new ≡ path self.old }
+        ensures lapses { lapses self.new ≡ lapses self.old }
         ensures cause { HasCauseOf (faults self.old) (faults self.new) result KeepFault.Failed };
 
     /// Replaces the row of the entry's place and attempt, or adds it, in a keeper that was started.
@@ -68,5 +76,16 @@ pub trait Keeper {
         ensures left { OnErr result (kept self.new ≡ kept self.old) }
         ensures rise { ToldRise (kept self.new) }
         ensures path { path self.new ≡ path self.old }
+        ensures lapses { lapses self.new ≡ lapses self.old }
+        ensures cause { HasCauseOf (faults self.old) (faults self.new) result KeepFault.Failed };
+
+    /// Whether the files of an entry are still those of which its row speaks, in a keeper that was
+    /// started. It may be `true` for an entry that lapses, and is `false` for no other one.
+    fn stands(&mut self, alloc: Global, entry: &Entry) -> Result<bool, KeepFault>
+        requires { IsSome (path self.old) }
+        ensures lapsed { result ≡ Ok false → lapses self.old entry.now ≡ true }
+        ensures rows { kept self.new ≡ kept self.old }
+        ensures path { path self.new ≡ path self.old }
+        ensures lapses { lapses self.new ≡ lapses self.old }
         ensures cause { HasCauseOf (faults self.old) (faults self.new) result KeepFault.Failed };
 }

@@ -7,6 +7,7 @@ mod fault;
 mod first;
 mod keeper;
 mod launcher;
+mod listed;
 mod map_keeper;
 mod memory_shelf;
 mod memory_sink;

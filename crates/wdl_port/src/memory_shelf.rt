@@ -1,8 +1,10 @@
-ghost use Rattle.std.specs.Prelude.{◌≡◌, ◌≢◌, true, [], take};
-ghost use Rattle.wdl_port.specs.Files.{read_limit as spec_limit};
+ghost use Rattle.std.specs.Prelude.{◌≡◌, take, IfOk, IsErrOf, OnOk};
+ghost use Rattle.wdl_port.specs.Causes.{HasCauseOf};
+ghost use Rattle.wdl_port.specs.Files.{IsFile, read_limit as spec_limit};
 ghost use Rattle.wdl_port.specs.Memory as spec;
 
 use crate::fault::ReadFault;
+use crate::listed::is_listed;
 use crate::shelf::Shelf;
 use sqlite_items::Items;
 use std::alloc::Global;
@@ -17,9 +19,8 @@ pub struct PathFile {
     pub bytes: Items<u8>,
 }
 
-/// Files in a list: the first file of a path counts. The calls with the listed numbers fail; calls
-/// are numbered from
-/// 1. A read goes over the list once.
+/// Files in a list: the first file of a path counts. The calls with the listed numbers fail, and no
+/// other call of a path that has a file; calls are numbered from 1. A read goes over the list once.
 #[derive(Debug, Drop)]
 pub struct MemoryShelf {
     pub files: Items<PathFile>,
@@ -43,18 +44,6 @@ impl MemoryShelf {
             faults: 0,
         }
     }
-}
-
-pub(crate) fn is_listed(number: u64, numbers: &[u64]) -> bool
-    ensures value { result ≡ spec.is_listed number numbers.now }
-    ensures some { result ≡ true → numbers.now ≢ [] }
-{
-    for n in numbers {
-        if *n == number {
-            return true;
-        }
-    }
-    false
 }
 
 /// The most bytes that a shelf gives of a file: one more than the 1,048,576 of a document. It is a
@@ -96,7 +85,16 @@ impl Shelf for MemoryShelf {
 
     ghost faults = { λ s. s.faults };
 
-    fn read(&mut self, alloc: Global, path: &str) -> Result<Items<u8>, ReadFault> {
+    fn read(&mut self, alloc: Global, path: &str) -> Result<Items<u8>, ReadFault>
+        ensures value { spec.Reads (spec.is_listed self.new.calls self.old.fails) (spec.bytes_at self.old.files path.now) result }
+        ensures bytes { IfOk result (IsFile (spec.bytes_at self.old.files path.now)) }
+        ensures refused { IsErrOf result ReadFault.Failed → spec.CanFail self.old.files self.old.fails path.now }
+        ensures calls { self.new.calls ≡ spec.counted self.old.calls }
+        ensures files { self.new.files ≡ self.old.files }
+        ensures fails { self.new.fails ≡ self.old.fails }
+        ensures cause { HasCauseOf self.old.faults self.new.faults result ReadFault.Failed }
+        ensures counted { OnOk result (self.new.faults ≡ self.old.faults) }
+    {
         self.calls = self.calls.saturating_add(1);
         if is_listed(self.calls, self.fails.as_slice()) {
             self.faults = self.faults.saturating_add(1);

@@ -18,7 +18,7 @@ ghost use Rattle.wdl_port.specs.Memory as spec;
 ghost use Rattle.wdl_port.specs.Told.{taken};
 
 use crate::fault::WriteFault;
-use crate::memory_shelf::is_listed;
+use crate::listed::is_listed;
 use crate::sink::Sink;
 use sqlite_items::Items;
 use std::alloc::Global;

@@ -31,6 +31,8 @@ impl NoKeeper {
 impl Keeper for NoKeeper {
     ghost kept = { λ s. Some [] };
 
+    ghost lapses = { λ s e. false };
+
     ghost path = { λ s. s.path };
 
     ghost faults = { λ s. s.faults };
@@ -58,6 +60,15 @@ impl Keeper for NoKeeper {
     }
 
     fn put(&mut self, _alloc: Global, _entry: &Entry) -> Result<(), KeepFault>
+        ensures fails { result ≡ Err KeepFault.Failed }
+        ensures path { self.new.path ≡ self.old.path }
+        ensures cause { HasCauseOf self.old.faults self.new.faults result KeepFault.Failed }
+    {
+        self.faults = self.faults.saturating_add(1);
+        Err(KeepFault::Failed)
+    }
+
+    fn stands(&mut self, _alloc: Global, _entry: &Entry) -> Result<bool, KeepFault>
         ensures fails { result ≡ Err KeepFault.Failed }
         ensures path { self.new.path ≡ self.old.path }
         ensures cause { HasCauseOf self.old.faults self.new.faults result KeepFault.Failed }

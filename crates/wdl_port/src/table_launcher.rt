@@ -6,11 +6,12 @@ ghost use Rattle.wdl_port.specs.Table as spec;
 use crate::fault::LaunchFault;
 use crate::first::{answer_of, index_of};
 use crate::launcher::Launcher;
+use crate::listed::has_place;
 use crate::table_row::TableRow;
 use sqlite_items::Items;
 use std::alloc::Global;
 use std::collections::BTreeMap;
-use wdl_value::{Answer, NoMemory, Place, Request, Segment, same_place};
+use wdl_value::{Answer, NoMemory, Place, Request};
 
 /// Answers in a table: the first row of a place and attempt counts. It refuses exactly the listed
 /// places and those without a row. A launch goes over the listed places, and looks its row up.
@@ -41,24 +42,13 @@ impl TableLauncher {
     }
 }
 
-fn is_refused(place: &[Segment], places: &[Place]) -> bool
-    ensures { result ≡ spec.is_refused place.now places.now }
-{
-    for p in places {
-        if same_place(p.as_slice(), place) {
-            return true;
-        }
-    }
-    false
-}
-
 impl Launcher for TableLauncher {
     ghost gives = { λ s r a. spec.Gives s.rows s.refused r.place r.attempt a };
 
     ghost refuses = { λ s r. spec.Refuses s.rows s.refused r.place r.attempt };
 
     fn launch(&self, alloc: Global, request: &Request) -> Result<Answer, LaunchFault> {
-        if is_refused(request.place.as_slice(), self.refused.as_slice()) {
+        if has_place(request.place.as_slice(), self.refused.as_slice()) {
             return Err(LaunchFault::Refused);
         }
         let rows = self.rows.as_slice();

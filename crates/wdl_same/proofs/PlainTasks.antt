@@ -1,16 +1,17 @@
 -- No task's name and no span is seen in what it asks, what it tells, and the names of its outputs.
-use Rattle.std.proofs.Common.{◌≡◌, ℕ, List, [], ◌∷◌, ◌++◌, map, Some, Ok, Err, if◌then◌else◌, sym, ap, ◌∙◌, refl}
+use Rattle.std.proofs.Common.{◌≡◌, ℕ, Bool, ◌||◌, List, [], ◌∷◌, ◌++◌, map, Some, Ok, Err, codes, if◌then◌else◌, sym, ap, ◌∙◌, refl}
 use Rattle.wdl_base.specs.declared.answer.Answer.{Answer}
 use Rattle.wdl_base.specs.declared.name.Key.{Key}
 use Rattle.wdl_value.specs.declared.env.Bind.{Bind}
+use Rattle.wdl_value.specs.FilePaths.{Paths}
 use Rattle.wdl_value.specs.Fits.{Structs}
 use Rattle.wdl_typed.specs.declared.task.TDecl.{TDecl}
 use Rattle.wdl_typed.specs.declared.task.TInput.{TInput}
 use Rattle.wdl_typed.specs.declared.task.TaskDef.{TaskDef}
-use Rattle.wdl_typed.specs.Declarations.{plain_key}
+use Rattle.wdl_typed.specs.Declarations.{decl_names, input_names, plain_key}
 use Rattle.wdl_typed.specs.Flow.{output_keys}
 use Rattle.wdl_typed.specs.KnownTypes.{is_some}
-use Rattle.wdl_typed.specs.Requests.{Asked, Prepared, Tried, asked_with, asks, bad_status, bind, default_value, is_success, named, output_met, outputs_met, placed_value, tells, tried, with_inputs, with_private, with_privates}
+use Rattle.wdl_typed.specs.Requests.{Asked, Prepared, Tried, asked_with, asks, bad_status, bind, codes_met, command_met, default_value, is_reading, is_success, named, output_met, outputs_met, paths_at, placed_value, reads_any, retries_met, tells, tried, with_inputs, with_paths, with_private, with_privates}
 use Rattle.wdl_typed.specs.Scope.{lookup}
 use Rattle.wdl_same.proofs.Plain.{plain_decl, plain_input, plain_task}
 
@@ -48,10 +49,49 @@ keys_unseen call (d ∷ ds) = ap (λ (ks : List Key). output_key call d.name ∷
 
 -- ---- tasks
 
+input_names_unseen : (is : List TInput) → input_names (map plain_input is) ≡ input_names is
+input_names_unseen [] = refl
+input_names_unseen (i ∷ is) = ap (λ (ns : Paths). i.name ∷ ns) (input_names_unseen is)
+
+decl_names_unseen : (ds : List TDecl) → decl_names (map plain_decl ds) ≡ decl_names ds
+decl_names_unseen [] = refl
+decl_names_unseen (d ∷ ds) = ap (λ (ns : Paths). d.name ∷ ns) (decl_names_unseen ds)
+
+reads_unseen : (ds : List TDecl) → reads_any (map plain_decl ds) ≡ reads_any ds
+reads_unseen [] = refl
+reads_unseen (d ∷ ds) = ap (λ b. is_reading d.value || b) (reads_unseen ds)
+
+-- what a task asks whose values of these names may hold files
+abbrev asked_by : TaskDef → Prepared → Paths → Bool → Tried Asked
+asked_by t p names reads =
+    tried (named (codes "returnCodes") (codes_met p.env t.codes)) (λ s.
+    tried (named (codes "maxRetries") (retries_met p.env t.retries)) (λ n.
+    tried (named (codes "command") (command_met p.env t.command p.files)) (λ f.
+    Ok (record {
+      env = p.env;
+      codes = s;
+      retries = n;
+      command = f.text;
+      files = f.files;
+      attributes = [];
+      inputs = with_paths f.files [] (paths_at p.env names);
+      reads = reads;
+    }))))
+
+asked_unseen : (t : TaskDef) (p : Prepared) → asked_with (plain_task t) p ≡ asked_with t p
+asked_unseen t p =
+    ap (λ ns. asked_by t p (ns ++ decl_names (map plain_decl t.privates)) (reads_any (map plain_decl t.outputs))) (input_names_unseen t.inputs)
+    ∙ ap (λ ns. asked_by t p (input_names t.inputs ++ ns) (reads_any (map plain_decl t.outputs))) (decl_names_unseen t.privates)
+    ∙ ap (asked_by t p (input_names t.inputs ++ decl_names t.privates)) (reads_unseen t.outputs)
+
 asks_unseen : (t : TaskDef) (given : List Bind) → asks (plain_task t) given ≡ asks t given
 asks_unseen t given =
     let rest : with_privates (map plain_decl t.privates) ≡ with_privates t.privates = λ k p. privates_unseen t.privates p k in
-    ap (λ (x : Tried (List Bind)). tried x (λ env. tried (with_privates (map plain_decl t.privates) (record { env = env; files = [] })) (asked_with t))) (inputs_unseen t.inputs given)
+    let last : asked_with (plain_task t) ≡ asked_with t = λ k p. asked_unseen t p k in
+    ap (λ (f : Prepared → Tried Asked).
+    tried (with_inputs (map plain_input t.inputs) given) (λ env. tried (with_privates (map plain_decl t.privates) (record { env = env; files = [] })) f)) last
+    ∙ ap (λ (x : Tried (List Bind)). tried x (λ env. tried (with_privates (map plain_decl t.privates) (record { env = env; files = [] })) (asked_with t)))
+    (inputs_unseen t.inputs given)
     ∙ ap (λ (f : Prepared → Tried Prepared). tried (with_inputs t.inputs given) (λ env. tried (f (record { env = env; files = [] })) (asked_with t))) rest
 
 pub asks_same : (t u : TaskDef) → plain_task t ≡ plain_task u → (given : List Bind) → asks t given ≡ asks u given

@@ -1,7 +1,6 @@
 -- The value of a function fits the result of its row.
 use Rattle.std.proofs.Common.{◌≡◌, ℕ, Bool, true, false, cond, ◌&&◌, List, [], ◌∷◌, map, Option, Some, None, sym, subst, option_and_then}
 use Rattle.std.proofs.lemmas.Bool.{false≢true, and_parts}
-use Rattle.std.specs.Str.{chars}
 use Rattle.wdl_base.specs.declared.answer.Answer.{Answer}
 use Rattle.wdl_value.specs.declared.operator.Func.{Func}
 use Rattle.wdl_value.specs.declared.operator.Func.TheVariants as func
@@ -12,20 +11,18 @@ use Rattle.wdl_value.specs.declared.value.Value.{Value}
 use Rattle.wdl_value.specs.Apply.{applied, apply}
 use Rattle.wdl_value.specs.Coerces.{coerces}
 use Rattle.wdl_value.specs.FunctionTypes.{array as array_of, item_type, known_type, nullary, unary, binary, taking, plain_only, part_types, entry_types, plain_first, quote_type, simple_type, unary_type, taking_both, texts_type, pairing_type, binary_type, nullary_type, function_type, writes}
-use Rattle.wdl_value.specs.Paths.{files_of}
 use Rattle.wdl_value.specs.Reads.{trimmed, string_read, lines_read, tsv_read, int_read, boolean_read, map_read}
 use Rattle.std.specs.Char.{to_ascii_lowercase}
 use Rattle.wdl_value.specs.Fits.{Structs, fits}
 use Rattle.wdl_value.specs.Functions.{zipped, is_defined}
 use Rattle.wdl_value.specs.Outcome.{Outcome}
 use Rattle.wdl_value.specs.Parts.{items_in, rows_in}
-use Rattle.wdl_value.specs.ValueText.{text_of}
 use Rattle.wdl_value.proofs.FitsForms.{bool_fits, str_fits, file_fits}
 use Rattle.wdl_stdlib.specs.Laws.{IsOfType, args_fit}
 use Rattle.wdl_stdlib.proofs.OperatorsFit.{limited_fits, int_of-fits}
 use Rattle.wdl_stdlib.proofs.PartsFit.{Fits, array, entries_fit, items_fit}
 use Rattle.wdl_stdlib.proofs.NumbersFit.{greatest_fits, least_fits, range_fits}
-use Rattle.wdl_stdlib.proofs.ReadsFit.{lines_fit, map_read_fits, matching_fit, prefix_fits, quote_fits, read_fits, signed_fits, suffix_fits, tsv_fits, word_fits}
+use Rattle.wdl_stdlib.proofs.ReadsFit.{glob_fits, lines_fit, map_read_fits, prefix_fits, quote_fits, read_fits, signed_fits, suffix_fits, tsv_fits, word_fits}
 use Rattle.wdl_stdlib.proofs.ListsFit.{crossed_fit, defined_fit, first_fits, flat_fit, list_of, transpose_fits, unzip_fits, zipped_fit}
 use Rattle.wdl_stdlib.proofs.MapsFit.{as_map_fits, collect_fits, keys_fit, pairs_fit}
 
@@ -88,7 +85,7 @@ module _ (structs : Structs) where
     simple_sound : (f : Func) (t : Ty) (row : FuncTyping) → simple_type f t ≡ Some row → writes f ≡ false → Sound row (call f)
     simple_sound func.Range t row h w = taken func.Range t ty.Int (ty.Array ty.Int false) row h (λ x k. range_fits structs x k)
     simple_sound func.Basename t row h w = taken func.Basename t ty.Str ty.Str row h (λ x k. str_fits structs _)
-    simple_sound func.Glob t row h w = taken func.Glob t ty.Str (ty.Array ty.File false) row h (λ x k. array structs _ ty.File (matching_fit structs dir (chars (text_of x)) (files_of answer)))
+    simple_sound func.Glob t row h w = taken func.Glob t ty.Str (ty.Array ty.File false) row h (λ x k. glob_fits structs dir answer x)
     simple_sound func.ReadString t row h w = taken func.ReadString t ty.File ty.Str row h (λ x k. read_fits structs dir answer x ty.Str string_read (λ text. str_fits structs _))
     simple_sound func.ReadLines t row h w = taken func.ReadLines t ty.File (ty.Array ty.Str false) row h (λ x k. read_fits structs dir answer x (ty.Array ty.Str false) lines_read (lines_fit structs))
     simple_sound func.ReadInt t row h w = taken func.ReadInt t ty.File ty.Int row h (λ x k. read_fits structs dir answer x ty.Int int_read (λ text. signed_fits structs (trimmed text)))

@@ -9,9 +9,9 @@ use Rattle.wdl_value.specs.declared.ty.Ty.{Ty}
 use Rattle.wdl_value.specs.declared.ty.Ty.TheVariants as ty
 use Rattle.wdl_value.specs.declared.value.Value.{Value}
 use Rattle.wdl_value.specs.declared.value.Value.TheVariants as v
-use Rattle.wdl_base.specs.declared.fault.EvalCode.TheVariants.{NotAnInteger, NotABoolean}
+use Rattle.wdl_base.specs.declared.fault.EvalCode.TheVariants.{BodyLong, NotAnInteger, NotABoolean}
 use Rattle.wdl_value.specs.Files.{file_text}
-use Rattle.wdl_value.specs.Paths.{in_directory, path_matches, matching}
+use Rattle.wdl_value.specs.Paths.{files_of, glob_of, in_directory, lacks_names, matching, path_matches}
 use Rattle.wdl_value.specs.Reads.{cells, lines_read, row_read, tsv_read, digits_after, are_digits, numeral_read, minus, signed_read, word_read, pair_read, pairs_read, map_read}
 use Rattle.wdl_value.specs.Fits.{Structs, is_int, fits}
 use Rattle.wdl_value.specs.Functions.{prefix_of, suffix_of, quoted, quote_of, as_map_of}
@@ -38,13 +38,21 @@ module _ (structs : Structs) where
 
   -- ---- files
 
-  pub matching_fit : (dir pattern : List ℕ) (files : List Seen) → AllFit structs (matching dir pattern files) ty.File
+  matching_fit : (dir pattern : List ℕ) (files : List Seen) → AllFit structs (matching dir pattern files) ty.File
   matching_fit dir pattern [] = refl
   matching_fit dir pattern (file ∷ files) =
       let rest = matching_fit dir pattern files in
       elim (path_matches pattern (chars file.name)) as (λ b. all_fit structs (cond b (in_directory dir file.name ∷ matching dir pattern files) (matching dir pattern files)) ty.File ≡ true) [
         | true ↦ and_from (fits structs (in_directory dir file.name) ty.File) _ (file_fits structs _) rest
         | false ↦ rest
+      ]
+
+  pub glob_fits : (dir : List ℕ) (answer : Option Answer) (pattern : Value) → IsOfType structs (ty.Array ty.File false) (glob_of dir answer pattern)
+  glob_fits dir answer pattern =
+      let files = array structs _ ty.File (matching_fit dir (chars (text_of pattern)) (files_of answer)) in
+      elim (lacks_names answer) as (λ b. IsOfType structs (ty.Array ty.File false) (cond b (Err BodyLong) (Ok (v.List (matching dir (chars (text_of pattern)) (files_of answer)))))) [
+        | true ↦ tt
+        | false ↦ files
       ]
 
   pub lines_fit : (text : List ℕ) → IsOfType structs (ty.Array ty.Str false) (lines_read text)

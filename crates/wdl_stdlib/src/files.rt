@@ -1,6 +1,6 @@
 //! The files that a call's command left, as paths name them.
 
-ghost use Rattle.std.specs.Prelude.{◌≡◌, Some, IfOk};
+ghost use Rattle.std.specs.Prelude.{◌≡◌, Some};
 ghost use Rattle.std.specs.Option.{option_copied};
 ghost use Rattle.wdl_value.specs.Files as spec;
 ghost use Rattle.wdl_stdlib.specs.Gives.{Gives};
@@ -8,7 +8,7 @@ ghost use Rattle.wdl_stdlib.specs.Gives.{Gives};
 use crate::fault::EvalFault;
 use crate::file_names::local_name;
 use std::alloc::Global;
-use wdl_value::{Answer, Body, EvalCode, NoMemory, Seen, Text, TextFault};
+use wdl_value::{Answer, Body, EvalCode, Seen, Text, TextFault};
 
 fn seen_body<'a>(name: &str, files: &'a [Seen]) -> Option<&'a Body>
     ensures { option_copied result ≡ spec.seen_body name.now files.now }
@@ -35,21 +35,6 @@ pub fn left_body<'a>(answer: &'a Answer, name: &str) -> Option<&'a Body>
     seen_body(name, answer.files.as_slice())
 }
 
-/// The body of the file of a path.
-fn body_at<'a>(
-    alloc: Global,
-    dir: &Text,
-    answer: &'a Answer,
-    path: &Text,
-) -> Result<Option<&'a Body>, NoMemory>
-    ensures { IfOk result (λ body. option_copied body ≡ spec.file_body dir.now (Some answer.now) path.now) }
-{
-    match local_name(alloc, dir, path)? {
-        Some(name) => Ok(left_body(answer, name.as_str())),
-        None => Ok(None),
-    }
-}
-
 /// The text of some bytes: they are UTF-8 without NUL.
 fn bytes_text(alloc: Global, bytes: &[u8]) -> Result<Text, EvalFault>
     ensures { Gives (spec.bytes_text bytes.now) result }
@@ -64,18 +49,30 @@ fn bytes_text(alloc: Global, bytes: &[u8]) -> Result<Text, EvalFault>
     }
 }
 
-fn body_text(alloc: Global, body: Option<&Body>) -> Result<Text, EvalFault>
-    ensures { Gives (spec.body_text (option_copied body.entry)) result }
+fn body_text(alloc: Global, body: &Body) -> Result<Text, EvalFault>
+    ensures { Gives (spec.body_text (Some body.now)) result }
 {
     match body {
+        Body::Long => Err(EvalFault::Code(EvalCode::BodyLong)),
+        Body::Bytes(bytes) => bytes_text(alloc, bytes.as_slice()),
+    }
+}
+
+/// The text of a file by its name. A file that is not listed may be there where not all names were
+/// kept.
+fn left_text(alloc: Global, answer: &Answer, name: &str) -> Result<Text, EvalFault>
+    ensures { Gives (spec.body_text (spec.or_cut answer.now (spec.left_body answer.now name.now))) result }
+{
+    match left_body(answer, name) {
+        Some(body) => body_text(alloc, body),
+        None if answer.is_cut() => Err(EvalFault::Code(EvalCode::BodyLong)),
         None => Err(EvalFault::Code(EvalCode::FileMissing)),
-        Some(Body::Long) => Err(EvalFault::Code(EvalCode::BodyLong)),
-        Some(Body::Bytes(bytes)) => bytes_text(alloc, bytes.as_slice()),
     }
 }
 
 /// The text of the file of a path: 511 where it is not there, as always without an answer, 516
-/// where its body is long, 512 where it is not UTF-8 or holds NUL.
+/// where its body is long or its name may not have been kept, 512 where it is not UTF-8 or holds
+/// NUL.
 pub fn file_text(
     alloc: Global,
     dir: &Text,
@@ -84,8 +81,11 @@ pub fn file_text(
 ) -> Result<Text, EvalFault>
     ensures value { Gives (spec.file_text dir.now (option_copied answer.entry) path.now) result }
 {
-    match answer {
+    let Some(answer) = answer else {
+        return Err(EvalFault::Code(EvalCode::FileMissing));
+    };
+    match local_name(alloc, dir, path)? {
+        Some(name) => left_text(alloc, answer, name.as_str()),
         None => Err(EvalFault::Code(EvalCode::FileMissing)),
-        Some(answer) => body_text(alloc, body_at(alloc, dir, answer, path)?),
     }
 }

@@ -27,7 +27,7 @@ use crate::fault::EvalFault;
 use crate::parts::text_in;
 use crate::paths::in_directory;
 use std::alloc::Global;
-use wdl_value::{Answer, Items, NoMemory, Seen, Text, Value};
+use wdl_value::{Answer, EvalCode, Items, NoMemory, Seen, Text, Value};
 
 /// Whether a pattern's character is this one, or stands for any.
 fn takes(p: char, c: char) -> bool
@@ -190,8 +190,8 @@ fn matching(
 }
 
 /// The files of an answer that a pattern matches part by part, in the order of their bytes, as
-/// paths in the directory of the job. Its time is the length of the pattern times that of the
-/// names.
+/// paths in the directory of the job; 516 where not all names were kept. Its time is the length of
+/// the pattern times that of the names.
 pub fn glob(
     alloc: Global,
     dir: &Text,
@@ -203,6 +203,7 @@ pub fn glob(
     let text = text_in(alloc, pattern)?;
     let pattern = chars_of(alloc, text.as_str())?;
     match answer {
+        Some(answer) if answer.is_cut() => Err(EvalFault::Code(EvalCode::BodyLong)),
         Some(answer) => Ok(Value::List(matching(
             alloc,
             dir,

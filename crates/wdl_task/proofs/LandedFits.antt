@@ -4,8 +4,9 @@ use Rattle.std.specs.Str.{bytes_eq}
 use Rattle.std.proofs.lemmas.Bool.{false≢true, true≢false, and_parts, and_from, not-true, or_parts, or_from}
 use Rattle.std.proofs.lemmas.Slice.Eq.{bytes_eq-Decides}
 use denote.Hole.Carrier.{hidden}
+use Rattle.wdl_base.specs.Answers.{is_cut}
 use Rattle.wdl_base.specs.declared.answer.Answer.{Answer}
-use Rattle.wdl_base.specs.declared.fault.EvalCode.TheVariants.{RepeatedKey}
+use Rattle.wdl_base.specs.declared.fault.EvalCode.TheVariants.{BodyLong, RepeatedKey}
 use Rattle.wdl_value.specs.declared.ty.Member.{Member}
 use Rattle.wdl_value.specs.declared.ty.Ty.{Ty, Ty-F, out-Ty, roll-Ty, roll-out-Ty, more_of-Ty, end_of-Ty}
 use Rattle.wdl_value.specs.declared.ty.Ty.TheVariants as ty
@@ -27,7 +28,7 @@ use Rattle.wdl_value.proofs.FitsLemmas.{takes_out, takes_plain, tests}
 use Rattle.wdl_value.proofs.SameValueLemmas.{same_value-refl, same_value-true}
 use Rattle.wdl_value.proofs.ValueLayers.{Known, plain, firsts, first_fields, first_rows}
 use Rattle.wdl_typed.specs.KnownTypes.{is_some}
-use Rattle.wdl_typed.specs.Requests.{Lander, is_outside, land_all, land_at, land_fields, land_members, land_rows, landed, landed_file, map_row, missing_file, named_file}
+use Rattle.wdl_typed.specs.Requests.{Lander, is_outside, land_all, land_at, land_fields, land_members, land_rows, landed, landed_file, map_row, missing_file, named_file, unlisted_file}
 use Rattle.wdl_eval.proofs.StructForms.{members_fit, struct_fits}
 use Rattle.wdl_task.specs.Members.{field_landers, row_landers}
 
@@ -215,9 +216,13 @@ module _ (structs : Structs) (dir : List ℕ) (answer : Answer) where
       by_absence true a e = inr (a, cc)
       by_absence false a e = absurd (cc)
 
-      by_presence : (name : List ℕ) (there : Bool) → cond there (Ok (v.File (dir ++ 47 ∷ name))) (missing_file absent) ≡ Ok y → Lands absent type.File y
+      by_names : (cut : Bool) → cond cut (Err BodyLong) (missing_file absent) ≡ Ok y → Lands absent type.File y
+      by_names true e = absurd (cc)
+      by_names false e = by_absence absent refl e
+
+      by_presence : (name : List ℕ) (there : Bool) → cond there (Ok (v.File (dir ++ 47 ∷ name))) (unlisted_file answer absent) ≡ Ok y → Lands absent type.File y
       by_presence name true e = is_file (dir ++ 47 ∷ name) (cc)
-      by_presence name false e = by_absence absent refl e
+      by_presence name false e = by_names (is_cut answer.files) e
 
       by_place : (outside : Bool) (name : Option (List ℕ)) → cond outside (Ok (v.File path)) (named_file dir answer absent name) ≡ Ok y → Lands absent type.File y
       by_place true name e = is_file path (cc)

@@ -1,6 +1,7 @@
 pub mod Fit
 pub mod InputLaws
 pub mod Fuse
+pub mod GivenFiles
 pub mod CallOut
 pub mod Loops
 pub mod InputSteps

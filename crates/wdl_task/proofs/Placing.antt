@@ -15,7 +15,7 @@ use Rattle.wdl_value.specs.Written.{written_name}
 use Rattle.wdl_typed.specs.declared.expr.TExpr.{TExpr, TExpr-F, map-TExpr, roll-TExpr, ind-TExpr, fold-roll-TExpr}
 use Rattle.wdl_typed.specs.declared.expr.TExpr.TheOpen as layer
 use Rattle.wdl_typed.specs.Evaluation.{Met, from_cast, met, settled, then_, value_met, value_of, value_step}
-use Rattle.wdl_typed.specs.Requests.{Placing, Writing, as_laying, before, cast_all, cast_last, first_of, laid_as, laid_size, lay, next_file, placed, placed_value, placing, placing_step, plain_of, within, writing_step}
+use Rattle.wdl_typed.specs.Requests.{Placing, Writing, as_laying, before, cast_all, cast_last, first_of, lay, may_write, next_file, placed, placed_value, placing, placing_step, plain_of, writing_step}
 use Rattle.wdl_task.specs.Calls.{Call, Naming, call_of, call_step, as_outcome, cast_name, cast_value, first_call, laid_value, name_step, named_value, with_file}
 use Rattle.wdl_task.proofs.CallOut.{call_roll, with_call}
 use Rattle.wdl_task.proofs.Fuse.{fused}
@@ -114,8 +114,8 @@ module _ (env : List Bind) where
   laid_same files e k x (Some u) m w is =
       let same : u ≡ w = cc in
       subst (λ (z : Writing). lay z files x ≡ and_then (with_file k.func x files) (named_value e (written_name (length files)))) same (
-      ap (λ f. laid_as u (written_name (length files)) (files ++ next_file f x files ∷ [])) m.0
-      ∙ by_size (within (laid_size (files ++ next_file k.func x files ∷ []))))
+      ap (λ f. cond (may_write f x (files ++ next_file f x files ∷ [])) (as_laying (files ++ next_file f x files ∷ []) (settled (cast_all u.casts (Ok (v.File name))))) (Err TooLarge)) m.0
+      ∙ by_size (may_write k.func x (files ++ next_file k.func x files ∷ [])))
     where
       name : List ℕ
       name = written_name (length files)

@@ -28,7 +28,7 @@ use Rattle.wdl_typed.specs.Evaluation.{Met, met, value_of}
 use Rattle.wdl_typed.specs.Journal.{is_given}
 use Rattle.wdl_typed.specs.KnownTypes.{is_written}
 use Rattle.wdl_typed.specs.Lists.{are_distinct}
-use Rattle.wdl_typed.specs.Requests.{Asked, Filled, Laying, Prepared, Tried, after, as_laying, asked_with, asks, before, bad_status, bind, codes_met, command_met, is_success, landed, named, output_met, outputs_met, placed_value, retries_met, tried, with_inputs, with_private, with_privates}
+use Rattle.wdl_typed.specs.Requests.{Asked, Filled, Laying, Prepared, Tried, after, as_laying, asked_as, asked_with, asks, before, bad_status, bind, codes_met, command_met, is_success, landed, named, output_met, outputs_met, placed_value, retries_met, tried, with_inputs, with_private, with_privates}
 use Rattle.wdl_typed.specs.Typing.{Typing, is_type, takes_some, type_of}
 use Rattle.wdl_eval.specs.Laws.{IsMet, IsSound}
 use Rattle.wdl_eval.specs.Ready.{IsReady}
@@ -277,7 +277,7 @@ module _ (structs : Structs) (t : TaskDef) (given : List Bind) (typed : task_typ
     where
       asked_env : (p : Prepared) → asked_with t p ≡ Ok a → p.env ≡ a.env
       asked_env p e =
-          let made : _ → _ → Filled → Asked = λ s n f. record { env = p.env; codes = s; retries = n; command = f.text; files = f.files } in
+          let made : _ → _ → Filled → Asked = λ s n f. asked_as t p s n [] f in
           let x = tried_in (named (codes "returnCodes") (codes_met p.env t.codes)) (λ s. tried (named (codes "maxRetries") (retries_met p.env t.retries)) (λ n. tried (named (codes "command") (command_met p.env t.command p.files)) (λ f. Ok (made s n f)))) a e in
           let y = tried_in (named (codes "maxRetries") (retries_met p.env t.retries)) (λ n. tried (named (codes "command") (command_met p.env t.command p.files)) (λ f. Ok (made x.0 n f))) a x.2 in
           let z = tried_in (named (codes "command") (command_met p.env t.command p.files)) (λ f. Ok (made x.0 y.0 f)) a y.2 in

@@ -1,5 +1,5 @@
 -- Files that are laid down, and calls that lay them down.
-use Rattle.std.proofs.Common.{◌≡◌, ℕ, ◌+◌, ◌-◌, ◌^◌, ◌≤◌, ◌<◌, min, true, false, cond, List, [], ◌∷◌, ◌++◌, length, get_or, map, Option, Some, None, Ok, Err, sym, ap, ◌∙◌, subst, refl, arith, length-append}
+use Rattle.std.proofs.Common.{◌≡◌, ℕ, ◌+◌, ◌-◌, ◌^◌, ◌≤◌, ◌<◌, min, Bool, true, false, ◌&&◌, cond, List, [], ◌∷◌, ◌++◌, length, get_or, map, Option, Some, None, Ok, Err, sym, ap, ◌∙◌, subst, refl, arith, length-append}
 use Rattle.std.proofs.lemmas.Bool.Decides.{nat_tests}
 use denote.Ref.{Bor}
 use Rattle.wdl_base.specs.declared.body.Laid.{Laid}
@@ -8,10 +8,10 @@ use Rattle.wdl_value.specs.declared.operator.Func.{Func}
 use Rattle.wdl_value.specs.declared.value.Value.{Value}
 use Rattle.wdl_value.specs.FunctionTypes.{writes}
 use Rattle.wdl_value.specs.Outcome.{Outcome, and_then}
-use Rattle.wdl_value.specs.Written.{written, written_name}
+use Rattle.wdl_value.specs.Written.{short_texts, written, written_name, written_within}
 use Rattle.wdl_typed.specs.declared.expr.TExpr.{TExpr, TExpr-F, map-TExpr}
 use Rattle.wdl_typed.specs.declared.expr.TExpr.TheVariants as e
-use Rattle.wdl_typed.specs.Requests.{laid_size, next_file, within}
+use Rattle.wdl_typed.specs.Requests.{laid_size, next_file}
 use Rattle.wdl_task.specs.Calls.{AreLaid, Call, IsCall, call_of, call_step, first_call, laid_bytes, named_value, stored_value, with_file}
 use Rattle.wdl_task.proofs.CallOut.{call_out, with_call}
 
@@ -21,14 +21,16 @@ size_more : (files : List Laid) (x : Laid) → laid_size (files ++ x ∷ []) ≡
 size_more [] x = omega arith
 size_more (f ∷ files) x = let rest = size_more files x in omega arith
 
-within_not : (n : ℕ) → 65536 < n → within n ≡ false
-within_not n h = grind (arith, nat_tests)
+-- What is too much stays so.
+no_more : (b : Bool) (n m : ℕ) → n ≤ m → (b && written_within n) ≡ false → (b && written_within m) ≡ false
+no_more false n m h e = refl
+no_more true n m h e = grind (arith, nat_tests)
 
-pub too_large : (f : Func) (x : Value) (files : List Laid) → 65536 < length (written f x) → with_file f x files ≡ Err TooLarge
+pub too_large : (f : Func) (x : Value) (files : List Laid) → (short_texts f x && written_within (length (written f x))) ≡ false → with_file f x files ≡ Err TooLarge
 too_large f x files h =
     let more = size_more files (next_file f x files) in
-    let past : 65536 < laid_size (files ++ next_file f x files ∷ []) = omega arith in
-    ap (λ b. cond b (Ok (files ++ next_file f x files ∷ [])) (Err TooLarge)) (within_not (laid_size (files ++ next_file f x files ∷ [])) past)
+    let past : length (written f x) ≤ laid_size (files ++ next_file f x files ∷ []) = omega arith in
+    ap (λ b. cond b (Ok (files ++ next_file f x files ∷ [])) (Err TooLarge)) (no_more (short_texts f x) (length (written f x)) (laid_size (files ++ next_file f x files ∷ [])) past h)
 
 name_is_long : (k : ℕ) → 1 ≤ length (written_name k)
 name_is_long k = omega arith
@@ -36,14 +38,14 @@ name_is_long k = omega arith
 least : (a b c : ℕ) → min a b ≤ c → c < b → a ≤ c
 least a b c h k = omega arith
 
-pub laid_more : (files more : List Laid) (x : Laid) (n k : ℕ) → AreLaid files → more ≡ files ++ x ∷ [] → x.name ≡ written_name k → n ≡ laid_bytes more → n ≤ 65536 → AreLaid more
+pub laid_more : (files more : List Laid) (x : Laid) (n k : ℕ) → AreLaid files → more ≡ files ++ x ∷ [] → x.name ≡ written_name k → n ≡ laid_bytes more → n ≤ 4194304 → AreLaid more
 laid_more files more x n k laid is name e h =
     let size : laid_size more ≡ laid_size files + (length x.name + length x.body) = ap laid_size is ∙ size_more files x in
     let count : length more ≡ length files + 1 = ap length is ∙ length-append files (x ∷ []) in
     let long : 1 ≤ length x.name = subst (λ s. 1 ≤ length s) (sym name) (name_is_long k) in
     let before = laid.counted in
-    let small : min (laid_size more) (2 ^ 64 - 1) ≤ 65536 = subst (λ m. m ≤ 65536) e h in
-    record { counted = omega arith; limited = least (laid_size more) (2 ^ 64 - 1) 65536 small (omega arith) }
+    let small : min (laid_size more) (2 ^ 64 - 1) ≤ 4194304 = subst (λ m. m ≤ 4194304) e h in
+    record { counted = omega arith; limited = least (laid_size more) (2 ^ 64 - 1) 4194304 small (omega arith) }
 
 pub stored_is : (x : TExpr) (f : Func) (y : Value) (files more : List Laid) (name : List ℕ) (n : ℕ) → with_file f y files ≡ Ok more → name ≡ written_name n → n ≡ length files
     → named_value x name more ≡ stored_value x f y files

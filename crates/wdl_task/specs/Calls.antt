@@ -16,7 +16,7 @@ use Rattle.wdl_value.specs.Written.{written_name}
 use Rattle.wdl_typed.specs.declared.expr.TExpr.{TExpr, TExpr-F, fold-TExpr, para-TExpr}
 use Rattle.wdl_typed.specs.declared.expr.TExpr.TheOpen as layer
 use Rattle.wdl_typed.specs.Evaluation.{value_of}
-use Rattle.wdl_typed.specs.Requests.{Laying, before, laid_size, next_file, within}
+use Rattle.wdl_typed.specs.Requests.{Laying, before, laid_size, may_write, next_file}
 
 -- what the call writes
 pub record Call : Type 0 where
@@ -65,7 +65,7 @@ cast_name = fold-TExpr Naming name_step
 -- the files with the next one
 abbrev pub with_file : Func → Value → List Laid → Outcome (List Laid)
 with_file f x files =
-    if within (laid_size (files ++ next_file f x files ∷ [])) then Ok (files ++ next_file f x files ∷ []) else Err TooLarge
+    if may_write f x (files ++ next_file f x files ∷ []) then Ok (files ++ next_file f x files ∷ []) else Err TooLarge
 
 -- what the call that the expression is gives: the file is laid down, and its name is the value
 abbrev pub named_value : TExpr → List ℕ → List Laid → Outcome Laying
@@ -81,7 +81,7 @@ laid_value env files e c =
 -- files that were laid down: each has a name, and together they keep the limit
 pub record AreLaid (files : List Laid) : Type 0 where
   pub counted : length files ≤ laid_size files
-  pub limited : laid_size files ≤ 65536
+  pub limited : laid_size files ≤ 4194304
 
 -- the bytes of the names and the bodies, at most the greatest number of 64 bits
 abbrev pub laid_bytes : List Laid → ℕ

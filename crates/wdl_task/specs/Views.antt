@@ -26,7 +26,16 @@ filled_of f = record { text = f.text; files = f.files }
 
 abbrev pub asked_of : Prepared → Asked
 asked_of p =
-    record { env = p.env; codes = successes_of p.codes; retries = p.retries; command = p.request.command; files = p.request.files }
+    record {
+      env = p.env;
+      codes = successes_of p.codes;
+      retries = p.retries;
+      command = p.request.command;
+      files = p.request.files;
+      attributes = p.request.attributes;
+      inputs = p.request.inputs;
+      reads = p.request.reads;
+    }
 
 -- the same with the next attempt
 abbrev pub next_of : List ℕ → Prepared → Prepared

@@ -11,7 +11,7 @@ ghost use Rattle.wdl_task.specs.Counts.{hole_count};
 ghost use Rattle.wdl_task.specs.Readiness.{AreHolesReady, IsHoleReady, IsPrinted};
 ghost use Rattle.wdl_task.specs.Views.{GivesAs, filled_of};
 
-use crate::writes::{Laying, laid_size, placed_value};
+use crate::writes::{Laying, placed_value};
 use std::alloc::Global;
 use std::sync::ledger::Ledger;
 use wdl_eval::{EvalFault, NodeFault, hole_text};
@@ -101,8 +101,7 @@ fn with_parts<L: Ledger>(
     Ok(filled)
 }
 
-/// The command, which has at most 65,536 bytes with the names and bodies of the files that are laid
-/// down.
+/// The command, whose text has at most 65,536 bytes.
 pub fn command_of<L: Ledger>(
     alloc: Global,
     parts: &[TPart<TExpr>],
@@ -117,10 +116,7 @@ pub fn command_of<L: Ledger>(
 {
     let text = Text::empty(alloc);
     let filled = with_parts(alloc, parts, Filled { text, files }, env, steps)?;
-    let bytes = laid_size(filled.files.as_slice()).saturating_add(
-        filled.text.as_str().len() as u64,
-    );
-    if bytes > BODY_LIMIT as u64 {
+    if filled.text.as_str().len() > BODY_LIMIT {
         return Err(EvalFault::Code(EvalCode::TooLarge));
     }
     Ok(filled)

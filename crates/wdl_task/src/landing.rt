@@ -48,6 +48,16 @@ fn missing_file(absent: bool) -> Result<Value, EvalFault>
     Err(EvalFault::Code(EvalCode::FileMissing))
 }
 
+/// A file that is not among the names that were kept. Where not all were kept, it may be there.
+fn unlisted_file(answer: &Answer, absent: bool) -> Result<Value, EvalFault>
+    ensures { Gives (spec.unlisted_file answer.now absent) result }
+{
+    if answer.is_cut() {
+        return Err(EvalFault::Code(EvalCode::BodyLong));
+    }
+    missing_file(absent)
+}
+
 /// The file of that name, where it is there.
 fn named_file(
     alloc: Global,
@@ -60,7 +70,7 @@ fn named_file(
     if left_body(shore.answer, name.as_str()).is_some() {
         return Ok(Value::File(joined(alloc, shore.dir, name)?));
     }
-    missing_file(absent)
+    unlisted_file(shore.answer, absent)
 }
 
 /// The path of a file that is there; a file that is not there is undefined where it may be.

@@ -6,6 +6,7 @@ mod binding;
 mod command;
 mod conclusion;
 mod fault;
+mod given_files;
 mod inputs;
 mod landing;
 mod laws;

@@ -10,11 +10,12 @@ ghost use Rattle.wdl_task.specs.Views.{made_of, next_of, Prepares};
 use crate::attributes::{codes_of, retries_of};
 use crate::command::{Filled, command_of};
 use crate::fault::{CallFault, named};
+use crate::given_files::files_given;
 use crate::inputs::with_inputs;
 use crate::privates::{Made, with_privates};
 use std::alloc::Global;
 use std::sync::ledger::Ledger;
-use wdl_typed::{Success, TaskDef};
+use wdl_typed::{Success, TaskDef, do_read};
 use wdl_value::{
     Env, Items, NoMemory, Place, Request, Steps, Text, copy_env, copy_place, place_text,
 };
@@ -80,12 +81,16 @@ fn requested<L: Ledger>(
     let retries = named(alloc, "maxRetries", outcome)?;
     let outcome = command_of(alloc, task.command.as_slice(), &env, files, steps);
     let Filled { text, files } = named(alloc, "command", outcome)?;
+    let inputs = files_given(alloc, task, &env, files.as_slice())?;
     let request = Request {
         place: copy_place(alloc, place)?,
         attempt,
         dir: job_dir(alloc, site, place, attempt)?,
         command: text,
         files,
+        attributes: Items::new(alloc),
+        inputs,
+        reads: do_read(task.outputs.as_slice()),
     };
     Ok(Prepared {
         request,
@@ -97,7 +102,8 @@ fn requested<L: Ledger>(
 
 /// The request of an attempt, and what its answer is told by: left-out inputs take their default or
 /// are undefined, then come private declarations, `returnCodes`, `maxRetries` and the command, each
-/// placeholder from left to right. The first fault has the name of its input or declaration, or
+/// placeholder from left to right. The request also has the files among the values of the inputs
+/// and the private declarations. The first fault has the name of its input or declaration, or
 /// `returnCodes`, `maxRetries` or `command`.
 pub fn prepare<L: Ledger>(
     alloc: Global,
@@ -131,6 +137,9 @@ pub fn retry(alloc: Global, prepared: &Prepared, site: &Text) -> Result<Prepared
         dir: _,
         command,
         files,
+        attributes,
+        inputs,
+        reads,
         attempt: _,
     } = prepared.request.copy(alloc)?;
     let dir = job_dir(alloc, site, &place, attempt)?;
@@ -141,6 +150,9 @@ pub fn retry(alloc: Global, prepared: &Prepared, site: &Text) -> Result<Prepared
             dir,
             command,
             files,
+            attributes,
+            inputs,
+            reads,
         },
         env: copy_env(alloc, prepared.env.as_slice())?,
         codes: prepared.codes.copy(alloc)?,

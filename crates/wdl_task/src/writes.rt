@@ -14,11 +14,9 @@ use crate::valued::value_before;
 use std::alloc::Global;
 use std::sync::ledger::Ledger;
 use wdl_eval::EvalFault;
-use wdl_files::{WrittenFault, written_name, written_text};
+use wdl_files::{WRITTEN_BYTES, WrittenFault, written_name, written_text};
 use wdl_typed::TExpr;
-use wdl_value::{
-    BODY_LIMIT, CastFault, Env, EvalCode, Func, Items, Laid, Steps, Text, Ty, Value, cast,
-};
+use wdl_value::{CastFault, Env, EvalCode, Func, Items, Laid, Steps, Text, Ty, Value, cast};
 
 /// A value, and the files that are laid down so far.
 #[derive(Drop)]
@@ -28,7 +26,7 @@ pub struct Laying {
 }
 
 /// The bytes of the names and the bodies, or the greatest number.
-pub fn laid_size(files: &[Laid]) -> u64
+fn laid_size(files: &[Laid]) -> u64
     ensures { result ≡ calls.laid_bytes files.now }
 {
     let mut total: u64 = 0;
@@ -94,7 +92,7 @@ fn with_file(
         Err(WrittenFault::NoMemory) => return Err(EvalFault::NoMemory),
     };
     files.push(Laid { name, body })?;
-    if laid_size(files.as_slice()) > BODY_LIMIT as u64 {
+    if laid_size(files.as_slice()) > WRITTEN_BYTES as u64 {
         return Err(EvalFault::Code(EvalCode::TooLarge));
     }
     Ok(files)

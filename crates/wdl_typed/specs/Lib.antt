@@ -7,6 +7,7 @@ pub mod Kept
 pub mod KnownTypes
 pub mod Lists
 pub mod Order
+pub mod Reading
 pub mod Requests
 pub mod Scope
 pub mod Statuses

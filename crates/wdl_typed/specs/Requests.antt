@@ -1,11 +1,15 @@
 -- What a task asks to be run, and what an answer tells (OpenWDL 1.1, "Task Definition").
 use Rattle.std.specs.Prelude.{ℕ, zero, suc, ◌+◌, ◌==◌, nat_le, ℤ, pos, negsuc, Bool, true, false, not, ◌&&◌, ◌||◌, List, [], ◌∷◌, ◌++◌, Option, Some, None, Result, Ok, Err, if◌then◌else◌, length, map, codes, decimal}
+use Rattle.std.specs.List.{list_any}
+use Rattle.std.specs.Str.{bytes_eq}
+use Rattle.wdl_base.specs.Answers.{is_cut}
 use Rattle.wdl_base.specs.declared.answer.Answer.{Answer}
 use Rattle.wdl_base.specs.declared.body.Laid.{Laid}
-use Rattle.wdl_base.specs.declared.fault.EvalCode.TheVariants.{FileMissing, RepeatedKey, TooLarge}
+use Rattle.wdl_base.specs.declared.fault.EvalCode.TheVariants.{BodyLong, FileMissing, RepeatedKey, TooLarge}
 use Rattle.wdl_base.specs.declared.fault.Why.{Why}
 use Rattle.wdl_base.specs.declared.fault.Why.TheVariants.{Code, Status}
 use Rattle.wdl_base.specs.declared.place.Segment.{Segment}
+use Rattle.wdl_base.specs.declared.request.Attribute.{Attribute}
 use Rattle.wdl_base.specs.declared.request.Request.{Request}
 use Rattle.wdl_base.specs.Places.{place_text}
 use Rattle.wdl_value.specs.declared.env.Bind.{Bind}
@@ -19,15 +23,18 @@ use Rattle.wdl_value.specs.declared.value.Value.{Value, Value-F, fold-Value, out
 use Rattle.wdl_value.specs.declared.value.Value.TheVariants as v
 use Rattle.wdl_value.specs.declared.value.Value.TheOpen as value
 use Rattle.wdl_value.specs.Bare.{bare, is_optional}
+use Rattle.wdl_value.specs.FilePaths.{Paths, file_paths}
 use Rattle.wdl_value.specs.Files.{begins_at_root, left_body, local_name, stripped}
 use Rattle.wdl_value.specs.Fits.{Structs, members_of}
-use Rattle.wdl_value.specs.FunctionTypes.{writes}
+use Rattle.wdl_value.specs.FunctionTypes.{reads_text, writes}
 use Rattle.wdl_value.specs.Keyed.{has_key}
 use Rattle.wdl_value.specs.Outcome.{Outcome, and_then}
 use Rattle.wdl_value.specs.Parts.{int_in, items_in}
-use Rattle.wdl_value.specs.Written.{written, written_name}
+use Rattle.wdl_value.specs.Written.{short_texts, written, written_name, written_within}
 use Rattle.wdl_typed.specs.declared.expr.TExpr.{TExpr, TExpr-F, fold-TExpr, map-TExpr}
 use Rattle.wdl_typed.specs.declared.expr.TExpr.TheOpen as layer
+use Rattle.wdl_typed.specs.declared.expr.TField.{TField}
+use Rattle.wdl_typed.specs.declared.expr.TPair.{TPair}
 use Rattle.wdl_typed.specs.declared.expr.TPart.{TPart}
 use Rattle.wdl_typed.specs.declared.expr.TPart.TheVariants as part
 use Rattle.wdl_typed.specs.declared.task.TCodes.{TCodes}
@@ -35,7 +42,7 @@ use Rattle.wdl_typed.specs.declared.task.TCodes.TheVariants as status
 use Rattle.wdl_typed.specs.declared.task.TDecl.{TDecl}
 use Rattle.wdl_typed.specs.declared.task.TInput.{TInput}
 use Rattle.wdl_typed.specs.declared.task.TaskDef.{TaskDef}
-use Rattle.wdl_typed.specs.Declarations.{plain_key}
+use Rattle.wdl_typed.specs.Declarations.{decl_names, input_names, plain_key}
 use Rattle.wdl_typed.specs.Evaluation.{Met, Setting, from_cast, hole_text, settled, then_, value_of, value_step, wrong}
 use Rattle.wdl_typed.specs.KnownTypes.{is_some}
 use Rattle.wdl_typed.specs.Scope.{lookup}
@@ -123,6 +130,10 @@ laid_size (f ∷ fs) = length f.name + length f.body + laid_size fs
 abbrev pub within : ℕ → Bool
 within n = nat_le n 65536
 
+-- at most so many bytes together, each text among them short
+abbrev pub may_write : Func → Value → List Laid → Bool
+may_write f x files = short_texts f x && written_within (laid_size files)
+
 abbrev pub cast_all : List Ty → Met Value → Met Value
 cast_all [] r = r
 cast_all (t ∷ ts) r = cast_all ts (then_ r (λ x. from_cast (cast x t)))
@@ -139,11 +150,11 @@ next_file f x files = record { name = written_name (length files); body = writte
 abbrev pub as_laying : List Laid → Outcome Value → Outcome Laying
 as_laying files r = and_then r (λ x. Ok (record { value = x; files = files }))
 
-abbrev pub laid_as : Writing → List ℕ → List Laid → Outcome Laying
-laid_as w name files = if within (laid_size files) then as_laying files (settled (cast_all w.casts (Ok (v.File name)))) else Err TooLarge
+abbrev pub laid_as : Writing → List ℕ → Value → List Laid → Outcome Laying
+laid_as w name x files = if may_write w.func x files then as_laying files (settled (cast_all w.casts (Ok (v.File name)))) else Err TooLarge
 
 abbrev pub lay : Writing → List Laid → Value → Outcome Laying
-lay w files x = laid_as w (written_name (length files)) (files ++ next_file w.func x files ∷ [])
+lay w files x = laid_as w (written_name (length files)) x (files ++ next_file w.func x files ∷ [])
 
 abbrev pub placed : List Laid → Met Value → Option Writing → Outcome Laying
 placed files plain None = as_laying files (settled plain)
@@ -227,12 +238,78 @@ filled env (part.Hole h ∷ parts) f =
     filled env parts (record { text = f.text ++ s; files = l.files })))
 
 abbrev pub command_within : Filled → Outcome Filled
-command_within f = if within (length f.text + laid_size f.files) then Ok f else Err TooLarge
+command_within f = if within (length f.text) then Ok f else Err TooLarge
 
 abbrev pub command_met : List Bind → List (TPart TExpr) → List Laid → Outcome Filled
 command_met env parts files = and_then (filled env parts (record { text = []; files = files })) command_within
 
 -- ---- requests
+
+abbrev pub value_paths : Option Value → Paths
+value_paths None = []
+value_paths (Some x) = file_paths x
+
+-- the paths of the files in the values of these names
+abbrev pub paths_at : List Bind → List (List ℕ) → Paths
+paths_at env [] = []
+paths_at env (name ∷ names) = value_paths (lookup env (plain_key name)) ++ paths_at env names
+
+abbrev pub is_laid : List Laid → List ℕ → Bool
+is_laid files path = list_any (λ (f : Laid). bytes_eq f.name path) files
+
+abbrev pub is_listed : Paths → List ℕ → Bool
+is_listed paths path = list_any (λ p. bytes_eq p path) paths
+
+-- these paths, and behind them each further one at its first place that is no laid file's
+abbrev pub with_paths : List Laid → Paths → Paths → Paths
+with_paths files done [] = done
+with_paths files done (p ∷ ps) = with_paths files (if is_laid files p || is_listed done p then done else done ++ p ∷ []) ps
+
+-- the files among the values of the inputs and of the private declarations
+abbrev pub files_given : TaskDef → List Bind → List Laid → Paths
+files_given t env files = with_paths files [] (paths_at env (input_names t.inputs ++ decl_names t.privates))
+
+abbrev pub any_read : List Bool → Bool
+any_read [] = false
+any_read (b ∷ bs) = b || any_read bs
+
+abbrev pub rows_read : List (TPair Bool) → Bool
+rows_read [] = false
+rows_read (r ∷ rows) = (r.key || r.value) || rows_read rows
+
+abbrev pub fields_read : List (TField Bool) → Bool
+fields_read [] = false
+fields_read (f ∷ fields) = f.value || fields_read fields
+
+abbrev pub parts_read : List (TPart Bool) → Bool
+parts_read [] = false
+parts_read (part.Chars s ∷ parts) = parts_read parts
+parts_read (part.Hole h ∷ parts) = h.expr || parts_read parts
+
+abbrev pub reading_step : TExpr-F Bool → Bool
+reading_step (layer.Lit x) = false
+reading_step (layer.Get key) = false
+reading_step (layer.Member b name) = b
+reading_step (layer.At a b) = a || b
+reading_step (layer.Not b) = b
+reading_step (layer.Neg b) = b
+reading_step (layer.Binary op a b) = a || b
+reading_step (layer.Choose a b c) = a || b || c
+reading_step (layer.ListOf bs) = any_read bs
+reading_step (layer.MapOf rows) = rows_read rows
+reading_step (layer.PairOf a b) = a || b
+reading_step (layer.StructOf name fields) = fields_read fields
+reading_step (layer.Apply f bs) = reads_text f || any_read bs
+reading_step (layer.Strung parts) = parts_read parts
+reading_step (layer.Cast b t) = b
+
+-- some function in the expression reads what the command wrote
+abbrev pub is_reading : TExpr → Bool
+is_reading = fold-TExpr Bool reading_step
+
+abbrev pub reads_any : List TDecl → Bool
+reads_any [] = false
+reads_any (d ∷ ds) = is_reading d.value || reads_any ds
 
 -- what all attempts of a call have in common
 pub record Asked : Type 0 where
@@ -241,13 +318,29 @@ pub record Asked : Type 0 where
   pub retries : ℕ
   pub command : List ℕ
   pub files : List Laid
+  pub attributes : List Attribute
+  pub inputs : Paths
+  pub reads : Bool
+
+abbrev pub asked_as : TaskDef → Prepared → Successes → ℕ → List Attribute → Filled → Asked
+asked_as t p s n as_ f =
+    record {
+      env = p.env;
+      codes = s;
+      retries = n;
+      command = f.text;
+      files = f.files;
+      attributes = as_;
+      inputs = files_given t p.env f.files;
+      reads = reads_any t.outputs;
+    }
 
 abbrev pub asked_with : TaskDef → Prepared → Tried Asked
 asked_with t p =
     tried (named (codes "returnCodes") (codes_met p.env t.codes)) (λ s.
     tried (named (codes "maxRetries") (retries_met p.env t.retries)) (λ n.
     tried (named (codes "command") (command_met p.env t.command p.files)) (λ f.
-    Ok (record { env = p.env; codes = s; retries = n; command = f.text; files = f.files }))))
+    Ok (asked_as t p s n [] f))))
 
 -- left-out inputs, private declarations, `returnCodes`, `maxRetries`, the command, in this order
 abbrev pub asks : TaskDef → List Bind → Tried Asked
@@ -265,7 +358,16 @@ job_dir site place attempt = site ++ 47 ∷ (place_text place ++ retry_text atte
 
 abbrev pub request : List ℕ → List Segment → ℕ → Asked → Request
 request site place attempt a =
-    record { place = place; attempt = attempt; dir = job_dir site place attempt; command = a.command; files = a.files }
+    record {
+      place = place;
+      attempt = attempt;
+      dir = job_dir site place attempt;
+      command = a.command;
+      files = a.files;
+      attributes = a.attributes;
+      inputs = a.inputs;
+      reads = a.reads;
+    }
 
 -- ---- landing
 
@@ -306,11 +408,15 @@ abbrev pub missing_file : Bool → Outcome Value
 missing_file true = Ok v.Absent
 missing_file false = Err FileMissing
 
+-- A file that is not among the names that were kept may be there where not all were.
+abbrev pub unlisted_file : Answer → Bool → Outcome Value
+unlisted_file answer may_be_absent = if is_cut answer.files then Err BodyLong else missing_file may_be_absent
+
 -- a file of this name
 abbrev pub named_file : List ℕ → Answer → Bool → Option (List ℕ) → Outcome Value
 named_file dir answer may_be_absent None = missing_file may_be_absent
 named_file dir answer may_be_absent (Some name) =
-    if is_some (left_body answer name) then Ok (v.File (dir ++ 47 ∷ name)) else missing_file may_be_absent
+    if is_some (left_body answer name) then Ok (v.File (dir ++ 47 ∷ name)) else unlisted_file answer may_be_absent
 
 abbrev pub landed_file : List ℕ → Answer → List ℕ → Bool → Outcome Value
 landed_file dir answer path may_be_absent =

@@ -4,6 +4,7 @@
 mod checked;
 mod expr;
 mod flow;
+mod reading;
 mod scope;
 mod success;
 mod task;
@@ -11,6 +12,7 @@ mod task;
 pub use checked::{Checked, CheckedParts};
 pub use expr::{Choice, TExpr, TField, THole, TPair, TPart};
 pub use flow::{FlowDef, Statement, TCall, TIf, TScatter, Target};
+pub use reading::{do_read, is_reading};
 pub use scope::Bound;
 pub use success::Success;
 pub use task::{TCodes, TDecl, TInput, TaskDef};

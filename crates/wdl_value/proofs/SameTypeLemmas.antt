@@ -4,7 +4,8 @@ use Rattle.std.proofs.lemmas.Bool.{false≢true, and_parts, and_from}
 use Rattle.std.proofs.lemmas.Slice.Eq.{bytes_eq-Decides}
 use Rattle.wdl_value.specs.declared.ty.Ty.{Ty, Ty-F, out-Ty, roll-Ty, roll-out-Ty, out-roll-Ty, map-Ty, ind-Ty, fold-roll-Ty}
 use Rattle.wdl_value.specs.declared.ty.Ty.TheOpen as type
-use Rattle.wdl_value.specs.SameType.{TypeTest, same_bool, same_at, same_type}
+use Rattle.wdl_base.specs.Same.{same_bool}
+use Rattle.wdl_value.specs.SameType.{TypeTest, same_at, same_type}
 
 pub same_bool-true : (a b : Bool) → same_bool a b ≡ true → a ≡ b
 same_bool-true true b h = sym h

@@ -3,6 +3,7 @@ use Rattle.std.specs.Prelude.{ℕ, Bool, false, not, ◌&&◌, ◌||◌, ◌==�
 use Rattle.std.specs.List.{join_with_byte}
 use Rattle.std.specs.Option.{unwrap_or}
 use Rattle.std.specs.Str.{bytes_eq, is_utf8}
+use Rattle.wdl_base.specs.Answers.{is_cut}
 use Rattle.wdl_base.specs.declared.answer.Answer.{Answer}
 use Rattle.wdl_base.specs.declared.body.Body.{Body}
 use Rattle.wdl_base.specs.declared.body.Body.TheVariants.{Bytes, Long}
@@ -73,10 +74,15 @@ left_body answer name =
     else (if bytes_eq name (codes "_stderr") then Some answer.err
     else seen_body name answer.files)
 
+-- Where not all names were kept, a file that is not among them may be there, and nothing is kept of it.
+abbrev pub or_cut : Answer → Option Body → Option Body
+or_cut answer (Some body) = Some body
+or_cut answer None = if is_cut answer.files then Some Long else None
+
 -- Without an answer no file is there.
 abbrev pub file_body : List ℕ → Option Answer → List ℕ → Option Body
 file_body dir None path = None
-file_body dir (Some answer) path = option_and_then (left_body answer) (local_name dir path)
+file_body dir (Some answer) path = option_and_then (λ name. or_cut answer (left_body answer name)) (local_name dir path)
 
 -- UTF-8 without NUL
 abbrev pub bytes_text : List ℕ → Outcome (List ℕ)

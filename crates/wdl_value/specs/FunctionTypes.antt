@@ -222,3 +222,13 @@ reads func.ReadBoolean = true
 reads func.ReadTsv = true
 reads func.ReadMap = true
 reads f = false
+
+-- the functions that read what the command of a job wrote
+abbrev pub reads_text : Func → Bool
+reads_text func.ReadString = true
+reads_text func.ReadLines = true
+reads_text func.ReadInt = true
+reads_text func.ReadBoolean = true
+reads_text func.ReadTsv = true
+reads_text func.ReadMap = true
+reads_text f = false

@@ -21,6 +21,7 @@ pub mod Limits
 pub mod Parts
 pub mod Operate
 pub mod Functions
+pub mod FilePaths
 pub mod Files
 pub mod Reads
 pub mod Paths

@@ -1,10 +1,12 @@
 -- The values of the functions on paths (OpenWDL 1.1, "Standard Library"). Texts are bytes; 47 is a slash, 46 a point,
 -- 42 a star and 63 a question mark.
-use Rattle.std.specs.Prelude.{ℕ, ◌-◌, ◌==◌, Bool, true, false, ◌&&◌, ◌||◌, List, [], ◌∷◌, ◌++◌, length, take, drop, Option, Some, None, Ok, if◌then◌else◌, codes}
+use Rattle.std.specs.Prelude.{ℕ, ◌-◌, ◌==◌, Bool, true, false, ◌&&◌, ◌||◌, List, [], ◌∷◌, ◌++◌, length, take, drop, Option, Some, None, Ok, Err, if◌then◌else◌, codes}
 use Rattle.std.specs.List.{slice_split, list_any}
 use Rattle.std.specs.Str.{chars, bytes_eq}
+use Rattle.wdl_base.specs.Answers.{is_cut}
 use Rattle.wdl_base.specs.declared.answer.Answer.{Answer}
 use Rattle.wdl_base.specs.declared.body.Seen.{Seen}
+use Rattle.wdl_base.specs.declared.fault.EvalCode.TheVariants.{BodyLong}
 use Rattle.wdl_value.specs.declared.value.Value.{Value}
 use Rattle.wdl_value.specs.declared.value.Value.TheVariants as v
 use Rattle.wdl_value.specs.Outcome.{Outcome}
@@ -95,6 +97,11 @@ abbrev pub files_of : Option Answer → List Seen
 files_of None = []
 files_of (Some answer) = answer.files
 
--- the files that the command left, in byte order as an answer has them
+abbrev pub lacks_names : Option Answer → Bool
+lacks_names None = false
+lacks_names (Some answer) = is_cut answer.files
+
+-- the files that the command left, in byte order as an answer has them, where all names were kept
 abbrev pub glob_of : List ℕ → Option Answer → Value → Outcome Value
-glob_of dir answer pattern = Ok (v.List (matching dir (chars (text_of pattern)) (files_of answer)))
+glob_of dir answer pattern =
+    if lacks_names answer then Err BodyLong else Ok (v.List (matching dir (chars (text_of pattern)) (files_of answer)))

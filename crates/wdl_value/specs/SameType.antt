@@ -1,13 +1,9 @@
 -- Equality of types, as a test.
 use Rattle.std.specs.Prelude.{Bool, true, false, ◌&&◌}
 use Rattle.std.specs.Str.{bytes_eq}
+use Rattle.wdl_base.specs.Same.{same_bool}
 use Rattle.wdl_value.specs.declared.ty.Ty.{Ty, Ty-F, out-Ty, fold-Ty}
 use Rattle.wdl_value.specs.declared.ty.Ty.TheOpen as type
-
-abbrev pub same_bool : Bool → Bool → Bool
-same_bool true b = b
-same_bool false true = false
-same_bool false false = true
 
 abbrev pub TypeTest : Type 0
 TypeTest = Ty → Bool

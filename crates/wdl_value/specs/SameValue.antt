@@ -6,7 +6,7 @@ use Rattle.wdl_value.specs.declared.value.Value.{Value, Value-F, out-Value, fold
 use Rattle.wdl_value.specs.declared.value.Value.TheOpen as layer
 use Rattle.wdl_value.specs.declared.value.MapRow.{MapRow}
 use Rattle.wdl_value.specs.declared.value.Field.{Field}
-use Rattle.wdl_value.specs.SameType.{same_bool}
+use Rattle.wdl_base.specs.Same.{same_bool}
 
 abbrev pub ValueTest : Type 0
 ValueTest = Value → Bool

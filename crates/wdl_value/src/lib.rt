@@ -6,6 +6,7 @@ mod bare;
 mod casting;
 mod env;
 mod equality;
+mod file_paths;
 mod fitting;
 mod keyed;
 mod kind;
@@ -22,6 +23,7 @@ pub use bare::{bare_type, is_optional};
 pub use casting::{CastFault, cast};
 pub use env::{Bind, Env, copy_env};
 pub use equality::same_value;
+pub use file_paths::push_file_paths;
 pub use fitting::fits;
 pub use keyed::{distinct_keys, has_key};
 pub use kind::{is_absent, is_bool, is_empty, is_int, is_plain, is_scalar, is_str, is_text};
@@ -35,9 +37,10 @@ pub use typing::{FuncTyping, OpTyping};
 pub use value::{Field, MapRow, Value, copy_values};
 pub use value_text::text_of;
 pub use wdl_base::{
-    Answer, AnswerFault, BODY_LIMIT, Body, Counts, ERR_LIMIT, Entry, EvalCode, FILE_BYTES,
-    FILE_COUNT, FILE_NAME_BYTES, Fault, Key, Laid, Name, NameFault, NoMemory, OUT_LIMIT, Part,
-    Place, PlaceFault, RESERVED, Request, Seen, Segment, Source, Span, Step, Steps, Template, Text,
-    TextFault, Why, copy_place, holds_nul, is_identifier, is_reserved, place_of, place_text,
+    Answer, AnswerFault, Attribute, BODY_LIMIT, Body, CUT_NAME, Counts, ERR_LIMIT, Entry, EvalCode,
+    FILE_BODY_BYTES, FILE_BYTES, FILE_COUNT, FILE_NAME_BYTES, FILE_NAMES_BYTES, Fault, Key, Laid,
+    Name, NameFault, NoMemory, OUT_LIMIT, Part, Place, PlaceFault, RESERVED, Request, Seen,
+    Segment, Source, Span, Step, Steps, Template, Text, TextFault, Why, copy_attributes,
+    copy_place, copy_texts, holds_nul, is_identifier, is_reserved, place_of, place_text,
     places_are_read, same_place, same_request,
 };

@@ -85,4 +85,19 @@ impl Func {
                 | Func::ReadMap
         )
     }
+
+    /// Whether the function reads what the command of a task wrote.
+    pub fn reads_text(self) -> bool
+        ensures { result ≡ table.reads_text self }
+    {
+        matches!(
+            self,
+            Func::ReadString
+                | Func::ReadLines
+                | Func::ReadInt
+                | Func::ReadBoolean
+                | Func::ReadTsv
+                | Func::ReadMap
+        )
+    }
 }

@@ -1,6 +1,6 @@
 -- A keeper through a run.
 use Rattle.std.proofs.Common.{◌≡◌, ℕ, ◌+◌, ◌-◌, ◌^◌, ◌≤◌, List, [], ◌∷◌, ◌++◌, Bool, true, false, ◌&&◌, ◌==◌, Contains, Option, Some, None, is_some, true≢false, ap, sym, refl, subst, inl, inr, arith, ◌∙◌, ◌⊎◌, min}
-use Rattle.std.specs.Prelude.{is_none}
+use Rattle.std.specs.Prelude.{Result, Err, is_none}
 use Rattle.std.specs.Ordering.{is_lt, nat_cmp, ordering_then}
 use Rattle.std.specs.Cmp.Lexicographic.{slice_cmp}
 use Rattle.std.specs.declared.cmp.Ordering.{Ordering}
@@ -9,6 +9,7 @@ use Rattle.std.proofs.lemmas.Bool.{and_from, and_parts, false≢true, or_left, o
 use Rattle.std.proofs.lemmas.Bool.Decides.{Decides-eqb}
 use Rattle.std.proofs.lemmas.List.Elements.{Contains-append_cases, Contains-append_right}
 use Rattle.std.proofs.lemmas.List.Folds.{list_any-append}
+use Rattle.std.proofs.lemmas.Option.{same_Some}
 use Rattle.std.proofs.lemmas.Map.Lookups.{exact_bytes, exact_unsigned}
 use Rattle.std.proofs.Math.Nat.{le-min, min-le_left, min-le_right}
 use Rattle.wdl_base.specs.declared.answer.Answer.{Answer}
@@ -22,7 +23,9 @@ use Rattle.wdl_base.specs.Same.{same_place, same_request}
 use Rattle.wdl_base.proofs.PlaceLemmas as places
 use Rattle.wdl_value.specs.Tables.{has_row, table}
 use Rattle.wdl_typed.specs.Requests.{is_success}
-use Rattle.wdl_port.specs.Causes.{Rose}
+use Rattle.wdl_port.specs.Causes.{HasCauseOf, Rose}
+use Rattle.wdl_port.specs.declared.fault.KeepFault.{KeepFault}
+use Rattle.wdl_port.specs.declared.fault.KeepFault.TheVariants as keeping
 use Rattle.wdl_port.specs.Rows.{are_kept, is_kept, kept_row, placed, put_row, request_order, row_order, with_entry}
 use Rattle.flow_laws.proofs.Elements.{contains_first, contains_later, first_or_later, none_within, only_one}
 use Rattle.flow_laws.proofs.SameRequests.{place_itself, request_same}
@@ -34,10 +37,10 @@ use Rattle.ready_core.specs.HandsBack.{HandsBack, IsUnsettled}
 use Rattle.ready_core.specs.Rows.{TakenJob, is_usable, kept_as}
 use Rattle.work_desk.specs.declared.stop.Stop.{Stop}
 use Rattle.work_desk.specs.declared.stop.Stop.TheVariants.{Failed, NoMemory, Launch, Keep, TooMany}
-use Rattle.work_desk.specs.Keeping.{AreFrom, AreKept, AreLeft, ArePlaced, Holding, IsReady, KeeperView, RowsWent, Went}
+use Rattle.work_desk.specs.Keeping.{AreFrom, AreKept, AreLeft, ArePlaced, Holding, IsReady, IsThere, KeeperView, RowsWent, Went}
 use Rattle.work_desk.specs.Run.{Tells}
 use Rattle.work_desk.specs.Settling.{Settling}
-use Rattle.work_desk.specs.Stops.{Judges, NotKeep, halted}
+use Rattle.work_desk.specs.Stops.{Judges, NotKeep, halted, noted, stop_of}
 use Rattle.ready_core.proofs.Counted.{requested as job_of}
 
 -- ---- stops
@@ -50,10 +53,53 @@ pub halted_keeps : (s : Option Stop) → NotKeep s (halted s NoMemory)
 halted_keeps None = record { keep = λ e. cc; stays = λ e. refl }
 halted_keeps (Some s) = record { keep = λ e. e; stays = λ e. e }
 
+-- ---- the core that notes a stop
+
+pub noted_itself : (s : Option Stop) (c : CoreState) → c ≡ noted s s c
+noted_itself None c = refl
+noted_itself (Some s) c = refl
+
+pub noted_origin : (s t : Option Stop) (c : CoreState) → (noted s t c).origin ≡ c.origin
+noted_origin None None c = refl
+noted_origin None (Some t) c = refl
+noted_origin (Some s) t c = refl
+
+pub settling_noted : (e : Entry) (c d : CoreState) (s t a b : Option Stop) → Settling e c s d t → Settling e c s (noted a b d) t
+settling_noted e c d s t None None h = h
+settling_noted e c d s t None (Some b) h = record { held = h.held; origin = h.origin; taken = h.taken; journal = h.journal; stop = h.stop }
+settling_noted e c d s t (Some a) b h = h
+
+pub settling_before : (e : Entry) (c d : CoreState) (s t a b : Option Stop) → Settling e (noted a b c) s d t → Settling e c s d t
+settling_before e c d s t None None h = h
+settling_before e c d s t None (Some b) h = record { held = h.held; origin = h.origin; taken = h.taken; journal = h.journal; stop = h.stop }
+settling_before e c d s t (Some a) b h = h
+
+pub went_noted : (g : Request → Answer → Type 0) (c : CoreState) (s a b : Option Stop) (k l : KeeperView) → Went g c s k l → Went g (noted a b c) s k l
+went_noted g c s None None k l w = w
+went_noted g c s None (Some b) k l w =
+    record {
+      path = w.path;
+      faults = w.faults;
+      keep = w.keep;
+      told = w.told;
+      rows = λ before after p q. let r = w.rows before after p q in record { from = r.from; left = r.left; journal = r.journal };
+    }
+went_noted g c s (Some a) b k l w = w
+
+pub hold_noted : (g : Request → Answer → Type 0) (rows : List Entry) (k : KeeperView) (c : CoreState) (s a b : Option Stop) (l : KeeperView) → Holding g rows k c s l → Holding g rows k (noted a b c) s l
+hold_noted g rows k c s None None l h = h
+hold_noted g rows k c s None (Some b) l h = record { ready = h.ready; placed = h.placed; settled = h.settled; went = went_noted g c s None (Some b) k l h.went }
+hold_noted g rows k c s (Some a) b l h = h
+
 -- ---- counts of faults
 
 rose_later : (f g h : ℕ) → Rose f g → g ≤ h → Rose f h
 rose_later f g h rose later = omega (arith, rose, later)
+
+-- the keeper failed where it stops the run
+pub rose_asked : (f g : ℕ) (r : Result Bool KeepFault) (fault : KeepFault) → HasCauseOf f g r keeping.Failed → r ≡ Err fault → stop_of fault ≡ Keep → Rose f g
+rose_asked f g r keeping.Failed h is e = h.failed is
+rose_asked f g r keeping.NoMemory h is e = cc
 
 rose_before : (f g h : ℕ) → f ≤ g → Rose g h → Rose f h
 rose_before f g h earlier rose =
@@ -102,15 +148,19 @@ unsettled_well c d e s held same = record {
   stop = halted_keeps s;
 }
 
+-- what was launched was not kept
+pub launched_kept : Launched ≡ Kept → ⊥
+launched_kept e = cc
+
 pub taken_itself : (c d : CoreState) (j : TakenJob) → Takes c j d → Contains d.taken j
 taken_itself c d j t = subst (λ (x : CoreState). Contains x.taken j) (sym t.after) (Contains-append_right c.taken (j ∷ []) j (contains_first j []))
 
+pub usable_asks : (row : Entry) (j : TakenJob) → is_usable j row ≡ true → row.request ≡ j.request
+usable_asks row j usable = request_same row.request j.request (and_parts (same_request row.request j.request) (is_success j.codes row.answer.status) usable).0
+
 -- the row of an entry that was made of a usable row
-pub kept_row_of : (rows : List Entry) (row : Entry) (j : TakenJob) (e : Entry) → Contains rows row → are_kept rows ≡ true → is_usable j row ≡ true → e ≡ kept_as j.request row.answer → Contains rows (kept_row e)
-kept_row_of rows row j e at kept usable is =
-    let asked = request_same row.request j.request (and_parts (same_request row.request j.request) (is_success j.codes row.answer.status) usable).0 in
-    let same : row ≡ kept_row e = row_is (source_kept row.source (kept_source rows row kept at)) asked ∙ sym (ap kept_row is) in
-    subst (Contains rows) same at
+pub kept_row_is : (rows : List Entry) (row : Entry) (j : TakenJob) (e : Entry) → Contains rows row → are_kept rows ≡ true → is_usable j row ≡ true → e ≡ kept_as j.request row.answer → row ≡ kept_row e
+kept_row_is rows row j e at kept usable is = row_is (source_kept row.source (kept_source rows row kept at)) (usable_asks row j usable) ∙ sym (ap kept_row is)
   where
     source_kept : (s : Source) → is_kept s ≡ true → s ≡ Kept
     source_kept Kept h = refl
@@ -202,7 +252,7 @@ untaken_before : (taken : List TakenJob) (j : TakenJob) (r : Request) → is_tak
 untaken_before taken j r h = (or_parts _ _ (sym (list_any-append (λ (x : TakenJob). same_place x.request.place r.place && x.request.attempt == r.attempt) taken (j ∷ [])) ∙ h)).0
 
 -- what has the place and attempt of a taken job was taken
-taken_at : (taken : List TakenJob) (r s : Request) → Contains (requests taken) r → r.place ≡ s.place → r.attempt ≡ s.attempt → is_taken taken s ≡ true
+pub taken_at : (taken : List TakenJob) (r s : Request) → Contains (requests taken) r → r.place ≡ s.place → r.attempt ≡ s.attempt → is_taken taken s ≡ true
 taken_at [] r s c p a = absurd (none_within r c)
 taken_at (x ∷ xs) r s c p a = by_case (λ d. taken_at xs r s d p a) (first_or_later x.request (requests xs) r c)
   where
@@ -217,7 +267,7 @@ taken_at (x ∷ xs) r s c p a = by_case (λ d. taken_at xs r s d p a) (first_or_
     by_case rest (inr d) = or_right (test x.request) (is_taken xs s) (rest d)
 
 -- what has the place and attempt of an entry has a row in its journal
-row_at : (journal : List Entry) (e : Entry) (r : Request) → Contains journal e → e.request.place ≡ r.place → e.request.attempt ≡ r.attempt → has_row (table journal) r.place r.attempt ≡ true
+pub row_at : (journal : List Entry) (e : Entry) (r : Request) → Contains journal e → e.request.place ≡ r.place → e.request.attempt ≡ r.attempt → has_row (table journal) r.place r.attempt ≡ true
 row_at [] e r c p a = absurd (none_within e c)
 row_at (x ∷ xs) e r c p a = by_case (λ d. row_at xs e r d p a) (first_or_later x xs e c)
   where
@@ -326,13 +376,20 @@ module _ (gives : Request → Answer → Type 0) (rows : List Entry) (k : Keeper
     };
   }
 
-  -- a job is taken, and settled by its row
-  pub hold_kept : (c b d : CoreState) (s t : Option Stop) (l : KeeperView) (j : TakenJob) (e : Entry) → Holding gives rows k c s l → Takes c j b → e.request ≡ j.request
-      → Contains rows (kept_row e) → Settling e b s d t → Holding gives rows k d t l
-  unfolding AreLeft ArePlaced
-  hold_kept c b d s t l j e h take asked row g =
-      hold_grown b d s t l e (hold_taken c b s l j h take) g (h.placed (kept_row e) row)
-      (λ before after p q whole. (h.went.rows before after p q).left (kept_row e) (subst (λ (xs : List Entry). Contains xs (kept_row e)) (h.ready.told before p) row) (ap (is_taken c.taken) asked ∙ take.may.1))
+  -- the row of a job that was not taken stands there still
+  pub there_still : (c : CoreState) (s : Option Stop) (l : KeeperView) (j : TakenJob) (row : Entry) → Holding gives rows k c s l → Contains rows row → row.request ≡ j.request
+      → is_taken c.taken j.request ≡ false → IsThere row l
+  unfolding AreLeft
+  there_still c s l j row h at asked untaken told q =
+      let o = told_before k.kept l.kept h.went.told told q in
+      (h.went.rows o.0 told o.1 q).left row (subst (λ (xs : List Entry). Contains xs row) (h.ready.told o.0 o.1) at) (ap (is_taken c.taken) asked ∙ untaken)
+
+  -- a job is settled by its row
+  pub hold_kept : (c d : CoreState) (s t : Option Stop) (l : KeeperView) (row e : Entry) → Holding gives rows k c s l → Contains rows row → IsThere row l → row ≡ kept_row e
+      → Settling e c s d t → Holding gives rows k d t l
+  unfolding ArePlaced
+  hold_kept c d s t l row e h at there same g =
+      hold_grown c d s t l e h g (subst (λ (x : Entry). IsPlace x.request.place) same (h.placed row at)) (λ before after p q whole. subst (Contains after) same (there after q))
 
   -- an answer is put into the keeper
   hold_put : (c : CoreState) (s : Option Stop) (l m : KeeperView) (e : Entry) → Holding gives rows k c s l → m.path ≡ l.path → l.faults ≤ m.faults → m.kept ≡ with_entry l.kept e
@@ -390,6 +447,22 @@ module _ (gives : Request → Answer → Type 0) (rows : List Entry) (k : Keeper
       };
     };
   }
+
+  -- a job is taken, and the keeper is asked for its row
+  pub hold_asked : (c d : CoreState) (s : Option Stop) (l m : KeeperView) (j : TakenJob) → Holding gives rows k c s l → Takes c j d → m.path ≡ l.path → l.faults ≤ m.faults → m.kept ≡ l.kept
+      → Holding gives rows k d s m
+  hold_asked c d s l m j h t path later same = hold_left d s s l m (hold_taken c d s l j h t) path later same (λ e. inl e) (λ none. none)
+
+  -- and does not answer
+  pub hold_unasked : (c d : CoreState) (s : Option Stop) (why : Stop) (l m : KeeperView) (j : TakenJob) → Holding gives rows k c s l → Takes c j d → m.path ≡ l.path → l.faults ≤ m.faults → m.kept ≡ l.kept
+      → (why ≡ Keep → Rose l.faults m.faults) → Holding gives rows k (noted s (halted s why) d) (halted s why) m
+  hold_unasked c d s why l m j h t path later same rose =
+      hold_noted gives rows k d (halted s why) s (halted s why) m
+      (hold_left d s (halted s why) l m (hold_taken c d s l j h t) path later same (by_stop s) (λ none. absurd (halted_none s why none)))
+    where
+      by_stop : (x : Option Stop) → halted x why ≡ Some Keep → (x ≡ Some Keep) ⊎ Rose l.faults m.faults
+      by_stop None e = inr (rose (same_Some _ _ e))
+      by_stop (Some x) e = inl e
 
   -- the keeper failed, and the answer is settled all the same
   pub hold_failed : (c d : CoreState) (s t : Option Stop) (l m : KeeperView) (e : Entry) → Holding gives rows k c s l → m.path ≡ l.path → l.faults ≤ m.faults → m.kept ≡ l.kept → Rose l.faults m.faults

@@ -1,3 +1,4 @@
+pub mod Due
 pub mod Flows
 pub mod Greed
 pub mod Kept

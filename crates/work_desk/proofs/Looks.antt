@@ -1,11 +1,11 @@
 -- Rows by place and attempt.
-use Rattle.std.proofs.Common.{◌≡◌, ℕ, Bool, true, false, cond, ◌||◌, List, [], ◌∷◌, Contains, Option, Some, None, drop, sym, ap, ◌∙◌, subst, refl}
+use Rattle.std.proofs.Common.{◌≡◌, ◌⊎◌, inl, inr, ℕ, Bool, true, false, cond, ◌||◌, List, [], ◌∷◌, Contains, Option, Some, None, drop, sym, ap, ◌∙◌, subst, refl}
 use Rattle.std.specs.declared.cmp.Ordering.{Ordering}
 use Rattle.std.specs.declared.cmp.Ordering.TheVariants.{Less, Equal, Greater}
 use Rattle.std.specs.Ordering.{is_lt, ordering_reverse}
 use Rattle.std.specs.Prelude.{All, MatchOption}
 use Rattle.std.proofs.lemmas.List.Elements.{All-contains}
-use Rattle.std.proofs.lemmas.Bool.{and_parts, false_from_ne_true, false≢true}
+use Rattle.std.proofs.lemmas.Bool.{and_parts, false_from_ne_true, false≢true, or_parts}
 use Rattle.wdl_base.specs.declared.entry.Entry.{Entry}
 use Rattle.wdl_base.specs.declared.place.Segment.{Segment}
 use Rattle.wdl_base.specs.declared.request.Request.{Request}
@@ -18,7 +18,7 @@ use Rattle.wdl_flow.specs.Marks.{entry_mark, entry_marks, place_mark}
 use Rattle.wdl_flow.proofs.Skip.{apart, skip}
 use Rattle.wdl_port.specs.Rows.{is_under, request_order, rises, row_order}
 use Rattle.wdl_port.proofs.RowLemmas.{row_total, less}
-use Rattle.flow_laws.proofs.Elements.{contains_first, contains_later}
+use Rattle.flow_laws.proofs.Elements.{contains_first, contains_later, first_or_later, none_within}
 use Rattle.flow_laws.proofs.Rows.{at_itself, at_same}
 use Rattle.flow_laws.proofs.SameRequests.{request_same}
 use Rattle.ready_core.specs.Rows.{TakenJob, is_usable}
@@ -69,6 +69,36 @@ module _ (j : TakenJob) (x : Entry) (here : is_at j.request.place j.request.atte
   none_after (y ∷ ys) u r =
       let p = and_parts (is_under y ys) (rises ys) r in
       ap (λ b. b || usable ys j) (not_after y u) ∙ none_after ys (under_next x y ys u p.0) p.1
+
+pub no_usable : (rows : List Entry) (j : TakenJob) (row : Entry) → usable rows j ≡ false → Contains rows row → is_usable j row ≡ true → ⊥
+no_usable [] j row h c u = absurd (none_within row c)
+no_usable (x ∷ xs) j row h c u = by_case (no_usable xs j row p.1) (first_or_later x xs row c)
+  where
+    p : (is_usable j x ≡ false) × (usable xs j ≡ false)
+    p = or_parts (is_usable j x) (usable xs j) h
+
+    by_case : (Contains xs row → is_usable j row ≡ true → ⊥) → (x ≡ row) ⊎ Contains xs row → ⊥
+    by_case rest (inl same) = false≢true (sym p.0 ∙ ap (is_usable j) same ∙ u)
+    by_case rest (inr d) = rest d u
+
+pub one_usable : (rows : List Entry) (j : TakenJob) (x y : Entry) → rises rows ≡ true → Contains rows x → is_usable j x ≡ true → Contains rows y → is_usable j y ≡ true → y ≡ x
+one_usable [] j x y h c u d v = absurd (none_within x c)
+one_usable (z ∷ zs) j x y h c u d v = by_case (λ a b. one_usable zs j x y p.1 a u b v) (first_or_later z zs x c) (first_or_later z zs y d)
+  where
+    p : (is_under z zs ≡ true) × (rises zs ≡ true)
+    p = and_parts (is_under z zs) (rises zs) h
+
+    here : is_usable j z ≡ true → is_at j.request.place j.request.attempt (row_of z) ≡ true
+    here e = ap (λ (r : Request). is_at r.place r.attempt (row_of z)) (sym (asks_same j z e)) ∙ at_itself (row_of z)
+
+    none : (w : Entry) → is_usable j z ≡ true → Contains zs w → is_usable j w ≡ true → ⊥
+    none w e at k = no_usable zs j w (none_after j z (here e) zs p.0 p.1) at k
+
+    by_case : (Contains zs x → Contains zs y → y ≡ x) → (z ≡ x) ⊎ Contains zs x → (z ≡ y) ⊎ Contains zs y → y ≡ x
+    by_case rest (inl a) (inl b) = sym b ∙ a
+    by_case rest (inl a) (inr b) = absurd (none y (ap (is_usable j) a ∙ u) b v)
+    by_case rest (inr a) (inl b) = absurd (none x (ap (is_usable j) b ∙ v) a u)
+    by_case rest (inr a) (inr b) = rest a b
 
 abbrev pub Looks : List Entry → TakenJob → Option Entry → Type 0
 Looks rows j o = MatchOption o (usable rows j ≡ false) (λ row. Contains rows row × (usable rows j ≡ is_usable j row))

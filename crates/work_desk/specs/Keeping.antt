@@ -1,5 +1,5 @@
 -- What becomes of a keeper.
-use Rattle.std.specs.Prelude.{◌≡◌, ℕ, false, ◌≤◌, ◌⊎◌, List, Contains, Option, Some, None, IsSome, is_some}
+use Rattle.std.specs.Prelude.{◌≡◌, ℕ, Bool, false, ◌≤◌, ◌⊎◌, List, Contains, Option, Some, None, IsSome, is_some}
 use Rattle.wdl_base.specs.declared.answer.Answer.{Answer}
 use Rattle.wdl_base.specs.declared.entry.Entry.{Entry}
 use Rattle.wdl_base.specs.declared.request.Request.{Request}
@@ -23,6 +23,11 @@ pub record KeeperView : Type 0 where
 
 abbrev pub keeper_view : Option (List Entry) → Option (List ℕ) → ℕ → KeeperView
 keeper_view kept path faults = record { kept = kept; path = path; faults = faults }
+
+-- what lapses in a keeper, if there is one
+abbrev pub lapses_in : {K : Type 0} → (K → Entry → Bool) → Option K → Entry → Bool
+lapses_in lapses None row = false
+lapses_in lapses (Some k) row = lapses k row
 
 -- the keeper was started, and these are its rows where they are told
 pub record IsReady (rows : List Entry) (k : KeeperView) : Type 0 where
@@ -71,6 +76,10 @@ pub record Holding (gives : Request → Answer → Type 0) (rows : List Entry) (
 abbrev pub Holds : (Request → Answer → Type 0) → List Entry → CoreState → Option Stop → KeeperView → CoreState → Option Stop → KeeperView → Type 0
 Holds gives rows c s k d t l = (begin : KeeperView) → Holding gives rows begin c s k → Holding gives rows begin d t l
 
--- the same, of any keeper that is not called
-abbrev pub HoldsAny : (Request → Answer → Type 0) → List Entry → CoreState → Option Stop → CoreState → Option Stop → Type 0
-HoldsAny gives rows c s d t = (k : KeeperView) → Holds gives rows c s k d t k
+-- the row stands there, where the rows are told
+abbrev pub IsThere : Entry → KeeperView → Type 0
+IsThere row k = (told : List Entry) → k.kept ≡ Some told → Contains told row
+
+-- the same, of any keeper that is not called and has this row
+abbrev pub HoldsBeside : (Request → Answer → Type 0) → List Entry → Entry → CoreState → Option Stop → CoreState → Option Stop → Type 0
+HoldsBeside gives rows row c s d t = (k : KeeperView) → IsThere row k → Holds gives rows c s k d t k

@@ -1,25 +1,39 @@
 -- Why a run stops.
-use Rattle.std.specs.Prelude.{◌≡◌, Bool, true, false, Option, Some, None, Contains, ⊤}
+use Rattle.std.specs.Prelude.{◌≡◌, ℕ, true, false, Option, Some, None, Contains, ⊤}
 use Rattle.wdl_base.specs.declared.request.Request.{Request}
+use Rattle.wdl_port.specs.declared.fault.KeepFault.{KeepFault}
+use Rattle.wdl_port.specs.declared.fault.KeepFault.TheVariants as fault
 use Rattle.wdl_typed.specs.Flow.{too_many}
-use Rattle.ready_core.specs.Cores.{CoreState, flow_of, has_fault}
+use Rattle.ready_core.specs.Cores.{CoreState, flow_of, has_fault, stopped}
 use Rattle.ready_core.specs.Rows.{TakenJob}
 use Rattle.work_desk.specs.declared.stop.Stop.{Stop}
 use Rattle.work_desk.specs.declared.stop.Stop.TheVariants.{Failed, NoMemory, Launch, Keep, TooMany}
-
--- after such a stop `greedy` is asked of every step
-abbrev pub is_strict : Option Stop → Bool
-is_strict None = true
-is_strict (Some Failed) = true
-is_strict (Some TooMany) = true
-is_strict (Some NoMemory) = false
-is_strict (Some Keep) = false
-is_strict (Some (Launch p)) = false
 
 -- the first stop stays
 abbrev pub halted : Option Stop → Stop → Option Stop
 halted None why = Some why
 halted (Some s) why = Some s
+
+-- why a run stops at a fault of the keeper
+abbrev pub stop_of : KeepFault → Stop
+stop_of fault.Failed = Keep
+stop_of fault.NoMemory = NoMemory
+
+-- the core notes the first stop
+abbrev pub noted : Option Stop → Option Stop → CoreState → CoreState
+noted None None c = c
+noted None (Some why) c = stopped c
+noted (Some s) t c = c
+
+-- How many jobs may have been taken and neither put on the desk nor settled: the one whose row was looked at where the keeper
+-- failed or memory was wanting.
+abbrev pub most_aside : Option Stop → ℕ
+most_aside None = 0
+most_aside (Some Failed) = 0
+most_aside (Some TooMany) = 0
+most_aside (Some (Launch p)) = 0
+most_aside (Some Keep) = 1
+most_aside (Some NoMemory) = 1
 
 -- The stop after a look at the flow over the journal: the first one stays, and without one there is none in the flow.
 abbrev pub Judges : CoreState → Option Stop → Option Stop → Type 0

@@ -1,16 +1,18 @@
-ghost use Rattle.std.specs.Prelude.{◌≡◌, ◌<◌, true, None, Some, IsSome, length};
+ghost use Rattle.std.specs.Prelude.{◌≡◌, ◌<◌, ◌+◌, ◌∷◌, [], true, None, Some, IsSome, Contains, length};
 ghost use Rattle.std.specs.Bool.{OnFalse};
-ghost use Rattle.wdl_base.specs.declared.entry.Source.TheVariants.{Launched};
+ghost use Rattle.wdl_base.specs.declared.entry.Source.TheVariants.{Kept, Launched};
+ghost use Rattle.wdl_port.specs.Rows.{are_kept};
 ghost use Rattle.ready_core.specs.Cores.{AreHeld, idle_at, started};
 ghost use Rattle.ready_core.specs.Launches.{Refusal};
+ghost use Rattle.ready_core.specs.Rows.{is_usable};
 ghost use Rattle.work_desk.specs.Greedy.{Busy};
 ghost use Rattle.work_desk.specs.Held.{held};
-ghost use Rattle.work_desk.specs.Keeping.{Holds, HoldsAny, keeper_view};
+ghost use Rattle.work_desk.specs.Keeping.{Holds, HoldsBeside, keeper_view};
 ghost use Rattle.work_desk.specs.Paying.{StaysPaid};
 ghost use Rattle.work_desk.specs.Ran.{IsDone};
-ghost use Rattle.work_desk.specs.Run.{IsGiven, IsRun, Tells};
+ghost use Rattle.work_desk.specs.Run.{IsGiven, IsRun, Tells, answer_in_hand, job_in_hand};
 ghost use Rattle.work_desk.specs.Settling.{Settling};
-ghost use Rattle.work_desk.specs.Stops.{NotKeep, is_strict};
+ghost use Rattle.work_desk.specs.Stops.{NotKeep, noted};
 ghost use Rattle.work_desk.specs.Views.{Good};
 
 use crate::desk::Desk;
@@ -19,14 +21,14 @@ use crate::placed::see_place;
 use crate::progress::Progress;
 use crate::rows::Rows;
 use crate::state::Finished;
-use crate::stop::{Stop, halt, judge};
+use crate::stop::{Stop, halt, judge, stop_of};
 use crate::worker::{launch, wait_for_good};
 use ready_core::{Answered, Core, Job, SettleFault, Unlaunched};
 use std::alloc::Global;
 use std::sync::Wait;
 use std::sync::ledger::Ledger;
 use wdl_port::{KeepFault, Keeper, LaunchFault, Launcher};
-use wdl_value::{Steps, copy_place};
+use wdl_value::{Entry, Steps, copy_place};
 
 /// What the caller of a run has: the core and the shares of the desk's ledgers, which are its own
 /// alone, and the first stop.
@@ -48,78 +50,132 @@ impl<P: Pact> Caller<P> {
         progress: &mut O,
         steps: &mut Steps<S>,
     )
-        requires run { IsRun P.workers P.gives P.refuses rows.now 1 self.old.core self.old.shares self.old.stop }
+        requires run { IsRun P.workers P.gives P.refuses P.lapses rows.now (job_in_hand answered.source answered.request) (answer_in_hand answered.source) self.old.core self.old.shares self.old.stop }
+        requires goes_on { answered.source ≡ Kept → self.old.stop ≡ None }
         requires given { IsGiven P.gives rows.now self.old.core.taken answered }
-        requires eager { answered.source ≡ Launched → is_strict self.old.stop ≡ true → Busy self.old.core.origin P.workers self.old.core.journal self.old.core.taken }
-        ensures run { IsRun P.workers P.gives P.refuses rows.now 0 self.new.core self.new.shares self.new.stop }
+        requires eager { answered.source ≡ Launched → self.old.stop ≡ None → Busy self.old.core.origin P.workers self.old.core.journal self.old.core.taken }
+        ensures run { IsRun P.workers P.gives P.refuses P.lapses rows.now [] 0 self.new.core self.new.shares self.new.stop }
         ensures shares { self.new.shares ≡ self.old.shares }
         ensures settling { Settling answered self.old.core self.old.stop self.new.core self.new.stop }
         ensures paid { StaysPaid self.old.core self.old.stop steps.old self.new.core self.new.stop steps.new }
     {
         match self.core.settle(alloc, answered, steps) {
-            Ok(()) => judge(&mut self.stop, &self.core),
-            Err(SettleFault::NoMemory(_)) => halt(&mut self.stop, Stop::NoMemory),
+            Ok(()) => judge(&mut self.core, &mut self.stop),
+            Err(SettleFault::NoMemory(_)) => halt(&mut self.core, &mut self.stop, Stop::NoMemory),
             Err(SettleFault::Stranger(_)) => wait_for_good(rt),
         }
     }
 
-    // Takes a job, if one is to be taken, and puts it on the desk, or settles it by its row. False
-    // where there was none.
-    fn take_one<O: Progress, S: Ledger, R: Wait>(
+    // Puts a job on the desk, to be launched.
+    fn begin<O: Progress, R: Wait>(&mut self, rt: &R, desk: &Desk<P>, job: Job, progress: &mut O)
+        requires out { self.old.shares.put < self.old.shares.collected + P.workers }
+        requires few { self.old.shares.put < 20000 }
+        ensures core { self.new.core ≡ self.old.core }
+        ensures stop { self.new.stop ≡ self.old.stop }
+        ensures shares { self.new.shares ≡ held (self.old.shares.put + 1) self.old.shares.collected }
+    {
+        progress.began(&job);
+        desk.put(rt, job, &mut self.shares);
+    }
+
+    // Settles a job that was taken by the row that stands for it.
+    fn reuse<O: Progress, S: Ledger, R: Wait>(
         &mut self,
         rt: &R,
         alloc: Global,
-        desk: &Desk<P>,
         rows: &Rows,
+        job: Job,
+        row: &Entry,
         progress: &mut O,
         steps: &mut Steps<S>,
-    ) -> bool
-        requires run { IsRun P.workers P.gives P.refuses rows.now 0 self.old.core self.old.shares self.old.stop }
+    )
+        requires run { IsRun P.workers P.gives P.refuses P.lapses rows.now (job.request ∷ []) 0 self.old.core self.old.shares self.old.stop }
         requires goes_on { self.old.stop ≡ None }
-        requires free { length self.old.core.out < P.workers }
-        ensures run { IsRun P.workers P.gives P.refuses rows.now 0 self.new.core self.new.shares self.new.stop }
+        requires taken { Contains self.old.core.taken job }
+        requires row { Contains rows.now row.now }
+        requires usable { is_usable job row.now ≡ true }
+        requires kept { are_kept rows.now ≡ true }
+        ensures run { IsRun P.workers P.gives P.refuses P.lapses rows.now [] 0 self.new.core self.new.shares self.new.stop }
         ensures origin { self.new.core.origin ≡ self.old.core.origin }
-        ensures holds { HoldsAny P.gives rows.now self.old.core self.old.stop self.new.core self.new.stop }
+        ensures holds { HoldsBeside P.gives rows.now row.now self.old.core self.old.stop self.new.core self.new.stop }
         ensures paid { StaysPaid self.old.core self.old.stop steps.old self.new.core self.new.stop steps.new }
-        ensures idle { OnFalse result ((idle_at self.new.core ≡ true) × (self.new.core ≡ self.old.core)) }
     {
-        let Some(job) = self.core.take() else {
-            return false;
-        };
-        let Some(found) = rows.find(&job) else {
-            progress.began(&job);
-            desk.put(rt, job, &mut self.shares);
-            return true;
-        };
-        let Ok(row) = found.copy(alloc) else {
-            halt(&mut self.stop, Stop::NoMemory);
-            return true;
+        let Ok(row) = row.copy(alloc) else {
+            halt(&mut self.core, &mut self.stop, Stop::NoMemory);
+            return;
         };
         let Ok(answered) = job.kept(row) else {
             unreachable!();
         };
         progress.kept(answered.entry());
         self.settle(rt, alloc, rows, answered, progress, steps);
+    }
+
+    // Takes a job, if one is to be taken, and settles it by its row, if that stands, or puts it on
+    // the desk. False where there was none.
+    fn take_one<K: Keeper, O: Progress, S: Ledger, R: Wait>(
+        &mut self,
+        rt: &R,
+        alloc: Global,
+        desk: &Desk<P>,
+        rows: &Rows,
+        keeper: &mut K,
+        progress: &mut O,
+        steps: &mut Steps<S>,
+    ) -> bool
+        requires run { IsRun P.workers P.gives P.refuses P.lapses rows.now [] 0 self.old.core self.old.shares self.old.stop }
+        requires goes_on { self.old.stop ≡ None }
+        requires free { length self.old.core.out < P.workers }
+        requires started { IsSome (K.path keeper.old) }
+        requires lapses { K.lapses keeper.old ≡ P.lapses }
+        ensures run { IsRun P.workers P.gives P.refuses P.lapses rows.now [] 0 self.new.core self.new.shares self.new.stop }
+        ensures origin { self.new.core.origin ≡ self.old.core.origin }
+        ensures path { K.path keeper.new ≡ K.path keeper.old }
+        ensures lapses { K.lapses keeper.new ≡ K.lapses keeper.old }
+        ensures holds { Holds P.gives rows.now self.old.core self.old.stop (keeper_view (K.kept keeper.old) (K.path keeper.old) (K.faults keeper.old)) self.new.core self.new.stop (keeper_view (K.kept keeper.new) (K.path keeper.new) (K.faults keeper.new)) }
+        ensures paid { StaysPaid self.old.core self.old.stop steps.old self.new.core self.new.stop steps.new }
+        ensures idle { OnFalse result ((idle_at self.new.core ≡ true) × (self.new.core ≡ self.old.core)) }
+    {
+        let Some(job) = self.core.take() else {
+            return false;
+        };
+        let Some(row) = rows.find(&job) else {
+            self.begin(rt, desk, job, progress);
+            return true;
+        };
+        match keeper.stands(alloc, row) {
+            Ok(true) => self.reuse(rt, alloc, rows, job, row, progress, steps),
+            Ok(false) => {
+                progress.lapsed(job.request());
+                self.begin(rt, desk, job, progress);
+            }
+            Err(fault) => halt(&mut self.core, &mut self.stop, stop_of(fault)),
+        }
         true
     }
 
     // Takes jobs until as many are out as there are workers, or nothing more is to be taken, or the
     // run stops.
-    fn fill<O: Progress, S: Ledger, R: Wait>(
+    fn fill<K: Keeper, O: Progress, S: Ledger, R: Wait>(
         &mut self,
         rt: &R,
         alloc: Global,
         desk: &Desk<P>,
         rows: &Rows,
         workers: u32,
+        keeper: &mut K,
         progress: &mut O,
         steps: &mut Steps<S>,
     )
-        requires run { IsRun P.workers P.gives P.refuses rows.now 0 self.old.core self.old.shares self.old.stop }
+        requires run { IsRun P.workers P.gives P.refuses P.lapses rows.now [] 0 self.old.core self.old.shares self.old.stop }
         requires workers { workers ≡ P.workers }
-        ensures run { IsRun P.workers P.gives P.refuses rows.now 0 self.new.core self.new.shares self.new.stop }
+        requires started { IsSome (K.path keeper.old) }
+        requires lapses { K.lapses keeper.old ≡ P.lapses }
+        ensures run { IsRun P.workers P.gives P.refuses P.lapses rows.now [] 0 self.new.core self.new.shares self.new.stop }
         ensures origin { self.new.core.origin ≡ self.old.core.origin }
-        ensures holds { HoldsAny P.gives rows.now self.old.core self.old.stop self.new.core self.new.stop }
+        ensures path { K.path keeper.new ≡ K.path keeper.old }
+        ensures lapses { K.lapses keeper.new ≡ K.lapses keeper.old }
+        ensures holds { Holds P.gives rows.now self.old.core self.old.stop (keeper_view (K.kept keeper.old) (K.path keeper.old) (K.faults keeper.old)) self.new.core self.new.stop (keeper_view (K.kept keeper.new) (K.path keeper.new) (K.faults keeper.new)) }
         ensures busy { self.new.stop ≡ None → Busy self.new.core.origin P.workers self.new.core.journal self.new.core.taken }
         ensures paid { StaysPaid self.old.core self.old.stop steps.old self.new.core self.new.stop steps.new }
         ensures held { AreHeld self.new.core }
@@ -132,7 +188,7 @@ impl<P: Pact> Caller<P> {
             if out >= workers {
                 return;
             }
-            if !self.take_one(rt, alloc, desk, rows, progress, steps) {
+            if !self.take_one(rt, alloc, desk, rows, keeper, progress, steps) {
                 return;
             }
         }
@@ -150,16 +206,17 @@ impl<P: Pact> Caller<P> {
         progress: &mut O,
         steps: &mut Steps<S>,
     )
-        requires run { IsRun P.workers P.gives P.refuses rows.now 1 self.old.core self.old.shares self.old.stop }
+        requires run { IsRun P.workers P.gives P.refuses P.lapses rows.now [] 1 self.old.core self.old.shares self.old.stop }
         requires launched { answered.source ≡ Launched }
         requires given { P.gives answered.request answered.answer }
         requires busy { self.old.stop ≡ None → Busy self.old.core.origin P.workers self.old.core.journal self.old.core.taken }
         requires held { AreHeld self.old.core }
         requires started { IsSome (K.path keeper.old) }
-        ensures run { IsRun P.workers P.gives P.refuses rows.now 0 self.new.core self.new.shares self.new.stop }
+        ensures run { IsRun P.workers P.gives P.refuses P.lapses rows.now [] 0 self.new.core self.new.shares self.new.stop }
         ensures shares { self.new.shares ≡ self.old.shares }
         ensures origin { self.new.core.origin ≡ self.old.core.origin }
         ensures path { K.path keeper.new ≡ K.path keeper.old }
+        ensures lapses { K.lapses keeper.new ≡ K.lapses keeper.old }
         ensures holds { Holds P.gives rows.now self.old.core self.old.stop (keeper_view (K.kept keeper.old) (K.path keeper.old) (K.faults keeper.old)) self.new.core self.new.stop (keeper_view (K.kept keeper.new) (K.path keeper.new) (K.faults keeper.new)) }
         ensures paid { StaysPaid self.old.core self.old.stop steps.old self.new.core self.new.stop steps.new }
     {
@@ -167,21 +224,21 @@ impl<P: Pact> Caller<P> {
         match keeper.put(alloc, answered.entry()) {
             Ok(()) => self.settle(rt, alloc, rows, answered, progress, steps),
             Err(KeepFault::Failed) => {
-                halt(&mut self.stop, Stop::Keep);
+                halt(&mut self.core, &mut self.stop, Stop::Keep);
                 self.settle(rt, alloc, rows, answered, progress, steps);
             }
-            Err(KeepFault::NoMemory) => halt(&mut self.stop, Stop::NoMemory),
+            Err(KeepFault::NoMemory) => halt(&mut self.core, &mut self.stop, Stop::NoMemory),
         }
     }
 
     // Stops at a job that the launcher refused.
     fn refuse<R: Wait>(&mut self, rt: &R, alloc: Global, rows: &Rows, job: Job)
-        requires run { IsRun P.workers P.gives P.refuses rows.now 1 self.old.core self.old.shares self.old.stop }
+        requires run { IsRun P.workers P.gives P.refuses P.lapses rows.now [] 1 self.old.core self.old.shares self.old.stop }
         requires refused { P.refuses job.request }
         requires held { AreHeld self.old.core }
-        ensures run { IsRun P.workers P.gives P.refuses rows.now 0 self.new.core self.new.shares self.new.stop }
+        ensures run { IsRun P.workers P.gives P.refuses P.lapses rows.now [] 0 self.new.core self.new.shares self.new.stop }
         ensures shares { self.new.shares ≡ self.old.shares }
-        ensures core { self.new.core ≡ self.old.core }
+        ensures core { self.new.core ≡ noted self.old.stop self.new.stop self.old.core }
         ensures stop { NotKeep self.old.stop self.new.stop }
     {
         if self.stop.is_some() {
@@ -192,25 +249,25 @@ impl<P: Pact> Caller<P> {
             return;
         }
         match copy_place(alloc, &job.request().place) {
-            Ok(place) => halt(&mut self.stop, Stop::Launch(place)),
-            Err(_) => halt(&mut self.stop, Stop::NoMemory),
+            Ok(place) => halt(&mut self.core, &mut self.stop, Stop::Launch(place)),
+            Err(_) => halt(&mut self.core, &mut self.stop, Stop::NoMemory),
         }
     }
 
     // Stops at a job that was not launched.
     fn give_up<R: Wait>(&mut self, rt: &R, alloc: Global, rows: &Rows, unlaunched: Unlaunched)
-        requires run { IsRun P.workers P.gives P.refuses rows.now 1 self.old.core self.old.shares self.old.stop }
+        requires run { IsRun P.workers P.gives P.refuses P.lapses rows.now [] 1 self.old.core self.old.shares self.old.stop }
         requires good { Refusal unlaunched.fault (P.refuses unlaunched.job.request) }
         requires held { AreHeld self.old.core }
-        ensures run { IsRun P.workers P.gives P.refuses rows.now 0 self.new.core self.new.shares self.new.stop }
+        ensures run { IsRun P.workers P.gives P.refuses P.lapses rows.now [] 0 self.new.core self.new.shares self.new.stop }
         ensures shares { self.new.shares ≡ self.old.shares }
-        ensures core { self.new.core ≡ self.old.core }
+        ensures core { self.new.core ≡ noted self.old.stop self.new.stop self.old.core }
         ensures stop { NotKeep self.old.stop self.new.stop }
     {
         let Unlaunched { job, fault } = unlaunched;
         match fault {
             LaunchFault::Refused => self.refuse(rt, alloc, rows, job),
-            LaunchFault::NoMemory => halt(&mut self.stop, Stop::NoMemory),
+            LaunchFault::NoMemory => halt(&mut self.core, &mut self.stop, Stop::NoMemory),
         }
     }
 
@@ -225,15 +282,16 @@ impl<P: Pact> Caller<P> {
         progress: &mut O,
         steps: &mut Steps<S>,
     )
-        requires run { IsRun P.workers P.gives P.refuses rows.now 1 self.old.core self.old.shares self.old.stop }
+        requires run { IsRun P.workers P.gives P.refuses P.lapses rows.now [] 1 self.old.core self.old.shares self.old.stop }
         requires good { Good P.gives P.refuses finished }
         requires busy { self.old.stop ≡ None → Busy self.old.core.origin P.workers self.old.core.journal self.old.core.taken }
         requires held { AreHeld self.old.core }
         requires started { IsSome (K.path keeper.old) }
-        ensures run { IsRun P.workers P.gives P.refuses rows.now 0 self.new.core self.new.shares self.new.stop }
+        ensures run { IsRun P.workers P.gives P.refuses P.lapses rows.now [] 0 self.new.core self.new.shares self.new.stop }
         ensures shares { self.new.shares ≡ self.old.shares }
         ensures origin { self.new.core.origin ≡ self.old.core.origin }
         ensures path { K.path keeper.new ≡ K.path keeper.old }
+        ensures lapses { K.lapses keeper.new ≡ K.lapses keeper.old }
         ensures holds { Holds P.gives rows.now self.old.core self.old.stop (keeper_view (K.kept keeper.old) (K.path keeper.old) (K.faults keeper.old)) self.new.core self.new.stop (keeper_view (K.kept keeper.new) (K.path keeper.new) (K.faults keeper.new)) }
         ensures paid { StaysPaid self.old.core self.old.stop steps.old self.new.core self.new.stop steps.new }
     {
@@ -265,19 +323,21 @@ impl<P: Pact> Caller<P> {
         progress: &mut O,
         steps: &mut Steps<S>,
     )
-        requires run { IsRun P.workers P.gives P.refuses rows.now 0 self.old.core self.old.shares self.old.stop }
+        requires run { IsRun P.workers P.gives P.refuses P.lapses rows.now [] 0 self.old.core self.old.shares self.old.stop }
         requires workers { (workers ≡ P.workers) × (0 < workers) }
         requires tells { Tells (L.gives launcher.now) (L.refuses launcher.now) P.gives P.refuses }
         requires started { IsSome (K.path keeper.old) }
-        ensures run { IsRun P.workers P.gives P.refuses rows.now 0 self.new.core self.new.shares self.new.stop }
+        requires lapses { K.lapses keeper.old ≡ P.lapses }
+        ensures run { IsRun P.workers P.gives P.refuses P.lapses rows.now [] 0 self.new.core self.new.shares self.new.stop }
         ensures origin { self.new.core.origin ≡ self.old.core.origin }
+        ensures lapses { K.lapses keeper.new ≡ K.lapses keeper.old }
         ensures even { self.new.shares.put ≡ self.new.shares.collected }
         ensures done { self.new.stop ≡ None → IsDone self.new.core }
         ensures holds { Holds P.gives rows.now self.old.core self.old.stop (keeper_view (K.kept keeper.old) (K.path keeper.old) (K.faults keeper.old)) self.new.core self.new.stop (keeper_view (K.kept keeper.new) (K.path keeper.new) (K.faults keeper.new)) }
         ensures paid { StaysPaid self.old.core self.old.stop steps.old self.new.core self.new.stop steps.new }
     {
         for _ in rt.forever() {
-            self.fill(rt, alloc, desk, rows, workers, progress, steps);
+            self.fill(rt, alloc, desk, rows, workers, keeper, progress, steps);
             if desk.out(rt, &mut self.shares) == 0 {
                 return;
             }

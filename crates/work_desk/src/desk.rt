@@ -6,6 +6,7 @@ use crate::pact::{CollectedOf, Pact, PutOf, Shares};
 use crate::state::{DeskState, Finished};
 use ready_core::Job;
 use std::alloc::Global;
+use std::collections::VecDeque;
 use std::sync::ledger::Blank;
 use std::sync::{Condvar, Mutex, Wait};
 use wdl_value::{Counts, NoMemory};
@@ -39,8 +40,7 @@ impl<P: Pact> Desk<P> {
         requires collected { (collected.name ≡ P.collected_name) × (collected.parts ≡ P.collected_parts) × (0 < collected.parts) }
         ensures { IfOk result (λ o. o.shares ≡ held 0 0) }
     {
-        let mut waiting = Vec::new(alloc);
-        waiting.reserve(workers as usize)?;
+        let waiting = VecDeque::with_capacity(alloc, workers as usize)?;
         let mut answers = Vec::new(alloc);
         answers.reserve(workers as usize)?;
         let (put_book, put) = put.open::<PutOf<P>>();
@@ -67,7 +67,7 @@ impl<P: Pact> Desk<P> {
         })
     }
 
-    // Puts a job on the desk.
+    // Puts a job on the desk, behind those that wait.
     pub(crate) fn put<R: Wait>(&self, rt: &R, job: Job, shares: &mut Shares<P>)
         requires out { shares.old.put < shares.old.collected + P.workers }
         requires few { shares.old.put < 20000 }
@@ -102,7 +102,7 @@ impl<P: Pact> Desk<P> {
         state.counts()
     }
 
-    // A job to run, once there is one. `None` where the desk is closed and no job waits.
+    // The job that waits for longest, once there is one. `None` where the desk is closed and no job waits.
     pub(crate) fn next_job<R: Wait>(&self, rt: &R) -> Option<Job> {
         let mut state = self
             .jobs
@@ -110,7 +110,7 @@ impl<P: Pact> Desk<P> {
         state.pick()
     }
 
-    // A job to run, if there is one.
+    // The job that waits for longest, if there is one.
     pub(crate) fn job_now<R: Wait>(&self, rt: &R) -> Option<Job> {
         self.state.lock(rt).pick()
     }

@@ -1,4 +1,4 @@
-ghost use Rattle.std.specs.Prelude.{◌≡◌, ◌<◌, ℕ, List, Option};
+ghost use Rattle.std.specs.Prelude.{◌≡◌, ◌<◌, ℕ, Bool, List, Option};
 ghost use Rattle.wdl_base.specs.declared.entry.Entry.{Entry as Row};
 ghost use Rattle.ready_core.specs.Cores.{started};
 ghost use Rattle.work_desk.specs.Held.{held};
@@ -31,6 +31,9 @@ pub(crate) trait Conducts {
     /// How often the keeper has failed.
     ghost faults: { Self → ℕ };
 
+    /// What lapses in the keeper.
+    ghost lapses: { Self → Row → Bool };
+
     /// Where the counter stands.
     ghost count: { Self → ℕ };
 
@@ -59,9 +62,10 @@ pub(crate) trait Conducts {
         requires workers { (workers ≡ P.workers) × (0 < workers) }
         requires there { Tells (L.gives launcher.now) (L.refuses launcher.now) P.gives P.refuses }
         requires back { Tells P.gives P.refuses (L.gives launcher.now) (L.refuses launcher.now) }
+        requires lapses { lapses self.old ≡ P.lapses }
         requires ready { IsReady rows.now (keeper_view (kept self.old) (path self.old) (faults self.old)) }
         requires placed { ArePlaced rows.now }
-        ensures run { HasRun workers (L.gives launcher.now) (L.refuses launcher.now) rows.now result.core result.stop result.counts }
+        ensures run { HasRun workers (L.gives launcher.now) (L.refuses launcher.now) (lapses self.old) rows.now result.core result.stop result.counts }
         ensures origin { result.core.origin ≡ core.origin }
         ensures paid { EndsPaid core (count self.old) result.core result.stop (count self.new) }
         ensures same { (keeper_name self.new ≡ keeper_name self.old) × (steps_name self.new ≡ steps_name self.old) }
@@ -81,6 +85,8 @@ impl<'s, K: Keeper, S: Ledger> Conducts for Lending<'s, K, S> {
     ghost path = { λ s. K.path s.keeper.now };
 
     ghost faults = { λ s. K.faults s.keeper.now };
+
+    ghost lapses = { λ s. K.lapses s.keeper.now };
 
     ghost count = { λ s. s.steps.now };
 
@@ -106,9 +112,10 @@ impl<'s, K: Keeper, S: Ledger> Conducts for Lending<'s, K, S> {
         requires workers { (workers ≡ P.workers) × (0 < workers) }
         requires there { Tells (L.gives launcher.now) (L.refuses launcher.now) P.gives P.refuses }
         requires back { Tells P.gives P.refuses (L.gives launcher.now) (L.refuses launcher.now) }
+        requires lapses { K.lapses self.old.keeper.now ≡ P.lapses }
         requires ready { IsReady rows.now (keeper_view (K.kept self.old.keeper.now) (K.path self.old.keeper.now) (K.faults self.old.keeper.now)) }
         requires placed { ArePlaced rows.now }
-        ensures run { HasRun workers (L.gives launcher.now) (L.refuses launcher.now) rows.now result.core result.stop result.counts }
+        ensures run { HasRun workers (L.gives launcher.now) (L.refuses launcher.now) (K.lapses self.old.keeper.now) rows.now result.core result.stop result.counts }
         ensures origin { result.core.origin ≡ core.origin }
         ensures paid { EndsPaid core self.old.steps.now result.core result.stop self.new.steps.now }
         ensures same { (self.new.keeper.ghost_name ≡ self.old.keeper.ghost_name) × (self.new.steps.ghost_name ≡ self.old.steps.ghost_name) }
@@ -144,5 +151,9 @@ impl<'s, T: Progress> Progress for Lent<'s, T> {
 
     fn kept(&mut self, entry: &Entry) {
         self.progress.kept(entry);
+    }
+
+    fn lapsed(&mut self, request: &Request) {
+        self.progress.lapsed(request);
     }
 }

@@ -1,19 +1,23 @@
-ghost use Rattle.std.specs.Prelude.{◌<◌, ℕ, ⊤};
+ghost use Rattle.std.specs.Prelude.{◌<◌, ℕ, Bool, false, ⊤};
 
 use std::marker::{Brand, Model, PhantomData};
 use std::sync::ledger::{Ledger, Share};
 
-/// One run: its launcher's relations, its number of workers and its two ledgers. It has no calls:
+/// One run: its launcher's relations, what lapses, its number of workers and its two ledgers. It has no calls:
 /// the value under a lock is known by its type alone, so that the type names the run.
 pub trait Pact {
     ghost use Rattle.wdl_base.specs.declared.request.Request.{Request};
     ghost use Rattle.wdl_base.specs.declared.answer.Answer.{Answer};
+    ghost use Rattle.wdl_base.specs.declared.entry.Entry.{Entry};
 
     /// The answers that the launcher gives for a request.
     ghost gives: { Request → Answer → Type 0 };
 
     /// The requests that the launcher may refuse.
     ghost refuses: { Request → Type 0 };
+
+    /// The rows whose files may be others than those of which they speak.
+    ghost lapses: { Entry → Bool };
 
     /// The number of workers.
     ghost workers: { ℕ };
@@ -35,6 +39,8 @@ impl Pact for Brand {
     ghost gives = { λ _ _. ⊤ };
 
     ghost refuses = { λ _. ⊤ };
+
+    ghost lapses = { λ _. false };
 
     ghost workers = { 0 };
 

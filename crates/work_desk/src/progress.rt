@@ -15,4 +15,7 @@ pub trait Progress {
 
     /// A job took the answer of a row of an earlier run.
     fn kept(&mut self, entry: &Entry);
+
+    /// The row of a job no longer stands for its files, so the job is to be launched.
+    fn lapsed(&mut self, request: &Request);
 }

@@ -1,12 +1,11 @@
-ghost use Rattle.std.specs.Prelude.{◌≡◌, true, false, All, Contains, IfOk, OnOk, MatchOption};
+ghost use Rattle.std.specs.Prelude.{◌≡◌, true, false, All, IfOk, OnOk, MatchOption};
 ghost use Rattle.std.specs.Option.{option_copied};
 ghost use Rattle.wdl_value.specs.Tables as tables;
 ghost use Rattle.wdl_base.specs.PlaceReading.{IsPlace};
 ghost use Rattle.wdl_flow.specs.Marks.{entry_marks};
 ghost use Rattle.wdl_port.specs.Rows.{are_kept, rises};
-ghost use Rattle.ready_core.specs.Rows.{is_usable};
 ghost use Rattle.work_desk.specs.Keeping.{ArePlaced};
-ghost use Rattle.work_desk.specs.Run.{row_at, usable};
+ghost use Rattle.work_desk.specs.Run.{IsOnlyFor, row_at, usable};
 
 use crate::placed::see_place;
 use ready_core::{Job, is_usable_for};
@@ -102,9 +101,7 @@ impl Rows {
 
     /// The row that is usable for a job. It takes no memory.
     pub(crate) fn find(&self, job: &Job) -> Option<&Entry>
-        ensures found { MatchOption (option_copied result) (usable self.now job.now ≡ false)
-            (λ row. Contains self.now row × (is_usable job.now row ≡ true)
-            × (usable self.now job.now ≡ true)) }
+        ensures found { MatchOption (option_copied result) (usable self.now job.now ≡ false) (IsOnlyFor self.now job.now) }
         ensures kept { are_kept self.now ≡ true }
     {
         let Some(row) = self.at(job.request()) else {

@@ -1,9 +1,9 @@
 ghost use Rattle.std.specs.Prelude.{◌≡◌, ◌≢◌, ◌<◌, ◌≤◌, true, Some, None, MatchOption, ⊤};
 ghost use Rattle.std.proofs.Common.{inl, inr};
 ghost use Rattle.wdl_port.specs.Rows.{rises, are_kept};
-ghost use Rattle.ready_core.specs.Cores.{started};
+ghost use Rattle.ready_core.specs.Cores.{started, stopped};
 ghost use Rattle.work_desk.specs.Held.{held};
-ghost use Rattle.work_desk.specs.Keeping.{ArePlaced, IsReady, Went, keeper_view};
+ghost use Rattle.work_desk.specs.Keeping.{ArePlaced, IsReady, Went, keeper_view, lapses_in};
 ghost use Rattle.work_desk.specs.Paying.{EndsPaid};
 ghost use Rattle.work_desk.specs.Ran.{HasRun};
 ghost use Rattle.work_desk.specs.Run.{Tells};
@@ -39,11 +39,12 @@ pub struct Ran {
 }
 
 /// A run for which there was no memory.
-fn unstarted(core: Core) -> Ran
-    ensures core { result.core ≡ core }
+fn unstarted(mut core: Core) -> Ran
+    ensures core { result.core ≡ stopped core }
     ensures stop { result.stop ≡ Some stop.NoMemory }
     ensures counts { AllEqual result.counts 0 }
 {
+    core.stop();
     Ran {
         core,
         stop: Some(Stop::NoMemory),
@@ -76,9 +77,10 @@ pub(crate) fn conduct<P: Pact, L: Launcher, K: Keeper, O: Progress + Drop, S: Le
     requires workers { (workers ≡ P.workers) × (0 < workers) }
     requires there { Tells (L.gives launcher.now) (L.refuses launcher.now) P.gives P.refuses }
     requires back { Tells P.gives P.refuses (L.gives launcher.now) (L.refuses launcher.now) }
+    requires lapses { K.lapses keeper.old ≡ P.lapses }
     requires ready { IsReady rows.now (keeper_view (K.kept keeper.old) (K.path keeper.old) (K.faults keeper.old)) }
     requires placed { ArePlaced rows.now }
-    ensures run { HasRun workers (L.gives launcher.now) (L.refuses launcher.now) rows.now result.core result.stop result.counts }
+    ensures run { HasRun workers (L.gives launcher.now) (L.refuses launcher.now) (K.lapses keeper.old) rows.now result.core result.stop result.counts }
     ensures origin { result.core.origin ≡ core.origin }
     ensures paid { EndsPaid core steps.old result.core result.stop steps.new }
     ensures keeper { Went (L.gives launcher.now) result.core result.stop (keeper_view (K.kept keeper.old) (K.path keeper.old) (K.faults keeper.old)) (keeper_view (K.kept keeper.new) (K.path keeper.new) (K.faults keeper.new)) }
@@ -89,7 +91,7 @@ pub(crate) fn conduct<P: Pact, L: Launcher, K: Keeper, O: Progress + Drop, S: Le
         shares,
         stop: None,
     };
-    judge(&mut caller.stop, &caller.core);
+    judge(&mut caller.core, &mut caller.stop);
     caller.drive(
         rt,
         alloc,
@@ -136,9 +138,10 @@ fn in_threads<
     requires workers { (workers ≡ P.workers) × (0 < workers) }
     requires there { Tells (L.gives launcher.now) (L.refuses launcher.now) P.gives P.refuses }
     requires back { Tells P.gives P.refuses (L.gives launcher.now) (L.refuses launcher.now) }
+    requires lapses { C.lapses lent.old ≡ P.lapses }
     requires ready { IsReady rows.now (keeper_view (C.kept lent.old) (C.path lent.old) (C.faults lent.old)) }
     requires placed { ArePlaced rows.now }
-    ensures run { HasRun workers (L.gives launcher.now) (L.refuses launcher.now) rows.now result.core result.stop result.counts }
+    ensures run { HasRun workers (L.gives launcher.now) (L.refuses launcher.now) (C.lapses lent.old) rows.now result.core result.stop result.counts }
     ensures origin { result.core.origin ≡ core.origin }
     ensures paid { EndsPaid core (C.count lent.old) result.core result.stop (C.count lent.new) }
     ensures same { (C.keeper_name lent.new ≡ C.keeper_name lent.old) × (C.steps_name lent.new ≡ C.steps_name lent.old) }
@@ -151,9 +154,10 @@ fn in_threads<
             requires { (core ≡ started core.origin core.plan) × (shares ≡ held 0 0) × (workers ≡ P.workers) × (0 < workers)
                 × Tells (L.gives launcher.now) (L.refuses launcher.now) P.gives P.refuses
                 × Tells P.gives P.refuses (L.gives launcher.now) (L.refuses launcher.now)
+                × (C.lapses lent.now ≡ P.lapses)
                 × IsReady rows.now (keeper_view (C.kept lent.now) (C.path lent.now) (C.faults lent.now))
                 × ArePlaced rows.now }
-            ensures { HasRun workers (L.gives launcher.entry.now) (L.refuses launcher.entry.now) rows.entry.now result.0.core result.0.stop result.0.counts × (result.0.core.origin ≡ core.origin)
+            ensures { HasRun workers (L.gives launcher.entry.now) (L.refuses launcher.entry.now) (C.lapses lent.entry.now) rows.entry.now result.0.core result.0.stop result.0.counts × (result.0.core.origin ≡ core.origin)
                 × EndsPaid core (C.count lent.entry.now) result.0.core result.0.stop
                 (C.count result.1.now)
                 × (C.keeper_name result.1.now ≡ C.keeper_name lent.entry.now)
@@ -209,9 +213,10 @@ fn run_with<
     requires collected { (collected.name ≡ P.collected_name) × (collected.parts ≡ P.collected_parts) × (0 < collected.parts) }
     requires there { Tells (L.gives launcher.now) (L.refuses launcher.now) P.gives P.refuses }
     requires back { Tells P.gives P.refuses (L.gives launcher.now) (L.refuses launcher.now) }
+    requires lapses { K.lapses keeper.old ≡ P.lapses }
     requires ready { IsReady rows.now (keeper_view (K.kept keeper.old) (K.path keeper.old) (K.faults keeper.old)) }
     requires placed { ArePlaced rows.now }
-    ensures run { HasRun workers (L.gives launcher.now) (L.refuses launcher.now) rows.now result.core result.stop result.counts }
+    ensures run { HasRun workers (L.gives launcher.now) (L.refuses launcher.now) (K.lapses keeper.old) rows.now result.core result.stop result.counts }
     ensures origin { result.core.origin ≡ core.origin }
     ensures paid { EndsPaid core steps.old result.core result.stop steps.new }
     ensures keeper { Went (L.gives launcher.now) result.core result.stop (keeper_view (K.kept keeper.old) (K.path keeper.old) (K.faults keeper.old)) (keeper_view (K.kept keeper.new) (K.path keeper.new) (K.faults keeper.new)) }
@@ -244,9 +249,10 @@ fn run_with<
 /// in rising order, which are those of the keeper where it tells them, and where the answers of
 /// launches are kept.
 ///
-/// A job that has a usable row is settled by it, and every other one is put on the desk and
-/// launched. It returns once nothing is out and nothing more is to be taken, or, after a stop, once
-/// all that was out has come back.
+/// A job that has a usable row, whose files are still those of which the row speaks, is settled by
+/// it. Every other one is put on the desk and launched, in the order in which they were taken. It
+/// returns once nothing is out and nothing more is to be taken, or, after a stop, once all that was
+/// out has come back: behind a stop nothing is taken, and each answer is still kept and settled.
 pub fn run_kept<
     'a,
     L: Launcher + Sync,
@@ -270,7 +276,7 @@ pub fn run_kept<
     requires ready { IsReady rows (keeper_view (K.kept keeper.old) (K.path keeper.old) (K.faults keeper.old)) }
     requires rise { rises rows ≡ true }
     requires kept { are_kept rows ≡ true }
-    ensures run { HasRun workers (L.gives launcher.now) (L.refuses launcher.now) rows result.core result.stop result.counts }
+    ensures run { HasRun workers (L.gives launcher.now) (L.refuses launcher.now) (K.lapses keeper.old) rows result.core result.stop result.counts }
     ensures origin { result.core.origin ≡ core.origin }
     ensures paid { EndsPaid core steps.old result.core result.stop steps.new }
     ensures keeper { Went (L.gives launcher.now) result.core result.stop (keeper_view (K.kept keeper.old) (K.path keeper.old) (K.faults keeper.old)) (keeper_view (K.kept keeper.new) (K.path keeper.new) (K.faults keeper.new)) }
@@ -310,7 +316,7 @@ pub fn run_all<'a, L: Launcher + Sync, K: Keeper, T: Progress, S: Ledger, R: Thr
     requires ready { MatchOption keeper ⊤ (λ k. IsReady rows (keeper_view (K.kept k.now) (K.path k.now) (K.faults k.now))) }
     requires rise { rises rows ≡ true }
     requires kept { are_kept rows ≡ true }
-    ensures run { HasRun workers (L.gives launcher.now) (L.refuses launcher.now) rows result.core result.stop result.counts }
+    ensures run { HasRun workers (L.gives launcher.now) (L.refuses launcher.now) (lapses_in (λ k. K.lapses k.now) keeper.entry) rows result.core result.stop result.counts }
     ensures origin { result.core.origin ≡ core.origin }
     ensures paid { EndsPaid core steps.old result.core result.stop steps.new }
     ensures unkept { keeper.entry ≡ None → result.stop ≢ Some stop.Keep }

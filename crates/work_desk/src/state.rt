@@ -4,6 +4,7 @@ ghost use Rattle.work_desk.specs.Views.{DeskView, IsDesk, out_of, Good, counts};
 
 use crate::pact::{CollectedOf, Pact, PutOf, Shares};
 use ready_core::{Answered, Job, Unlaunched};
+use std::collections::VecDeque;
 use std::marker::Model;
 use std::sync::ledger::Book;
 use wdl_value::Counts;
@@ -20,7 +21,7 @@ pub enum Finished {
 /// The state under the lock.
 #[derive(Drop)]
 pub struct DeskState<P: Pact> {
-    pub(crate) waiting: Vec<Job>,
+    pub(crate) waiting: VecDeque<Job>,
     pub(crate) running: u32,
     pub(crate) answers: Vec<Finished>,
     pub(crate) closed: bool,
@@ -35,6 +36,7 @@ pub struct DeskState<P: Pact> {
 impl<P: Pact> Model for DeskState<P> {
     ghost use Rattle.work_desk.specs.Views.{DeskView, desk_view, IsDesk, HasRoom};
     ghost use Rattle.std.specs.Prelude.{◌≡◌, vec_capacity};
+    ghost use Rattle.std.specs.VecDeque.{deque_capacity};
 
     ghost Value = { DeskView };
 
@@ -42,7 +44,7 @@ impl<P: Pact> Model for DeskState<P> {
 
     ghost invariant = { λ s.
         IsDesk P.workers P.gives P.refuses (desk_view s.waiting.items s.running s.answers.items s.closed s.put s.picked s.finished s.collected)
-        × HasRoom P.workers (vec_capacity s.waiting) (vec_capacity s.answers)
+        × HasRoom P.workers (deque_capacity s.waiting) (vec_capacity s.answers)
         × (s.put_book.total ≡ s.put) × (s.collected_book.total ≡ s.collected) };
 }
 
@@ -58,7 +60,7 @@ impl<P: Pact> DeskState<P> {
         self.collected_book.audit(&mut shares.collected);
     }
 
-    /// Puts a job on the desk. Its room was made by `Desk::new`, so it takes no memory.
+    /// Puts a job on the desk, behind those that wait. Its room was made by `Desk::new`, so it takes no memory.
     pub fn put(&mut self, job: Job, shares: &mut Shares<P>)
         requires out { out_of self.old < P.workers }
         requires few { self.old.put < 20000 }
@@ -66,21 +68,22 @@ impl<P: Pact> DeskState<P> {
         ensures shares { shares.new ≡ held (shares.old.put + 1) shares.old.collected }
     {
         self.put_book.add(&mut shares.put, 1);
-        self.waiting.push_reserved(job);
+        self.waiting.push_back_reserved(job);
         self.put += 1;
     }
 
-    /// Takes a job to run it. `None` where no job waits. It takes no memory.
+    /// Takes the job that waits for longest, to run it. `None` where no job waits. It takes no
+    /// memory.
     pub fn pick(&mut self) -> Option<Job>
         ensures { MatchOption result ((self.old.waiting ≡ []) × (self.new ≡ self.old))
-            (λ j. (self.old.waiting ≡ self.new.waiting ++ j ∷ [])
+            (λ j. (self.old.waiting ≡ j ∷ self.new.waiting)
             × (self.new ≡ record self.old {
               waiting = self.new.waiting;
               running = self.old.running + 1;
               picked = self.old.picked + 1;
             })) }
     {
-        let job = self.waiting.pop()?;
+        let job = self.waiting.pop_front()?;
         self.running += 1;
         self.picked += 1;
         Some(job)

@@ -1,11 +1,12 @@
-ghost use Rattle.std.specs.Prelude.{◌≡◌, [], Some, None};
+ghost use Rattle.std.specs.Prelude.{◌≡◌, [], false, Some, None};
 
 use sqlite_items::Items;
 use std::alloc::Global;
 use wdl_port::{KeepFault, Keeper};
 use wdl_value::{Entry, Text};
 
-/// The keeper of a run whose journal is not kept: it tells nothing, and never fails.
+/// The keeper of a run whose journal is not kept: it tells nothing, never fails, and lets no row
+/// lapse.
 #[derive(Drop)]
 pub(crate) struct Unkept {
     path: Option<Text>,
@@ -29,6 +30,8 @@ impl Keeper for Unkept {
 
     ghost faults = { λ s. 0 };
 
+    ghost lapses = { λ s row. false };
+
     fn start(&mut self, alloc: Global, at: &str) -> Result<(), KeepFault> {
         self.path = Some(Text::from_plain(alloc, at)?);
         Ok(())
@@ -40,5 +43,9 @@ impl Keeper for Unkept {
 
     fn put(&mut self, _alloc: Global, _entry: &Entry) -> Result<(), KeepFault> {
         Ok(())
+    }
+
+    fn stands(&mut self, _alloc: Global, _entry: &Entry) -> Result<bool, KeepFault> {
+        Ok(true)
     }
 }

@@ -7,7 +7,8 @@
 //! - `text TEXT`, `line TEXT` with a newline, and `times NUMBER PIECE` append to the text, and
 //!   `file PATH` puts it on the shelf;
 //! - `inputs TEXT` puts that text on the shelf as `i.json`; `lost NUMBER` lets the read of that
-//!   number fail, and `unkept NUMBER` the call of that number of the journal's keeper.
+//!   number fail, and `unkept NUMBER` the call of that number of the journal's keeper;
+//! - `lapsed PLACE` says that the rows of that place no longer stand for their files.
 //!
 //! These make answers of the launcher:
 //!
@@ -23,6 +24,7 @@
 #![tactic(auto)]
 
 mod answers;
+mod counted;
 mod expecting;
 mod files;
 mod reading;

@@ -20,6 +20,8 @@ pub struct Case {
     pub keeper: MapKeeper,
     /// The numbers of the keeper's calls that fail.
     pub unkept: Items<u64>,
+    /// The places whose rows no longer stand for their files.
+    pub lapsed: Items<Place>,
     pub words: Vec<String>,
     pub sinks: Sinks,
 }
@@ -35,6 +37,7 @@ fn start(alloc: Global) -> Result<Case, NoMemory> {
         refused: Items::new(alloc),
         keeper: MapKeeper::new(alloc, Items::new(alloc)),
         unkept: Items::new(alloc),
+        lapsed: Items::new(alloc),
         words: Vec::new(alloc),
         sinks,
     })
@@ -79,6 +82,7 @@ fn read_file_line(alloc: Global, case: &mut Case, word: &str, rest: &str) -> Res
         "inputs" => push_file(alloc, &mut case.shelf.files, "i.json", rest.as_bytes())?,
         "lost" => case.shelf.fails.push(rest.parse::<u64>()?)?,
         "unkept" => case.unkept.push(rest.parse::<u64>()?)?,
+        "lapsed" => case.lapsed.push(place_of(alloc, rest)?)?,
         _ => return Ok(false),
     }
     Ok(true)

@@ -1,5 +1,6 @@
 ghost use Rattle.std.specs.Prelude.{◌≡◌, ◌<◌, None};
 
+use crate::counted::Counted;
 use crate::reading::Case;
 use crate::sinks::Sinks;
 use command_notes::{RecallingShelf, Runner};
@@ -15,9 +16,10 @@ use wdl_port::{Keeper, Launcher, MapKeeper, MemoryShelf, TableLauncher};
 use wdl_value::Steps;
 use workflow_cli::{Ended, workflow};
 
-/// How a call ended, what was written, and the journal's keeper.
+/// How a call ended, how often the launcher was called, what was written, and the journal's keeper.
 pub struct Outcome {
     pub ended: Ended,
+    pub launches: usize,
     pub sinks: Sinks,
     pub keeper: MapKeeper,
 }
@@ -26,6 +28,7 @@ impl Drop for Outcome {
     fn drop(self) {
         let Outcome {
             ended,
+            launches: _,
             sinks,
             keeper,
         } = self;
@@ -40,6 +43,7 @@ impl Outcome {
     pub fn into_keeper(self) -> MapKeeper {
         let Outcome {
             ended: _,
+            launches: _,
             sinks: _,
             keeper,
         } = self;
@@ -92,13 +96,14 @@ pub fn run_case<R: Threads + Wait + Clock + Sync>(
         refused,
         keeper,
         unkept,
+        lapsed,
         mut sinks,
         ..
     } = case;
-    let launcher = TableLauncher::new(alloc, rows, refused)?;
+    let launcher = Counted::new(TableLauncher::new(alloc, rows, refused)?);
     let mut shelf = RecallingShelf::new(alloc, shelf, Runner::Other);
-    let mut keeper = keeper.again(unkept);
-    let ended = run::<TableLauncher, MapKeeper, R, Brand>(
+    let mut keeper = keeper.again(unkept).with_lapsed(lapsed);
+    let ended = run::<Counted<TableLauncher>, MapKeeper, R, Brand>(
         rt,
         alloc,
         words.as_slice(),
@@ -108,8 +113,10 @@ pub fn run_case<R: Threads + Wait + Clock + Sync>(
         &mut keeper,
         Blank::new(1),
     );
+    let launches = launcher.launches();
     Ok(Outcome {
         ended,
+        launches,
         sinks,
         keeper,
     })

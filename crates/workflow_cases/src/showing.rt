@@ -21,6 +21,7 @@ fn push_steps(alloc: Global, shown: &mut String, steps: &[Step]) -> Result<(), F
         match step {
             Step::Took(place) => push_place(alloc, shown, " +", place)?,
             Step::Settled(place) => push_place(alloc, shown, " -", place)?,
+            Step::Stopped => shown.push_str(" stop")?,
         }
     }
     shown.push_str("\n")?;

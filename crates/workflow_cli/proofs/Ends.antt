@@ -20,6 +20,7 @@ use Rattle.workflow_cli.specs.Causes.{Cause, CauseOf, IsWork}
 use Rattle.workflow_cli.specs.Reporting.{report_line}
 use Rattle.workflow_cli.specs.Running.{IsRun, IsStarted, IsUnkept, KeepsRows, Main, Trace, core_of}
 use Rattle.workflow_cli.specs.Stages.{IsFailedAs, RunsMain, StopsAs, Turns}
+use Rattle.workflow_cli.proofs.Left.{has_begun}
 
 -- what is reported of a run that is asked for
 abbrev reported : Command → Report
@@ -62,7 +63,7 @@ module _ (tells : Tells) (refused : List ℕ → Type 0) (rose : Type 0) (gives 
 
   after_fault : (m : Main) (run : Runs m (Some end.Failed)) (s : Status) → IsFailedAs (core_of m t run.left.taken run.left.out run.left.plan) s → Said s
   after_fault m run (status.Failed fault) h = record { main = m; run = run; is_fault = h }
-  after_fault m run status.TooMany h = record { main = m; why = Some end.Failed; strict = refl; run = run; many = h }
+  after_fault m run status.TooMany h = record { main = m; why = Some end.Failed; stop = inr refl; run = run; many = h }
   after_fault m run status.NoMemory h = tt
   after_fault m run status.Ok h = absurd h
   after_fault m run status.Usage h = absurd h
@@ -79,14 +80,14 @@ module _ (tells : Tells) (refused : List ℕ → Type 0) (rose : Type 0) (gives 
   stop_said m end.Failed run s h = after_fault m run s h
   stop_said m end.NoMemory run s h = subst Said (sym h) tt
   stop_said m (end.Launch place) run s h =
-      let c = run.left.run.caused in
+      let c = (has_begun _ _ _ run.left.run (λ e. cc)).caused in
       subst Said (sym h) (record { main = m; run = run; job = c.0; was_taken = c.1; at_place = c.2; refused = c.3; is_job = c.4 })
   stop_said m end.Keep run s h = subst Said (sym h) (kept m run)
-  stop_said m end.TooMany run s h = subst Said (sym h) (record { main = m; why = Some end.TooMany; strict = refl; run = run; many = run.left.run.caused })
+  stop_said m end.TooMany run s h = subst Said (sym h) (record { main = m; why = Some end.TooMany; stop = inl refl; run = run; many = (has_begun _ _ _ run.left.run (λ e. cc)).caused })
 
   run_comes : (m : Main) (why : Option Stop) (run : Runs m why) (w : Work) → Turns m.options.report m.flow.name (core_of m t run.left.taken run.left.out run.left.plan) why w → Comes w
   run_comes m None run w (inl e) =
-      let d = run.left.run.clean refl in
+      let d = (has_begun _ _ _ run.left.run (λ e. cc)).clean refl in
       let of = reports_outputs words run.started.asked.file run.started.asked.inputs m.options run.started.asked.asked in
       let is = ap (λ r. report_line r m.flow.name (core_of m t run.left.taken run.left.out run.left.plan)) of in
       subst Comes (sym e) (inl (record { main = m; run = run; few = d.few; clean = d.clean; paid = (run.left.paid refl d.few).within; outputs = is }))

@@ -1,7 +1,6 @@
 -- What a run leaves, by the core that it leaves.
 use Rattle.std.proofs.Common.{◌≡◌, ◌≢◌, ◌⊎◌, inl, inr, ℕ, true, not, if◌then◌else◌, List, [], Option, Some, None, ap, sym, subst, ◌∙◌, refl}
 use Rattle.std.proofs.lemmas.Bool.{false≢true}
-use Rattle.std.proofs.lemmas.List.Elements.{All-nil}
 use Rattle.wdl_base.specs.declared.answer.Answer.{Answer}
 use Rattle.wdl_base.specs.declared.entry.Entry.{Entry}
 use Rattle.wdl_base.specs.declared.request.Request.{Request}
@@ -14,12 +13,11 @@ use Rattle.ready_core.specs.Cores.{CoreState, IsPaidFor, Origin, flow_of, has_fa
 use Rattle.ready_core.specs.Flows.{outcome_of, outputs_if_clean, outputs_in}
 use Rattle.work_desk.specs.Keeping.{KeeperView, Went}
 use Rattle.work_desk.specs.Ran.{HasRun, IsDone}
-use Rattle.work_desk.specs.Run.{IsGiven}
 use Rattle.work_desk.specs.Views.{AllEqual}
 use Rattle.work_desk.specs.declared.stop.Stop.{Stop}
 use Rattle.work_desk.specs.declared.stop.Stop.TheVariants as end
 use Rattle.workflow_stages.specs.declared.ended.Work.{Work}
-use Rattle.workflow_cli.specs.Running.{AreRowsOf, IsIdle, IsOn, KeepsRows, Main, Trace, core_of, origin_of}
+use Rattle.workflow_cli.specs.Running.{AreRowsOf, IsIdle, IsOn, IsStarved, KeepsRows, Main, Trace, core_of, lapses_of, origin_of}
 use Rattle.workflow_cli.specs.Stages.{HasLeft, IsOpened, OpenStops, RunsMain, Turns, stops}
 use Rattle.workflow_cli.proofs.Kept.{went_from, went_none}
 
@@ -34,9 +32,15 @@ pub past_limits : (f : Flowing) → has_fault f ≡ true → (f.faults ≡ []) �
 past_limits f h (inl e) = absurd (false≢true (ap (λ fs. not (is_empty fs)) (sym e) ∙ h))
 past_limits f h (inr e) = e
 
+-- what is left by a run that had memory to begin
+pub has_begun : {A : Type 0} (c : CoreState) (why : Option Stop) (four : Counts) → A ⊎ IsStarved c why four → why ≢ Some end.NoMemory → A
+has_begun c why four (inl run) h = run
+has_begun c why four (inr nothing) h = absurd (h nothing.starved)
+
 module _ (gives : Request → Answer → Type 0) (refuses : Request → Type 0) (t : Trace) (m : Main) (w : Work) where
   abbrev Ran : List Entry → CoreState → Option Stop → Counts → Type 0
-  Ran rows = HasRun m.options.workers gives refuses rows
+  Ran rows c why four =
+      HasRun m.options.workers gives refuses (lapses_of m.options.journal t.lapses) rows c why four ⊎ IsStarved c why four
 
   abbrev Keeps : CoreState → Option Stop → Type 0
   Keeps c why = KeepsRows gives c why m.options.journal t.keeper t.keeper_now
@@ -76,7 +80,7 @@ module _ (gives : Request → Answer → Type 0) (refuses : Request → Type 0) 
   starved = Some end.NoMemory
 
   unstarted : (rows : List Entry) → AllEqual t.counts 0 → Ran rows (Nothing [] []) starved t.counts
-  unstarted rows four = record { fed = refl; greedy = (refl, refl); given = All-nil (IsGiven gives rows []); counts = four; caused = tt; clean = λ e. cc }
+  unstarted rows four = inr (record { starved = refl; no_answer = refl; no_job = refl; no_count = four })
 
   pub has_starved : (rows : List Entry) → t.journal ≡ [] → t.steps ≡ [] → AllEqual t.counts 0 → AreRowsOf t.keeper m.options.journal rows
       → Keeps (core_of m t [] [] None) starved → w ≡ stops status.NoMemory → HasLeft gives refuses t m w

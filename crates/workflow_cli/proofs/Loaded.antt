@@ -29,6 +29,7 @@ use Rattle.workflow_cli.specs.Asking.{AskStops, IsCommand, IsForMain, IsLoad, Is
 use Rattle.workflow_cli.specs.Causes.{Names}
 use Rattle.workflow_cli.specs.Loading.{IsLoaded, IsLoadWritten, LoadsAs, RunsLoad, Starts, load_file, load_files, load_options, load_refused, load_tells, table_gives, table_refuses}
 use Rattle.workflow_cli.specs.Running.{IsIdle, Leaves, Main, Trace, core_of}
+use Rattle.workflow_cli.proofs.Left.{has_begun}
 use Rattle.workflow_cli.specs.Stages.{IsFailedAs, IsFitting, RunsMain, StopsAs, Turns, main_with, stops}
 use Rattle.workflow_cli.specs.Writing.{Finishes, Reports, Told}
 use Rattle.workflow_cli.proofs.Commands.{readable, same_command}
@@ -114,7 +115,7 @@ module _ (n : ℕ) (t : Trace) where
       by_why : (why : Option Why) (left : Leaves (table_gives rows) (table_refuses rows) t its_main why)
           → Turns its_main.options.report its_main.flow.name (core_of its_main t left.taken left.out left.plan) why (work.Text text) → IsLoaded n t text
       by_why None left (inl e) =
-          let d = left.run.clean refl in
+          let d = (has_begun _ _ _ left.run (λ e. cc)).clean refl in
           record {
             rows = rows;
             of_calls = of;

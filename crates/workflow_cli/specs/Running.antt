@@ -1,5 +1,5 @@
 -- The main workflow with its inputs, and what its run comes to.
-use Rattle.std.specs.Prelude.{◌≡◌, ◌≢◌, ◌≤◌, ◌+◌, ◌⊎◌, ℕ, true, false, List, [], ◌++◌, Contains, Option, Some, None, Ok, Err, codes}
+use Rattle.std.specs.Prelude.{◌≡◌, ◌≢◌, ◌≤◌, ◌+◌, ◌⊎◌, ℕ, Bool, true, false, List, [], ◌++◌, Contains, Option, Some, None, Ok, Err, codes}
 use Rattle.wdl_base.specs.declared.answer.Answer.{Answer}
 use Rattle.wdl_base.specs.declared.entry.Entry.{Entry}
 use Rattle.wdl_base.specs.declared.fault.Fault.{Fault}
@@ -22,7 +22,6 @@ use Rattle.ready_core.specs.Rows.{TakenJob}
 use Rattle.scatter_plan.specs.declared.plan.Plan.{Plan}
 use Rattle.work_desk.specs.Keeping.{KeeperView, Went, keeper_view}
 use Rattle.work_desk.specs.Ran.{HasRun}
-use Rattle.work_desk.specs.Stops.{is_strict}
 use Rattle.work_desk.specs.Views.{AllEqual}
 use Rattle.work_desk.specs.declared.stop.Stop.{Stop}
 use Rattle.work_desk.specs.declared.stop.Stop.TheVariants as end
@@ -35,27 +34,34 @@ use Rattle.workflow_cli.specs.Asking.{IsForInputs, IsRunOf, Words}
 
 -- ---- what a run leaves
 
--- the journal, the jobs taken and settled, and the four counts; the count of evaluated expressions and the keeper before and after
+-- which entries lapse in a keeper
+abbrev pub Lapses : Type 0
+Lapses = Entry → Bool
+
+-- the journal, the jobs taken and settled, and the four counts; the count of evaluated expressions before and after; what lapses in
+-- the keeper, and the keeper before and after
 pub record Trace : Type 0 where
   pub journal : List Entry
   pub steps : List Step
   pub counts : Counts
   pub before : ℕ
   pub now : ℕ
+  pub lapses : Lapses
   pub keeper : KeeperView
   pub keeper_now : KeeperView
 
-abbrev pub trace_of : Ended → ℕ → ℕ → KeeperView → KeeperView → Trace
-trace_of e before now k l =
-    record { journal = e.journal; steps = e.steps; counts = e.counts; before = before; now = now; keeper = k; keeper_now = l }
+abbrev pub trace_of : Ended → ℕ → ℕ → Lapses → KeeperView → KeeperView → Trace
+trace_of e before now lapses k l =
+    record { journal = e.journal; steps = e.steps; counts = e.counts; before = before; now = now; lapses = lapses; keeper = k; keeper_now = l }
 
 -- the same of a keeper that is seen by these
-abbrev pub trace_by : {K : Type 0} → (K → Option (List Entry)) → (K → Option (List ℕ)) → (K → ℕ) → Ended → ℕ → ℕ → K → K → Trace
-trace_by kept path faults e before now k l = trace_of e before now (keeper_view (kept k) (path k) (faults k)) (keeper_view (kept l) (path l) (faults l))
+abbrev pub trace_by : {K : Type 0} → (K → Option (List Entry)) → (K → Lapses) → (K → Option (List ℕ)) → (K → ℕ) → Ended → ℕ → ℕ → K → K → Trace
+trace_by kept lapses path faults e before now k l =
+    trace_of e before now (lapses k) (keeper_view (kept k) (path k) (faults k)) (keeper_view (kept l) (path l) (faults l))
 
-abbrev pub work_trace : Worked → ℕ → ℕ → KeeperView → KeeperView → Trace
-work_trace w before now k l =
-    record { journal = w.journal; steps = w.steps; counts = w.counts; before = before; now = now; keeper = k; keeper_now = l }
+abbrev pub work_trace : Worked → ℕ → ℕ → Lapses → KeeperView → KeeperView → Trace
+work_trace w before now lapses k l =
+    record { journal = w.journal; steps = w.steps; counts = w.counts; before = before; now = now; lapses = lapses; keeper = k; keeper_now = l }
 
 -- nothing ran
 pub record IsIdle (t : Trace) : Type 0 where
@@ -109,16 +115,31 @@ KeepsRows gives c why (Some path) k l = Went gives c why (keeper_view k.kept (So
 abbrev pub core_of : Main → Trace → List TakenJob → List TakenJob → Option Plan → CoreState
 core_of m t taken out plan = record { origin = origin_of m; journal = t.journal; taken = taken; out = out; steps = t.steps; plan = plan }
 
+-- The rows that lapse: without a journal there is none.
+abbrev pub lapses_of : Option (List ℕ) → Lapses → Lapses
+lapses_of None lapses row = false
+lapses_of (Some path) lapses row = lapses row
+
+-- There was no memory to begin, and nothing was taken.
+pub record IsStarved (c : CoreState) (why : Option Stop) (four : Counts) : Type 0 where
+  pub starved : why ≡ Some end.NoMemory
+  pub no_answer : c.journal ≡ []
+  pub no_job : c.steps ≡ []
+  pub no_count : AllEqual four 0
+
 -- What a run of the main workflow leaves, by the workers of its options and over these rows: the journal is fed, each answer is
--- one that the launcher gives or that of a usable row, the steps leave no worker idle without need, and each taken job without
--- a usable row was put, picked, finished and collected. Where it did not stop, each expression was evaluated once at most.
+-- one that the launcher gives or that of a usable row, the steps leave no worker idle without need and say where the run stopped,
+-- no job was launched for which a row stood that does not lapse, and what was put was picked, finished and collected. Where it did
+-- not stop, each expression was evaluated once at most.
 pub record Leaves (gives : Request → Answer → Type 0) (refuses : Request → Type 0) (t : Trace) (m : Main) (why : Option Stop) : Type 0 where
   pub rows : List Entry
   pub of_keeper : AreRowsOf t.keeper m.options.journal rows
   pub taken : List TakenJob
   pub out : List TakenJob
   pub plan : Option Plan
-  pub run : HasRun m.options.workers gives refuses rows (core_of m t taken out plan) why t.counts
+  pub run :
+      HasRun m.options.workers gives refuses (lapses_of m.options.journal t.lapses) rows (core_of m t taken out plan) why t.counts
+      ⊎ IsStarved (core_of m t taken out plan) why t.counts
   pub kept : KeepsRows gives (core_of m t taken out plan) why m.options.journal t.keeper t.keeper_now
   pub paid : why ≡ None → IsPaidFor t.before t.now (core_of m t taken out plan)
 
@@ -201,11 +222,11 @@ module _ (tells : Tells) (words : Words) where
       pub is_job : Contains (flow_of main t.journal).jobs job.request
       pub refused : refuses job.request
 
-    -- the flow over the journal has too many jobs or statements
+    -- The flow over the journal has too many jobs or statements, and the run stopped for that or for a fault of the flow.
     pub record IsTooMany : Type 0 where
       pub main : Main
       pub why : Option Stop
-      pub strict : is_strict why ≡ true
+      pub stop : (why ≡ Some end.TooMany) ⊎ (why ≡ Some end.Failed)
       pub run : IsRun main why
       pub many : too_many (flow_of main t.journal) ≡ true
 

@@ -15,6 +15,7 @@ fn read_rows<K: Keeper>(alloc: Global, keeper: &mut K) -> Result<Items<Entry>, S
     ensures value { (path : List ℕ) → K.path keeper.old ≡ Some path
         → Opens path (keeper_view (K.kept keeper.old) (K.path keeper.old) (K.faults keeper.old))
         (keeper_view (K.kept keeper.new) (K.path keeper.new) (K.faults keeper.new)) result }
+    ensures lapses { K.lapses keeper.new ≡ K.lapses keeper.old }
 {
     match keeper.rows(alloc) {
         Ok(rows) => Ok(rows),
@@ -32,6 +33,7 @@ pub fn rows_of<K: Keeper>(
     requires fresh { K.path keeper.old ≡ None }
     ensures value { Opens path.now (keeper_view (K.kept keeper.old) (K.path keeper.old) (K.faults keeper.old))
         (keeper_view (K.kept keeper.new) (K.path keeper.new) (K.faults keeper.new)) result }
+    ensures lapses { K.lapses keeper.new ≡ K.lapses keeper.old }
 {
     match keeper.start(alloc, path.as_str()) {
         Ok(()) => read_rows(alloc, keeper),

@@ -8,7 +8,7 @@ ghost use Rattle.wdl_typed.specs.declared.flow.FlowDef.{FlowDef as Flow};
 ghost use Rattle.work_desk.specs.Keeping.{KeeperView};
 ghost use Rattle.workflow_stages.specs.Paths.{HasPaths};
 ghost use Rattle.workflow_cli.specs.Loading as spec;
-ghost use Rattle.workflow_cli.specs.Running.{work_trace};
+ghost use Rattle.workflow_cli.specs.Running.{Lapses, work_trace};
 ghost use Rattle.workflow_cli.specs.Stages.{IsFitting, main_with};
 
 use crate::asking::{Report, RunOptions};
@@ -105,8 +105,8 @@ fn run_load<R: Threads + Wait + Clock + Sync, S: Ledger>(
 ) -> Worked
     requires number { (1 ≤ number) × (number ≤ 10000) }
     requires fitting { (f : Flow) × IsFitting prepared.checked prepared.given f }
-    ensures value { (f : Flow) → IsFitting prepared.checked prepared.given f → (k : KeeperView)
-        → spec.RunsLoad number (work_trace result steps.old steps.new k k)
+    ensures value { (f : Flow) → IsFitting prepared.checked prepared.given f → (lapses : Lapses) (k : KeeperView)
+        → spec.RunsLoad number (work_trace result steps.old steps.new lapses k k)
         (main_with prepared.checked prepared.given (spec.load_options number) f) result.work }
     ensures paths { HasPaths result.work }
 {
@@ -125,7 +125,7 @@ pub fn load<R: Threads + Wait + Clock + Sync, S: Ledger>(
     steps: &mut Steps<S>,
 ) -> Worked
     requires number { (1 ≤ number) × (number ≤ 10000) }
-    ensures value { (k : KeeperView) → spec.LoadsAs number (work_trace result steps.old steps.new k k) result.work }
+    ensures value { (lapses : Lapses) (k : KeeperView) → spec.LoadsAs number (work_trace result steps.old steps.new lapses k k) result.work }
     ensures paths { HasPaths result.work }
 {
     match load_start(alloc, number) {

@@ -28,7 +28,7 @@ ghost use Rattle.work_desk.specs.declared.stop.Stop.TheVariants as end;
 ghost use Rattle.workflow_stages.specs.Counting.{WorkCounts};
 ghost use Rattle.workflow_stages.specs.Paths.{HasPaths};
 ghost use Rattle.workflow_cli.specs.Reporting.{report_line};
-ghost use Rattle.workflow_cli.specs.Running.{NamesJournal, work_trace};
+ghost use Rattle.workflow_cli.specs.Running.{Lapses, NamesJournal, work_trace};
 ghost use Rattle.workflow_cli.specs.Stages.{
   IsBegun,
   IsFailedAs,
@@ -234,9 +234,9 @@ pub fn run_plain<L: Launcher + Sync, P: Watch, R: Threads + Wait + Clock + Sync,
     requires fitting { (f : Flow) × IsFitting prepared.checked prepared.given f }
     requires workers { (1 ≤ options.now.workers) × (options.now.workers ≤ 64) }
     requires none { options.now.journal ≡ None }
-    ensures value { (f : Flow) → IsFitting prepared.checked prepared.given f → (k : KeeperView)
+    ensures value { (f : Flow) → IsFitting prepared.checked prepared.given f → (lapses : Lapses) (k : KeeperView)
         → RunsMain (L.gives launcher.now) (L.refuses launcher.now)
-        (work_trace result steps.old steps.new k k)
+        (work_trace result steps.old steps.new lapses k k)
         (main_with prepared.checked prepared.given options.now f) result.work }
     ensures paths { HasPaths result.work }
 {
@@ -280,7 +280,7 @@ fn run_over<L: Launcher + Sync, K: Keeper, P: Watch, R: Threads + Wait + Clock +
         → options.now.journal ≡ Some path → IsOpened path k
         (keeper_view (K.kept keeper.old) (K.path keeper.old) (K.faults keeper.old)) rows
         → RunsMain (L.gives launcher.now) (L.refuses launcher.now)
-        (work_trace result steps.old steps.new k
+        (work_trace result steps.old steps.new (K.lapses keeper.old) k
         (keeper_view (K.kept keeper.new) (K.path keeper.new) (K.faults keeper.new)))
         (main_with prepared.checked prepared.given options.now f) result.work }
     ensures paths { HasPaths result.work }
@@ -321,7 +321,7 @@ fn run_main<L: Launcher + Sync, K: Keeper, P: Watch, R: Threads + Wait + Clock +
     requires fresh { K.path keeper.old ≡ None }
     ensures value { (f : Flow) → IsFitting prepared.checked prepared.given f
         → RunsMain (L.gives launcher.now) (L.refuses launcher.now)
-        (work_trace result steps.old steps.new
+        (work_trace result steps.old steps.new (K.lapses keeper.old)
         (keeper_view (K.kept keeper.old) (K.path keeper.old) (K.faults keeper.old))
         (keeper_view (K.kept keeper.new) (K.path keeper.new) (K.faults keeper.new)))
         (main_with prepared.checked prepared.given options.now f) result.work }
@@ -378,7 +378,7 @@ pub fn run<
     requires fresh { K.path keeper.old ≡ None }
     ensures value { RunsFile (F.tells shelf.old) (F.refuses shelf.old) (Rose (F.faults shelf.old) (F.faults shelf.new))
         (L.gives launcher.now) (L.refuses launcher.now) file.now inputs.now options.now
-        (work_trace result steps.old steps.new
+        (work_trace result steps.old steps.new (K.lapses keeper.old)
         (keeper_view (K.kept keeper.old) (K.path keeper.old) (K.faults keeper.old))
         (keeper_view (K.kept keeper.new) (K.path keeper.new) (K.faults keeper.new))) result.work }
     ensures counted { WorkCounts result.work (F.faults shelf.old) (F.faults shelf.new) }

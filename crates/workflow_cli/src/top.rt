@@ -93,61 +93,61 @@ pub fn workflow<
     requires no_file { K.path keeper.old ≡ None }
     // Of each command but `load`: nothing ran; or the journal is fed for the main workflow, and the
     // launcher gave each of its answers.
-    ensures run { ¬ (IsLoad words.now) → IsIdle (trace_by K.kept K.path K.faults result steps.old steps.new keeper.old keeper.new)
+    ensures run { ¬ (IsLoad words.now) → IsIdle (trace_by K.kept K.lapses K.path K.faults result steps.old steps.new keeper.old keeper.new)
         ⊎ SomeRun (F.tells shelf.old) words.now (L.gives launcher.now) (L.refuses launcher.now)
-        (trace_by K.kept K.path K.faults result steps.old steps.new keeper.old keeper.new) }
+        (trace_by K.kept K.lapses K.path K.faults result steps.old steps.new keeper.old keeper.new) }
     // What each status says, of each command but `load`.
     ensures ok { ¬ (IsLoad words.now) → result.status ≡ status.Ok
         → IsWritten (F.tells shelf.old) words.now (L.gives launcher.now) (L.refuses launcher.now)
-        (trace_by K.kept K.path K.faults result steps.old steps.new keeper.old keeper.new)
+        (trace_by K.kept K.lapses K.path K.faults result steps.old steps.new keeper.old keeper.new)
         (O.told out.old) (O.told out.new) (E.told err.old) (E.told err.new) }
     ensures failed { ¬ (IsLoad words.now) → (f : FaultOf) → result.status ≡ status.Failed f
         → IsFailed (F.tells shelf.old) words.now (L.gives launcher.now) (L.refuses launcher.now)
-        (trace_by K.kept K.path K.faults result steps.old steps.new keeper.old keeper.new) f }
+        (trace_by K.kept K.lapses K.path K.faults result steps.old steps.new keeper.old keeper.new) f }
     ensures usage { ¬ (IsLoad words.now) → result.status ≡ status.Usage
-        → IsIdle (trace_by K.kept K.path K.faults result steps.old steps.new keeper.old keeper.new)
+        → IsIdle (trace_by K.kept K.lapses K.path K.faults result steps.old steps.new keeper.old keeper.new)
         × (asked words.now ≡ None) }
     ensures document { ¬ (IsLoad words.now) → (code : ℕ) (span : SpanOf) → result.status ≡ status.Document code span
         → IsReported (F.tells shelf.old) words.now (L.gives launcher.now) (L.refuses launcher.now)
-        (trace_by K.kept K.path K.faults result steps.old steps.new keeper.old keeper.new)
+        (trace_by K.kept K.lapses K.path K.faults result steps.old steps.new keeper.old keeper.new)
         (O.told out.old) (O.told out.new) (E.told err.old) (E.told err.new) code span }
     ensures inputs { ¬ (IsLoad words.now) → (code : ℕ) (name : Option (List ℕ)) → result.status ≡ status.Inputs code name
-        → IsIdle (trace_by K.kept K.path K.faults result steps.old steps.new keeper.old keeper.new)
+        → IsIdle (trace_by K.kept K.lapses K.path K.faults result steps.old steps.new keeper.old keeper.new)
         × IsBadInputs (F.tells shelf.old) words.now code name }
     ensures read { ¬ (IsLoad words.now) → (p : List ℕ) → result.status ≡ status.Read p
-        → IsIdle (trace_by K.kept K.path K.faults result steps.old steps.new keeper.old keeper.new)
+        → IsIdle (trace_by K.kept K.lapses K.path K.faults result steps.old steps.new keeper.old keeper.new)
         × IsUnread (F.tells shelf.old) words.now (F.refuses shelf.old)
         (Rose (F.faults shelf.old) (F.faults shelf.new)) p }
     ensures write { ¬ (IsLoad words.now) → result.status ≡ status.Write
         → IsCut (F.tells shelf.old) (F.refuses shelf.old)
         (Rose (F.faults shelf.old) (F.faults shelf.new))
         (L.gives launcher.now) (L.refuses launcher.now) words.now
-        (trace_by K.kept K.path K.faults result steps.old steps.new keeper.old keeper.new)
+        (trace_by K.kept K.lapses K.path K.faults result steps.old steps.new keeper.old keeper.new)
         (O.told out.old) (O.told out.new) (E.told err.old) (E.told err.new)
         (Rose (O.faults out.old) (O.faults out.new)) (Rose (E.faults err.old) (E.faults err.new)) }
     ensures not_in_subset { ¬ (IsLoad words.now) → (rule : ℕ) (span : SpanOf) → result.status ≡ status.NotInSubset rule span
         → IsExcluded (F.tells shelf.old) words.now (L.gives launcher.now) (L.refuses launcher.now)
-        (trace_by K.kept K.path K.faults result steps.old steps.new keeper.old keeper.new)
+        (trace_by K.kept K.lapses K.path K.faults result steps.old steps.new keeper.old keeper.new)
         (O.told out.old) (O.told out.new) (E.told err.old) (E.told err.new) rule span }
     ensures launch { ¬ (IsLoad words.now) → (p : List SegmentOf) → result.status ≡ status.Launch p
         → IsUnlaunched (F.tells shelf.old) words.now (L.gives launcher.now) (L.refuses launcher.now)
-        (trace_by K.kept K.path K.faults result steps.old steps.new keeper.old keeper.new) p }
+        (trace_by K.kept K.lapses K.path K.faults result steps.old steps.new keeper.old keeper.new) p }
     ensures keep { ¬ (IsLoad words.now) → result.status ≡ status.Keep
         → IsUnkept (F.tells shelf.old) words.now (L.gives launcher.now) (L.refuses launcher.now)
-        (trace_by K.kept K.path K.faults result steps.old steps.new keeper.old keeper.new) }
+        (trace_by K.kept K.lapses K.path K.faults result steps.old steps.new keeper.old keeper.new) }
     ensures too_many { ¬ (IsLoad words.now) → result.status ≡ status.TooMany
         → IsTooMany (F.tells shelf.old) words.now (L.gives launcher.now) (L.refuses launcher.now)
-        (trace_by K.kept K.path K.faults result steps.old steps.new keeper.old keeper.new) }
+        (trace_by K.kept K.lapses K.path K.faults result steps.old steps.new keeper.old keeper.new) }
     // `load N` with Ok writes its line and nothing else: the journal is fed for the checked form of
     // its document, each answer is one of its table, and the flow over it is clean.
     ensures load_ok { (n : ℕ) → IsLoadOf words.now n → result.status ≡ status.Ok
-        → IsLoadWritten n (trace_by K.kept K.path K.faults result steps.old steps.new keeper.old
+        → IsLoadWritten n (trace_by K.kept K.lapses K.path K.faults result steps.old steps.new keeper.old
         keeper.new)
         (O.told out.old) (O.told out.new) (E.told err.old) (E.told err.new) }
     // With each status it is as a run of that document, over its own shelf and with its own
     // launcher.
     ensures load { (n : ℕ) → IsLoadOf words.now n
-        → LoadEnds n (trace_by K.kept K.path K.faults result steps.old steps.new keeper.old
+        → LoadEnds n (trace_by K.kept K.lapses K.path K.faults result steps.old steps.new keeper.old
         keeper.new)
         (O.told out.old) (O.told out.new) (E.told err.old) (E.told err.new)
         (Rose (O.faults out.old) (O.faults out.new)) (Rose (E.faults err.old) (E.faults err.new))
@@ -189,7 +189,7 @@ pub fn workflow<
     ensures run_complete { RunIsComplete (F.tells shelf.old) words.now (L.refuses launcher.now)
         (Rose (F.faults shelf.old) (F.faults shelf.new))
         (Rose (O.faults out.old) (O.faults out.new) ⊎ Rose (E.faults err.old) (E.faults err.new))
-        (trace_by K.kept K.path K.faults result steps.old steps.new keeper.old keeper.new)
+        (trace_by K.kept K.lapses K.path K.faults result steps.old steps.new keeper.old keeper.new)
         result.status }
 {
     let Worked {

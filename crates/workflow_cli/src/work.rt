@@ -69,11 +69,11 @@ pub fn work<
     requires fresh { K.path keeper.old ≡ None }
     ensures cause { ¬ (IsLoad words.now) → IsWork (F.tells shelf.old) (F.refuses shelf.old) (Rose (F.faults shelf.old) (F.faults shelf.new))
         (L.gives launcher.now) (L.refuses launcher.now) words.now
-        (work_trace result steps.old steps.new
+        (work_trace result steps.old steps.new (K.lapses keeper.old)
         (keeper_view (K.kept keeper.old) (K.path keeper.old) (K.faults keeper.old))
         (keeper_view (K.kept keeper.new) (K.path keeper.new) (K.faults keeper.new))) result.work }
     ensures load { (n : ℕ) → IsLoadOf words.now n
-        → LoadsAs n (work_trace result steps.old steps.new
+        → LoadsAs n (work_trace result steps.old steps.new (K.lapses keeper.old)
         (keeper_view (K.kept keeper.old) (K.path keeper.old) (K.faults keeper.old))
         (keeper_view (K.kept keeper.new) (K.path keeper.new) (K.faults keeper.new))) result.work }
     ensures counted { WorkCounts result.work (F.faults shelf.old) (F.faults shelf.new) }

@@ -137,7 +137,7 @@ text  output { File o = make.o String r = make.r File? z = make.z } }
 file w.wdl
 answer make 0 0
 $ run --workers 1 w.wdl
-> 1 1 +make -make
+> 1 1 +make -make stop
 > ! failed make o: 511 FileMissing
 > /tmp/wdl-run/make echo hi! > o.txt
 
@@ -162,7 +162,7 @@ times 70000 a
 text "}
 file i.json
 $ run --workers 1 --inputs i.json w.wdl
-> 1 0
+> 1 0 stop
 > ! failed many command: 510 TooLarge"#;
 
 #[test]

@@ -10,7 +10,7 @@ answer top 0 0 t
 answer left 0 0 l
 answer right 0 3
 $ run --workers 1 w.wdl
-> 1 3 +top -top +left -left +right -right
+> 1 3 +top -top +left -left +right -right stop
 > ! failed right: status 3
 > /tmp/wdl-run/top echo t
 > /tmp/wdl-run/left echo t
@@ -22,7 +22,7 @@ text  output { String x = b.r String y = say.r } }
 file w.wdl
 answer say 0 3
 $ run --workers 1 w.wdl
-> 1 1 +say -say
+> 1 1 +say -say stop
 > ! failed say: status 3
 > /tmp/wdl-run/say echo a
 
@@ -42,7 +42,7 @@ text workflow w { call say { input: s = "hi" } output { String r = say.r } }
 file w.wdl
 letters say 65537
 $ run --workers 1 w.wdl
-> 1 1 +say -say
+> 1 1 +say -say stop
 > ! failed say r: 516 BodyLong
 > /tmp/wdl-run/say echo hi
 
@@ -51,7 +51,7 @@ text workflow w { call say { input: s = "hi" } output { String r = say.r } }
 file w.wdl
 odd say
 $ run --workers 1 w.wdl
-> 1 1 +say -say
+> 1 1 +say -say stop
 > ! failed say r: 512 NotText
 > /tmp/wdl-run/say echo hi
 
@@ -60,7 +60,7 @@ text workflow w { call say { input: s = "hi" } output { String r = say.r } }
 file w.wdl
 refuse say
 $ run --workers 1 w.wdl
-> 9 1 +say
+> 9 1 +say stop
 > ! cannot launch say"#;
 
 /// Attempts, and statuses that are a success.
@@ -82,7 +82,7 @@ answer say 0 1
 answer say 1 2
 answer say 2 3
 $ run --workers 1 w.wdl
-> 1 3 +say -say +say -say +say -say
+> 1 3 +say -say +say -say +say -say stop
 > ! failed say: status 3
 > /tmp/wdl-run/say echo hi
 > /tmp/wdl-run/say-retry-1 echo hi
@@ -92,7 +92,7 @@ say runtime { maxRetries: 101 }
 text workflow w { call say { input: s = "hi" } output { String r = say.r } }
 file w.wdl
 $ run --workers 1 w.wdl
-> 1 0
+> 1 0 stop
 > ! failed say maxRetries: 510 TooLarge
 
 say runtime { returnCodes: [0, 3] } 
@@ -123,14 +123,14 @@ $ run --workers 1 w.wdl
 version workflow w { Int a = 9223372036854775807 + 1 }
 file w.wdl
 $ run --workers 1 w.wdl
-> 1 0
+> 1 0 stop
 > ! failed . a: 501 Overflow
 
 version workflow w { input { Array[Int] xs } Array[Int]+ ys = xs output { Array[Int]+ r = ys } }
 file w.wdl
 inputs {"w.xs":[]}
 $ run --workers 1 --inputs i.json w.wdl
-> 1 0
+> 1 0 stop
 > ! failed . ys: 505 EmptyArray
 
 version workflow w { input { Array[Int] xs } Array[Int]+ ys = xs output { Array[Int]+ r = ys } }
@@ -143,20 +143,20 @@ $ run --workers 1 --inputs=i.json w.wdl
 version workflow w { Array[Int] x = range(100001) }
 file w.wdl
 $ run --workers 1 w.wdl
-> 1 0
+> 1 0 stop
 > ! failed . x: 510 TooLarge
 
 version workflow w { Array[Int] x = range(-1) }
 file w.wdl
 $ run --workers 1 w.wdl
-> 1 0
+> 1 0 stop
 > ! failed . x: 509 NegativeRange
 
 say
 text workflow w { scatter (i in range(20001)) { call say { input: s = i } } }
 file w.wdl
 $ run --workers 1 w.wdl
-> 11 0
+> 11 0 stop
 > ! too many jobs"#;
 
 #[test]

@@ -5,7 +5,7 @@ use workflow_cases::Outcome;
 /// rows in its keeper.
 pub fn ends(outcome: &Outcome) -> (u8, u64, usize, usize) {
     let ended = &outcome.ended;
-    let launched = ended.counts.put;
+    let launched = outcome.launches as u64;
     let rows = outcome.keeper.rows.len();
     (
         number_of(&ended.status),

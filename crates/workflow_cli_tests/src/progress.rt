@@ -22,7 +22,7 @@ file w.wdl
 answer say 0 3 hi
 $ run --workers 1 w.wdl
 notes 10000
-> 1 1 +say -say
+> 1 1 +say -say stop
 > ! failed say: status 3
 > /tmp/wdl-run/say echo hi
 > # [0 done, 1 running] say: started

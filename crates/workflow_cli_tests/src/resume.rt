@@ -78,6 +78,33 @@ fn a_changed_call_is_launched_anew(rt: HostRuntime) -> Result<(), Fail> {
 }
 
 #[test]
+fn a_row_that_lapses_is_no_answer(rt: HostRuntime) -> Result<(), Fail> {
+    let alloc = rt.alloc();
+    let first = run(&rt, CHAIN, ANSWERS, None)?;
+    let mut keeper = first.into_keeper();
+    for (lapsed, launched) in [("a", 1), ("b", 1), ("c", 1), ("other", 0)] {
+        let answers = format!(in alloc; "{ANSWERS}\nlapsed {lapsed}")?;
+        let again = run(&rt, CHAIN, answers.as_str(), Some(keeper))?;
+        assert_eq!(rt; ends(&again), (0, launched, 3, 3), "{lapsed}");
+        keeper = again.into_keeper();
+    }
+    Ok(())
+}
+
+#[test]
+fn a_row_that_cannot_be_looked_at_ends_the_run(rt: HostRuntime) -> Result<(), Fail> {
+    let alloc = rt.alloc();
+    for (call, journal) in [(3, 0), (4, 1), (5, 2)] {
+        let first = run(&rt, CHAIN, ANSWERS, None)?;
+        let fails = format!(in alloc; "{ANSWERS}\nunkept {call}")?;
+        let stopped = run(&rt, CHAIN, fails.as_str(), Some(first.into_keeper()))?;
+        assert_eq!(rt; ends(&stopped), (10, 0, journal, 3), "{call}");
+        assert!(rt; wrote(&stopped, "", "journal fault\n"));
+    }
+    Ok(())
+}
+
+#[test]
 fn a_row_without_a_success_is_replaced(rt: HostRuntime) -> Result<(), Fail> {
     let failed = run(&rt, CHAIN, "answer a 0 3 A", None)?;
     assert_eq!(rt; ends(&failed), (1, 1, 1, 1));

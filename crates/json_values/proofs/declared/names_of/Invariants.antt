@@ -1,6 +1,6 @@
 use Rattle.std.proofs.Common.{◌≡◌, ℕ, List, ◌||◌, drop}
 use Rattle.json_values.specs.Reading.{is_declared}
-use Rattle.json_values.proofs.KeySets.{any_key}
+use Rattle.wdl_names.proofs.KeySets.{any_key}
 use Rattle.json_values.proofs.declared.names_of.Given as goal
 
 abbrev pub invariant-loop-member : goal.invariant-loop-member

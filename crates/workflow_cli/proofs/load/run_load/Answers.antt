@@ -5,7 +5,7 @@ use Rattle.workflow_cli.proofs.Starting.{stop_is}
 use Rattle.workflow_cli.proofs.load.run_load.Goals as goal
 
 pub returns-in_default-clause-value : goal.returns-in_default-clause-value
-returns-in_default-clause-value g c f fit k =
+returns-in_default-clause-value g c f fit lapses k =
     let i = c.idle.ensures in
     inl (
       record { no_answer = i.journal; no_job = i.steps; no_count = i.counts; no_step = refl; no_row = refl },
@@ -13,6 +13,6 @@ returns-in_default-clause-value g c f fit k =
     )
 
 pub returns-clause-value : goal.returns-clause-value
-returns-clause-value g c f fit k =
+returns-clause-value g c f fit lapses k =
     let e = c.in-Ok.ensures in
-    runs_load c.args.number _ _ _ _ _ _ f _ e.rows e.refused e.options (c.run_plain.ensures.value f fit k)
+    runs_load c.args.number _ _ _ _ _ _ f _ e.rows e.refused e.options (c.run_plain.ensures.value f fit lapses k)

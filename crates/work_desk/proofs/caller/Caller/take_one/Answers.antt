@@ -1,92 +1,124 @@
-use Rattle.std.proofs.Common.{refl, sym, ap, subst}
-use Rattle.std.specs.Prelude.{Contains, Option, None}
+use Rattle.std.proofs.Common.{[], sym, ap, subst, ◌∙◌}
+use Rattle.std.specs.Prelude.{Bool, Ok, Option}
 use Rattle.wdl_base.specs.declared.entry.Entry.{Entry}
 use Rattle.work_desk.specs.declared.stop.Stop.{Stop}
-use Rattle.work_desk.specs.declared.stop.Stop.TheVariants.{NoMemory}
-use Rattle.work_desk.specs.Keeping.{Holding}
-use Rattle.work_desk.specs.Run.{IsGiven, IsRun}
-use Rattle.work_desk.specs.Stops.{halted}
-use Rattle.work_desk.proofs.Kept.{halted_keeps, hold_kept, hold_stopped, hold_taken, kept_row_of, taken_itself}
+use Rattle.work_desk.specs.Keeping.{keeper_view}
+use Rattle.work_desk.specs.Run.{IsRun}
+use Rattle.work_desk.specs.Stops.{stop_of}
+use Rattle.work_desk.proofs.Due.{due_lapsed, due_none}
+use Rattle.work_desk.proofs.Kept.{hold_asked, hold_taken, hold_unasked, rose_asked, taken_itself, there_still, usable_asks}
 use Rattle.work_desk.proofs.Paying.{paid_halted, paid_still, paid_taken, paid_through}
-use Rattle.work_desk.proofs.Runs.{run_halted, run_held, run_put}
+use Rattle.work_desk.proofs.Runs.{run_held, run_put, run_unasked}
 use Rattle.work_desk.proofs.caller.Caller.take_one.Goals as goal
-
-pub returns-in_default-find-clause-run : goal.returns-in_default-find-clause-run
-returns-in_default-find-clause-run g c =
-    let p = g.P.Pact in
-    let self = c.args.self.now in
-    let run = subst (λ (s : Option Stop). IsRun p.workers p.gives p.refuses c.args.rows.now 0 self.core self.shares s) c.requires.goes_on c.requires.run in
-    rw (c.requires.goes_on, c.put.ensures)
-    (run_put p.workers p.gives p.refuses c.args.rows.now self.core c.take.new.self self.shares c.in-Some.job run c.in-Some.ensures.taken c.requires.free c.in_default-find.ensures.found)
-
-pub returns-in_default-find-clause-holds : goal.returns-in_default-find-clause-holds
-returns-in_default-find-clause-holds g c = λ k begin h. hold_taken g.P.Pact.gives c.args.rows.now begin c.args.self.now.core c.take.new.self c.args.self.now.stop k c.in-Some.job h c.in-Some.ensures.taken
-
-pub returns-in_default-copy-clause-run : goal.returns-in_default-copy-clause-run
-returns-in_default-copy-clause-run g c =
-    let p = g.P.Pact in
-    let self = c.args.self.now in
-    let run = subst (λ (s : Option Stop). IsRun p.workers p.gives p.refuses c.args.rows.now 0 self.core self.shares s) c.requires.goes_on c.requires.run in
-    rw (c.halt.ensures.halted, c.requires.goes_on)
-    (run_halted p.workers p.gives p.refuses c.args.rows.now 1 0 c.take.new.self self.shares NoMemory None
-    (run_held p.workers p.gives p.refuses c.args.rows.now self.core c.take.new.self self.shares c.in-Some.job run c.in-Some.ensures.taken c.requires.free c.in-Some-find.ensures.found.2) refl tt)
-
-pub returns-in_default-copy-clause-holds : goal.returns-in_default-copy-clause-holds
-returns-in_default-copy-clause-holds g c =
-    let gives = g.P.Pact.gives in
-    let rows = c.args.rows.now in
-    let self = c.args.self.now in
-    λ k begin h. subst (λ (s : Option Stop). Holding gives rows begin c.take.new.self s k) (sym c.halt.ensures.halted)
-    (hold_stopped gives rows begin c.take.new.self self.stop (halted self.stop NoMemory) k
-    (hold_taken gives rows begin self.core c.take.new.self self.stop k c.in-Some.job h c.in-Some.ensures.taken) (halted_keeps self.stop))
-
-pub settle-requires-clause-run : goal.settle-requires-clause-run
-settle-requires-clause-run g c =
-    let p = g.P.Pact in
-    let self = c.args.self.now in
-    let run = subst (λ (s : Option Stop). IsRun p.workers p.gives p.refuses c.args.rows.now 0 self.core self.shares s) c.requires.goes_on c.requires.run in
-    rw c.requires.goes_on (run_held p.workers p.gives p.refuses c.args.rows.now self.core c.take.new.self self.shares c.in-Some.job run c.in-Some.ensures.taken c.requires.free c.in-Some-find.ensures.found.2)
-
-pub settle-requires-clause-given : goal.settle-requires-clause-given
-settle-requires-clause-given g c =
-    let rows = c.args.rows.now in
-    let kept = c.in-Ok-kept.ensures.answered in
-    subst (λ (e : Entry). IsGiven g.P.Pact.gives rows c.take.new.self.taken e) (sym kept.0) (record {
-      job = c.in-Some.job;
-      row = c.in-Ok.row;
-      was_taken = taken_itself c.args.self.now.core c.take.new.self c.in-Some.job c.in-Some.ensures.taken;
-      asked = refl;
-      given = subst (Contains rows) (sym c.in-Ok.ensures) c.in-Some-find.ensures.found.0;
-      is_usable = kept.1;
-      answer = refl;
-    })
-
-pub returns-clause-holds : goal.returns-clause-holds
-returns-clause-holds g c =
-    let gives = g.P.Pact.gives in
-    let rows = c.args.rows.now in
-    let self = c.args.self.now in
-    let kept = c.in-Ok-kept.ensures.answered in
-    let given = subst (Contains rows) (sym c.in-Ok.ensures) c.in-Some-find.ensures.found.0 in
-    λ k begin h. hold_kept gives rows begin self.core c.take.new.self c.settle.new.self.core self.stop c.settle.new.self.stop k c.in-Some.job c.in-Ok-kept.answered h c.in-Some.ensures.taken
-    (ap (λ (e : Entry). e.request) kept.0) (kept_row_of rows c.in-Ok.row c.in-Some.job c.in-Ok-kept.answered given c.find.ensures.kept kept.1 kept.0) c.settle.ensures.settling
 
 pub returns-in_default-clause-paid : goal.returns-in_default-clause-paid
 returns-in_default-clause-paid g c =
     let self = c.args.self.now in
     rw c.in_default.ensures.taken.1 (paid_still self.core self.stop self.stop c.args.steps.now (λ none. none))
 
+pub returns-in_default-find-clause-run : goal.returns-in_default-find-clause-run
+returns-in_default-find-clause-run g c =
+    let p = g.P.Pact in
+    let self = c.args.self.now in
+    let rows = c.args.rows.now in
+    let run = subst (λ (s : Option Stop). IsRun p.workers p.gives p.refuses p.lapses rows [] 0 self.core self.shares s) c.requires.goes_on c.requires.run in
+    rw (c.begin.ensures.core, c.begin.ensures.shares, c.begin.ensures.stop, c.requires.goes_on)
+    (run_put p.workers p.gives p.refuses p.lapses rows self.core c.take.new.self self.shares c.in-Some.job run c.in-Some.ensures.taken c.requires.free
+    (due_none p.lapses rows c.in-Some.job c.in_default-find.ensures.found))
+
+pub returns-in_default-find-clause-holds : goal.returns-in_default-find-clause-holds
+returns-in_default-find-clause-holds g c =
+    let self = c.args.self.now in
+    λ begin h. rw (c.begin.ensures.core, c.begin.ensures.stop) (hold_taken g.P.Pact.gives c.args.rows.now begin self.core c.take.new.self self.stop _ c.in-Some.job h c.in-Some.ensures.taken)
+
 pub returns-in_default-find-clause-paid : goal.returns-in_default-find-clause-paid
-returns-in_default-find-clause-paid g c = paid_taken c.args.self.now.core c.take.new.self c.in-Some.job c.args.self.now.stop c.args.steps.now c.in-Some.ensures.taken
-
-pub returns-in_default-copy-clause-paid : goal.returns-in_default-copy-clause-paid
-returns-in_default-copy-clause-paid g c =
+returns-in_default-find-clause-paid g c =
     let self = c.args.self.now in
-    rw c.halt.ensures.halted (paid_halted self.core c.take.new.self self.stop NoMemory c.args.steps.now c.args.steps.now)
+    rw (c.begin.ensures.core, c.begin.ensures.stop) (paid_taken self.core c.take.new.self c.in-Some.job self.stop c.args.steps.now c.in-Some.ensures.taken)
 
-pub returns-clause-paid : goal.returns-clause-paid
-returns-clause-paid g c =
+pub reuse-requires-clause-run : goal.reuse-requires-clause-run
+reuse-requires-clause-run g c =
+    let p = g.P.Pact in
     let self = c.args.self.now in
-    let last = c.settle.new.self in
-    paid_through self.core c.take.new.self last.core self.stop self.stop last.stop c.args.steps.now c.args.steps.now c.settle.new.steps
-    (paid_taken self.core c.take.new.self c.in-Some.job self.stop c.args.steps.now c.in-Some.ensures.taken) c.settle.ensures.paid
+    let rows = c.args.rows.now in
+    let run = subst (λ (s : Option Stop). IsRun p.workers p.gives p.refuses p.lapses rows [] 0 self.core self.shares s) c.requires.goes_on c.requires.run in
+    rw c.requires.goes_on (run_held p.workers p.gives p.refuses p.lapses rows self.core c.take.new.self self.shares c.in-Some.job run c.in-Some.ensures.taken c.requires.free)
+
+pub reuse-requires-clause-taken : goal.reuse-requires-clause-taken
+reuse-requires-clause-taken g c = taken_itself c.args.self.now.core c.take.new.self c.in-Some.job c.in-Some.ensures.taken
+
+pub returns-in-Ok-true-clause-holds : goal.returns-in-Ok-true-clause-holds
+returns-in-Ok-true-clause-holds g c =
+    let k = g.K.Keeper in
+    let gives = g.P.Pact.gives in
+    let rows = c.args.rows.now in
+    let self = c.args.self.now in
+    let old = c.args.keeper.now in
+    let new = c.stands.new.self in
+    let before = keeper_view (k.kept old) (k.path old) (k.faults old) in
+    let after = keeper_view (k.kept new) (k.path new) (k.faults new) in
+    let row = c.in-Some-find.row.now in
+    let only = c.in-Some-find.ensures.found in
+    let asked = c.stands.ensures in
+    λ begin h.
+    let there = there_still gives rows begin self.core self.stop before c.in-Some.job row h only.given (usable_asks row c.in-Some.job only.serves) c.in-Some.ensures.taken.may.1 in
+    c.reuse.ensures.holds after (λ told q. there told (sym asked.rows ∙ q)) begin
+    (hold_asked gives rows begin self.core c.take.new.self self.stop before after c.in-Some.job h c.in-Some.ensures.taken asked.path asked.cause.later asked.rows)
+
+pub returns-in-Ok-true-clause-paid : goal.returns-in-Ok-true-clause-paid
+returns-in-Ok-true-clause-paid g c =
+    let self = c.args.self.now in
+    let last = c.reuse.new.self in
+    paid_through self.core c.take.new.self last.core self.stop self.stop last.stop c.args.steps.now c.args.steps.now c.reuse.new.steps
+    (paid_taken self.core c.take.new.self c.in-Some.job self.stop c.args.steps.now c.in-Some.ensures.taken) c.reuse.ensures.paid
+
+pub returns-in-Ok-false-clause-run : goal.returns-in-Ok-false-clause-run
+returns-in-Ok-false-clause-run g c =
+    let p = g.P.Pact in
+    let self = c.args.self.now in
+    let rows = c.args.rows.now in
+    let row = c.in-Some-find.row.now in
+    let run = subst (λ (s : Option Stop). IsRun p.workers p.gives p.refuses p.lapses rows [] 0 self.core self.shares s) c.requires.goes_on c.requires.run in
+    let lapsed = ap (λ (f : Entry → Bool). f row) (sym c.requires.lapses) ∙ c.stands.ensures.lapsed (c.in-Ok-false.is ∙ ap Ok c.in-Ok-false.field-0-test) in
+    rw (c.begin-in-Ok-false.ensures.core, c.begin-in-Ok-false.ensures.shares, c.begin-in-Ok-false.ensures.stop, c.requires.goes_on)
+    (run_put p.workers p.gives p.refuses p.lapses rows self.core c.take.new.self self.shares c.in-Some.job run c.in-Some.ensures.taken c.requires.free
+    (due_lapsed p.lapses rows c.in-Some.job row c.in-Some-find.ensures.found lapsed))
+
+pub returns-in-Ok-false-clause-holds : goal.returns-in-Ok-false-clause-holds
+returns-in-Ok-false-clause-holds g c =
+    let self = c.args.self.now in
+    let asked = c.stands.ensures in
+    λ begin h. rw (c.begin-in-Ok-false.ensures.core, c.begin-in-Ok-false.ensures.stop)
+    (hold_asked g.P.Pact.gives c.args.rows.now begin self.core c.take.new.self self.stop _ _ c.in-Some.job h c.in-Some.ensures.taken asked.path asked.cause.later asked.rows)
+
+pub returns-in-Ok-false-clause-paid : goal.returns-in-Ok-false-clause-paid
+returns-in-Ok-false-clause-paid g c =
+    let self = c.args.self.now in
+    rw (c.begin-in-Ok-false.ensures.core, c.begin-in-Ok-false.ensures.stop) (paid_taken self.core c.take.new.self c.in-Some.job self.stop c.args.steps.now c.in-Some.ensures.taken)
+
+pub returns-in-Err-clause-run : goal.returns-in-Err-clause-run
+returns-in-Err-clause-run g c =
+    let p = g.P.Pact in
+    let self = c.args.self.now in
+    let rows = c.args.rows.now in
+    let run = subst (λ (s : Option Stop). IsRun p.workers p.gives p.refuses p.lapses rows [] 0 self.core self.shares s) c.requires.goes_on c.requires.run in
+    rw (c.halt.ensures.noted, c.halt.ensures.halted, c.stop_of.ensures, c.requires.goes_on)
+    (run_unasked p.workers p.gives p.refuses p.lapses rows c.take.new.self self.shares c.in-Some.job.request c.in-Err.fault
+    (run_held p.workers p.gives p.refuses p.lapses rows self.core c.take.new.self self.shares c.in-Some.job run c.in-Some.ensures.taken c.requires.free))
+
+pub returns-in-Err-clause-holds : goal.returns-in-Err-clause-holds
+returns-in-Err-clause-holds g c =
+    let k = g.K.Keeper in
+    let self = c.args.self.now in
+    let old = c.args.keeper.now in
+    let new = c.stands.new.self in
+    let asked = c.stands.ensures in
+    let rose = rose_asked (k.faults old) (k.faults new) c.stands.result c.in-Err.fault asked.cause c.in-Err.is in
+    λ begin h. rw (c.halt.ensures.noted, c.halt.ensures.halted, c.stop_of.ensures)
+    (hold_unasked g.P.Pact.gives c.args.rows.now begin self.core c.take.new.self self.stop (stop_of c.in-Err.fault) (keeper_view (k.kept old) (k.path old) (k.faults old)) (keeper_view (k.kept new) (k.path new) (k.faults new))
+    c.in-Some.job h c.in-Some.ensures.taken asked.path asked.cause.later asked.rows rose)
+
+pub returns-in-Err-clause-paid : goal.returns-in-Err-clause-paid
+returns-in-Err-clause-paid g c =
+    let self = c.args.self.now in
+    rw c.halt.ensures.halted (paid_halted self.core c.halt.new.core self.stop c.stop_of.result c.args.steps.now c.args.steps.now)
