@@ -7,16 +7,19 @@ ghost use Rattle.std.specs.Prelude.{
   decimal,
   length,
   slice_get,
+  unwrap_or,
   Some,
   IfOk,
 };
 ghost use Rattle.wdl_base.specs.Plain.{has_nul};
+ghost use Rattle.shown_text.specs.Shown.{shown};
 ghost use Rattle.report_text.specs.Lines as spec;
 ghost use Rattle.report_text.specs.Lines.{HasPath};
 ghost use Rattle.report_text.specs.declared.status.Status.TheVariants as status;
 
 use crate::code::{eval_text, word_of};
 use crate::status::Status;
+use shown_text::shown_of;
 use std::alloc::Global;
 use wdl_value::{Fault, Items, NoMemory, Place, Span, Text, Why, place_text};
 
@@ -49,13 +52,22 @@ fn path_of(doc: u32, paths: &Items<Text>) -> &str
     paths.as_slice()[doc as usize].as_str()
 }
 
+/// The path of a document, with its control characters escaped.
+fn shown_path(alloc: Global, doc: u32, paths: &Items<Text>) -> Result<Text, NoMemory>
+    requires { doc < length paths.now }
+    ensures { IfOk result (λ t. t ≡ shown (unwrap_or (slice_get paths.now doc) [])) }
+{
+    shown_of(alloc, path_of(doc, paths))
+}
+
 /// The path of a document, and the bytes of a part of it.
 #[tactic(auto, using(crate::proofs::Plain::plain))]
 fn span_text(alloc: Global, span: Span, paths: &Items<Text>) -> Result<Text, NoMemory>
     requires { span.doc < length paths.now }
     ensures { IfOk result (λ t. t ≡ spec.span_text paths.now span) }
 {
-    let path = path_of(span.doc, paths);
+    let path = shown_path(alloc, span.doc, paths)?;
+    let path = path.as_str();
     let Span { start, end, .. } = span;
     Ok(Text::from_string(format!(in alloc; "{path}:{start}..{end}")?))
 }
@@ -69,7 +81,8 @@ fn failed_line(alloc: Global, fault: &Fault) -> Result<Text, NoMemory>
     let place = place.as_str();
     match fault.why {
         Why::Code(code) => {
-            let name = fault.name.as_str();
+            let name = shown_of(alloc, fault.name.as_str())?;
+            let name = name.as_str();
             let code = eval_text(code);
             Ok(Text::from_string(format!(in alloc; "failed {place} {name}: {code}\n")?))
         }
@@ -107,6 +120,7 @@ fn inputs_line(alloc: Global, code: u16, name: &Option<Text>) -> Result<Text, No
     match name {
         None => Ok(Text::from_string(format!(in alloc; "inputs: {code}\n")?)),
         Some(name) => {
+            let name = shown_of(alloc, name.as_str())?;
             let name = name.as_str();
             Ok(Text::from_string(format!(in alloc; "inputs: {code} {name}\n")?))
         }
@@ -118,6 +132,7 @@ fn inputs_line(alloc: Global, code: u16, name: &Option<Text>) -> Result<Text, No
 fn read_line(alloc: Global, path: &Text) -> Result<Text, NoMemory>
     ensures { IfOk result (λ t. t ≡ spec.line_of (status.Read path.now) []) }
 {
+    let path = shown_of(alloc, path.as_str())?;
     let path = path.as_str();
     Ok(Text::from_string(format!(in alloc; "cannot read {path}\n")?))
 }
@@ -159,7 +174,7 @@ pub fn no_memory_line() -> &'static str
 
 /// The line that a status writes on the error stream, with its newline: none
 /// for `Ok`. The paths are those of the documents, by their numbers; each span's
-/// document has one.
+/// document has one. Control characters in paths and names are escaped.
 pub fn line_of(alloc: Global, status: &Status, paths: &Items<Text>) -> Result<Text, NoMemory>
     requires { HasPath status.now paths.now }
     ensures value { IfOk result (λ t. t ≡ spec.line_of status.now paths.now) }
