@@ -1,4 +1,5 @@
 use crate::database::Database;
+use crate::reason::Reason;
 use crate::rows::{read, write};
 use crate::trouble::Trouble;
 use sqlite::params;
@@ -37,7 +38,7 @@ fn refuse_foreign(database: &mut Database) -> Result<(), Trouble> {
     if database.number(FOREIGN, foreign)? == 0 {
         Ok(())
     } else {
-        Err(Trouble::Failed)
+        Err(Trouble::Failed(Reason::OtherTables))
     }
 }
 

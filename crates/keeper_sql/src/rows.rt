@@ -5,6 +5,7 @@ ghost use Rattle.wdl_base.specs.declared.entry.Source.TheVariants.{Kept};
 ghost use Rattle.wdl_port.specs.Rows.{are_kept, rises as spec_rises};
 
 use crate::database::{Database, read_all};
+use crate::reason::Reason;
 use crate::trouble::Trouble;
 use run_keeper::{entry_of, row_text};
 use sqlite::params;
@@ -35,7 +36,7 @@ pub(crate) fn entry_in(alloc: Global, row: &Stored) -> Result<Entry, Trouble>
     if place.is(row.place.as_str()) && i64::from(entry.request.attempt) == row.attempt {
         Ok(entry)
     } else {
-        Err(Trouble::Failed)
+        Err(Trouble::Failed(Reason::OtherRow))
     }
 }
 
@@ -48,7 +49,7 @@ pub(crate) fn read(alloc: Global, database: &mut Database) -> Result<Items<Entry
     if rises(alloc, all.as_slice())? {
         Ok(all)
     } else {
-        Err(Trouble::Failed)
+        Err(Trouble::Failed(Reason::OtherRow))
     }
 }
 

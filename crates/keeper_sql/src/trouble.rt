@@ -4,6 +4,7 @@ ghost use Rattle.run_keeper.specs.declared.error.RowFault.TheVariants.{NoMemory 
 ghost use Rattle.sqlite.specs.declared.error.Error.TheVariants.{SqliteFailure};
 ghost use Rattle.sqlite.specs.declared.error.ErrorCode.TheVariants.{OutOfMemory as SqliteNoMemory};
 
+use crate::reason::{Reason, reason_of};
 use run_keeper::RowFault;
 use sqlite::{Error as SqliteError, ErrorCode};
 use std::alloc::{AllocError, AllocFailed};
@@ -16,7 +17,7 @@ pub enum Trouble {
     /// What the keeper counts as a fault: the file cannot be opened, read or written, or is no
     /// journal.
     #[error("the journal cannot be opened, read or written")]
-    Failed,
+    Failed(Reason),
     #[error("out of memory")]
     NoMemory,
 }
@@ -27,7 +28,7 @@ impl From<SqliteError> for Trouble {
     fn from(e: SqliteError) -> Trouble {
         match e {
             SqliteError::SqliteFailure(ErrorCode::OutOfMemory) => Trouble::NoMemory,
-            _ => Trouble::Failed,
+            _ => Trouble::Failed(reason_of(e)),
         }
     }
 }
@@ -37,7 +38,7 @@ impl From<RowFault> for Trouble {
 
     fn from(e: RowFault) -> Trouble {
         match e {
-            RowFault::NotARow => Trouble::Failed,
+            RowFault::NotARow => Trouble::Failed(Reason::OtherRow),
             RowFault::NoMemory => Trouble::NoMemory,
         }
     }

@@ -3,16 +3,17 @@ ghost use Rattle.std.specs.Prelude.{OnOk, IsSome};
 
 use crate::tests::TABLE;
 use crate::want::Want;
-use keeper_sql::{Database, SqlKeeper};
+use keeper_sql::{Database, KeeperNotes, SqlKeeper};
 use run_keeper::entry_of;
 use sqlite::params;
 use std::alloc::Global;
-use std::fs;
 use std::fs::File;
+use std::io::Sink;
 use std::os::unix::fs::symlink;
 use std::rt::HostRuntime;
 use std::test::Fail;
 use std::time::{Duration, UNIX_EPOCH};
+use std::{fs, io};
 use wdl_port::Keeper;
 use wdl_value::Entry;
 
@@ -78,7 +79,7 @@ fn change_others(rt: &HostRuntime) -> Result<(), Want> {
     Ok(fs::remove_file(rt, "stamps/other")?)
 }
 
-fn stands(alloc: Global, keeper: &mut SqlKeeper<'_>, entry: &Entry) -> Result<bool, Want>
+fn stands(alloc: Global, keeper: &mut SqlKeeper<'_, Sink>, entry: &Entry) -> Result<bool, Want>
     requires { IsSome keeper.old.path }
     ensures { OnOk result (IsSome keeper.new.path) }
 {
@@ -88,7 +89,7 @@ fn stands(alloc: Global, keeper: &mut SqlKeeper<'_>, entry: &Entry) -> Result<bo
 /// Whether the row that was put before, or has no stamps, stands for its files.
 fn stands_still(rt: &HostRuntime) -> Result<bool, Want> {
     let entry = entry_of(rt.alloc(), ROW)?;
-    let mut keeper = SqlKeeper::new(rt);
+    let mut keeper = SqlKeeper::new(rt, KeeperNotes::new(io::sink(), ""));
     keeper.start(rt.alloc(), JOURNAL)?;
     Ok(stands(rt.alloc(), &mut keeper, &entry)? && keeper.faults == 0)
 }
@@ -96,7 +97,7 @@ fn stands_still(rt: &HostRuntime) -> Result<bool, Want> {
 /// Whether the row stands once it was put, and no longer after that change.
 fn notices(rt: &HostRuntime, way: &str) -> Result<bool, Want> {
     let entry = entry_of(rt.alloc(), ROW)?;
-    let mut keeper = SqlKeeper::new(rt);
+    let mut keeper = SqlKeeper::new(rt, KeeperNotes::new(io::sink(), ""));
     keeper.start(rt.alloc(), JOURNAL)?;
     keeper.put(rt.alloc(), &entry)?;
     let stood = stands(rt.alloc(), &mut keeper, &entry)?;
@@ -142,7 +143,7 @@ fn a_row_without_stamps_stands_while_its_files_are_there(rt: HostRuntime) -> Res
 /// Whether a row that was put stands in a later run after changes of other files.
 fn stands_later(rt: &HostRuntime) -> Result<bool, Want> {
     let entry = entry_of(rt.alloc(), ROW)?;
-    let mut keeper = SqlKeeper::new(rt);
+    let mut keeper = SqlKeeper::new(rt, KeeperNotes::new(io::sink(), ""));
     keeper.start(rt.alloc(), JOURNAL)?;
     keeper.put(rt.alloc(), &entry)?;
     drop(keeper);

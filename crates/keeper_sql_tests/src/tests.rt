@@ -4,14 +4,15 @@ ghost use Rattle.std.specs.Prelude.{◌≡◌, None, false, OnOk, IsSome};
 ghost use Rattle.wdl_base.specs.Plain.{has_nul};
 
 use crate::want::Want;
-use keeper_sql::{Database, SqlKeeper};
+use keeper_sql::{Database, KeeperNotes, SqlKeeper};
 use run_keeper::{entry_of, row_text};
 use sqlite::params;
 use std::alloc::{AllocError, Global};
-use std::fs;
 use std::fs::{Files, OpenOptions};
+use std::io::Sink;
 use std::rt::HostRuntime;
 use std::test::Fail;
+use std::{fs, io};
 use wdl_port::{KeepFault, Keeper};
 use wdl_value::{Entry, NoMemory, Source};
 
@@ -65,7 +66,7 @@ fn text(alloc: Global, item: u32, status: u8) -> Result<String, AllocError> {
 }
 
 /// Puts that entry as one that was launched.
-fn put(alloc: Global, keeper: &mut SqlKeeper<'_>, item: u32, status: u8) -> Result<(), Want>
+fn put(alloc: Global, keeper: &mut SqlKeeper<'_, Sink>, item: u32, status: u8) -> Result<(), Want>
     requires { IsSome keeper.old.path }
     ensures { OnOk result (IsSome keeper.new.path) }
 {
@@ -76,7 +77,7 @@ fn put(alloc: Global, keeper: &mut SqlKeeper<'_>, item: u32, status: u8) -> Resu
 }
 
 /// Puts an answer of the first entry, and then all entries, the last first.
-fn fill(alloc: Global, keeper: &mut SqlKeeper<'_>) -> Result<(), Want>
+fn fill(alloc: Global, keeper: &mut SqlKeeper<'_, Sink>) -> Result<(), Want>
     requires { IsSome keeper.old.path }
     ensures { OnOk result (IsSome keeper.new.path) }
 {
@@ -106,7 +107,7 @@ fn are_entries(alloc: Global, rows: &[Entry]) -> Result<bool, NoMemory> {
 }
 
 /// Whether the keeper gives the entries.
-fn keeps_entries(alloc: Global, keeper: &mut SqlKeeper<'_>) -> Result<bool, Want>
+fn keeps_entries(alloc: Global, keeper: &mut SqlKeeper<'_, Sink>) -> Result<bool, Want>
     requires { IsSome keeper.old.path }
 {
     let rows = keeper.rows(alloc)?;
@@ -122,7 +123,7 @@ fn make_dir(rt: &HostRuntime, dir: &str) -> Result<(), Want> {
 
 /// Whether a keeper gives all entries that it was given.
 fn keeps_what_is_put(rt: &HostRuntime) -> Result<bool, Want> {
-    let mut keeper = SqlKeeper::new(rt);
+    let mut keeper = SqlKeeper::new(rt, KeeperNotes::new(io::sink(), ""));
     keeper.start(rt.alloc(), "kept/j")?;
     fill(rt.alloc(), &mut keeper)?;
     keeps_entries(rt.alloc(), &mut keeper)
@@ -130,7 +131,7 @@ fn keeps_what_is_put(rt: &HostRuntime) -> Result<bool, Want> {
 
 /// Whether the next keeper of the file gives them too.
 fn keeps_what_was_put(rt: &HostRuntime) -> Result<bool, Want> {
-    let mut keeper = SqlKeeper::new(rt);
+    let mut keeper = SqlKeeper::new(rt, KeeperNotes::new(io::sink(), ""));
     keeper.start(rt.alloc(), "kept/j")?;
     keeps_entries(rt.alloc(), &mut keeper)
 }
@@ -172,7 +173,7 @@ fn holds(rt: &HostRuntime, at: &str, bodies: &str) -> Result<bool, Want> {
 fn gives_rows(rt: &HostRuntime, at: &str, count: usize) -> Result<bool, Want>
     requires { has_nul at.now ≡ false }
 {
-    let mut keeper = SqlKeeper::new(rt);
+    let mut keeper = SqlKeeper::new(rt, KeeperNotes::new(io::sink(), ""));
     keeper.start(rt.alloc(), at)?;
     Ok(keeper.rows(rt.alloc())?.len() == count && keeper.faults == 0)
 }
@@ -186,7 +187,7 @@ fn old_rows_are_rewritten(rt: HostRuntime) -> Result<(), Fail> {
 }
 
 /// Whether `start` on that path and then `rows` count a fault each.
-fn counts_faults(alloc: Global, keeper: &mut SqlKeeper<'_>, at: &str) -> bool
+fn counts_faults(alloc: Global, keeper: &mut SqlKeeper<'_, Sink>, at: &str) -> bool
     requires plain { has_nul at.now ≡ false }
     requires fresh { keeper.old.path ≡ None }
 {
@@ -200,10 +201,14 @@ fn counts_faults(alloc: Global, keeper: &mut SqlKeeper<'_>, at: &str) -> bool
 
 /// Whether a second keeper cannot have the file of the first, which goes on.
 fn has_it_alone(rt: &HostRuntime) -> Result<bool, Want> {
-    let mut keeper = SqlKeeper::new(rt);
+    let mut keeper = SqlKeeper::new(rt, KeeperNotes::new(io::sink(), ""));
     keeper.start(rt.alloc(), "one/j")?;
     put(rt.alloc(), &mut keeper, 0, 0)?;
-    let is_refused = counts_faults(rt.alloc(), &mut SqlKeeper::new(rt), "one/j");
+    let is_refused = counts_faults(
+        rt.alloc(),
+        &mut SqlKeeper::new(rt, KeeperNotes::new(io::sink(), "")),
+        "one/j",
+    );
     put(rt.alloc(), &mut keeper, 1, 0)?;
     Ok(is_refused && keeper.faults == 0)
 }
@@ -221,7 +226,11 @@ const BAD: &str = "bad/j";
 /// Whether the file is refused, and left as it is.
 fn is_refused(rt: &HostRuntime) -> Result<bool, Want> {
     let before = fs::read(rt, BAD)?;
-    let refused = counts_faults(rt.alloc(), &mut SqlKeeper::new(rt), BAD);
+    let refused = counts_faults(
+        rt.alloc(),
+        &mut SqlKeeper::new(rt, KeeperNotes::new(io::sink(), "")),
+        BAD,
+    );
     Ok(refused && fs::read(rt, BAD)?.as_slice() == before.as_slice())
 }
 
@@ -263,8 +272,19 @@ fn is_refused_as_text(rt: &HostRuntime) -> Result<bool, Want> {
 fn is_refused_as_folder(rt: &HostRuntime) -> Result<bool, Want> {
     make_dir(rt, "bad")?;
     fs::create_dir(rt, BAD)?;
-    let is_folder_refused = counts_faults(rt.alloc(), &mut SqlKeeper::new(rt), BAD);
-    Ok(is_folder_refused && counts_faults(rt.alloc(), &mut SqlKeeper::new(rt), "bad/none/j"))
+    let is_folder_refused = counts_faults(
+        rt.alloc(),
+        &mut SqlKeeper::new(rt, KeeperNotes::new(io::sink(), "")),
+        BAD,
+    );
+    Ok(
+        is_folder_refused
+            && counts_faults(
+                rt.alloc(),
+                &mut SqlKeeper::new(rt, KeeperNotes::new(io::sink(), "")),
+                "bad/none/j",
+            ),
+    )
 }
 
 /// Whether each database of another table is refused.

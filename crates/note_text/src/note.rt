@@ -1,7 +1,8 @@
+use shown_text::push_shown;
 use std::alloc::Global;
 use wdl_base::NoMemory;
 
-/// The most characters of a quoted text that are shown.
+/// The most characters of a quoted text that are shown. One that is escaped counts as one.
 const MOST_SHOWN: usize = 120;
 
 /// A note as it is written, piece by piece.
@@ -51,11 +52,11 @@ impl Note {
         self.push(digits.as_str())
     }
 
-    /// Appends what a person wrote, with `?` in place of control characters, which a terminal would
-    /// obey, and `..` in place of what follows 120 characters.
+    /// Appends what a person wrote, with its control characters escaped as in a status line, and
+    /// `..` in place of what follows 120 characters.
     pub fn push_given(&mut self, text: &str) -> Result<(), NoMemory> {
         for c in text.chars().take(MOST_SHOWN) {
-            self.text.push(if c.is_control() { '?' } else { c })?;
+            push_shown(&mut self.text, c)?;
         }
         if text.chars().nth(MOST_SHOWN).is_some() {
             self.push("..")?;

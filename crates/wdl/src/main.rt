@@ -12,7 +12,7 @@ use environment::{
 };
 use file_notes::SeeingShelf;
 use job_launcher::{Launching, Notes, ShellLauncher};
-use keeper_sql::SqlKeeper;
+use keeper_sql::{KeeperNotes, SqlKeeper};
 use report_text::{Status, no_memory_line, number_of};
 use run_notes::RunNotes;
 use run_watch::Watch;
@@ -100,7 +100,8 @@ fn main(rt: HostRuntime) -> ExitCode {
     };
     let reasons = Notes::new(note_stream(&rt, rt.stderr(), asked), clear_of(style));
     let launcher = ShellLauncher::new(&rt, shell, own, reasons);
-    let mut keeper = SqlKeeper::new(&rt);
+    let faults = KeeperNotes::new(note_stream(&rt, rt.stderr(), asked), clear_of(style));
+    let mut keeper = SqlKeeper::new(&rt, faults);
     tell_usage(alloc, words.as_slice(), &mut notes);
     let number = number::<_, _, _, _, _, _, _, _, Brand>(
         &rt,
