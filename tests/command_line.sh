@@ -52,6 +52,17 @@ gives "4 workers by default: as many" 0 '{}' '' run --root "$work/run" meeting.w
 most=$(awk '$1 == "begin" { if (++n > most) most = n } $1 == "end" { n-- } END { print most }' log)
 same "4 workers by default: no more" 4 "$most"
 
+echo "control characters"
+# A newline, ESC and U+009B in the name of a file and in a member of JSON. A status line is one line, with escapes.
+odd=$(printf 'a\nb\033[31mc\302\233d')
+gives "a file name with control characters" 5 '' 'cannot read a\nb\u{1b}[31mc\u{9b}d' check "$odd"
+printf 'version 1.1\nworkflow w { Int x = y }' >"$odd"
+gives "a document with such a name" 3 '' 'a\nb\u{1b}[31mc\u{9b}d:33..34: 301 UnknownName' check "$odd"
+printf '{"w.\\n\\u001b[31m\\u009b\\t\\r\\u007f":1}' >odd.json
+gives "a member with control characters" 4 '' 'inputs: 403 UnknownInput w.\n\u{1b}[31m\u{9b}\t\r\u{7f}' run --inputs odd.json bare.wdl
+printf '{"w.\\\\n é \302\240":1}' >odd.json
+gives "a member without them" 4 '' "$(printf 'inputs: 403 UnknownInput w.\\n é \302\240')" run --inputs odd.json bare.wdl
+
 echo "other commands"
 cp bare.wdl ' bare.wdl'
 cwl='{"class":"Workflow","cwlVersion":"v1.2","inputs":[],"outputs":[],"requirements":[{"class":"ScatterFeatureRequirement"},{"class":"SubworkflowFeatureRequirement"}],"steps":[]}'

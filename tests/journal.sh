@@ -233,6 +233,8 @@ pid=$!
 until_launched 2
 run held.wdl
 gives "a second run" 10 nothing 'journal fault'
+run --notes held.wdl
+same "the reason of a second run" "cannot open the journal j: another run, or sqlite3, has it open" "$(sed -n 1p err)"
 [ "$(count launches)" = 2 ] && pass || fail "a second run: $(count launches) launches"
 if [ "$sqlite3" ]; then
   sqlite3 j 'SELECT count(*) FROM entry' >out 2>err
@@ -306,10 +308,11 @@ gives "a run while a command of a killed one goes on" 0 want ''
 
 echo "journals that cannot be kept"
 steps w.wdl 2 :
-# refused NAME PATH [COMMAND..]: the run with the journal PATH, by the command, is status 10, launches nothing, and leaves the file.
+# refused NAME PATH REASON [COMMAND..]: the run with the journal PATH, by the command, is status 10, launches nothing, leaves the file, and has the reason in
+# its notes.
 refused() {
-  name=$1 path=$2
-  shift 2
+  name=$1 path=$2 reason=$3
+  shift 3
   : >launches
   rm -f before
   [ -f "$path" ] && cp "$path" before
@@ -318,18 +321,21 @@ refused() {
   gives "$name" 10 nothing 'journal fault'
   launched "$name"
   if [ -f before ]; then cmp -s before "$path" && pass || fail "$name: the file was changed"; fi
+  "$@" "$program" run --notes --journal "$path" --root "$root" w.wdl >out 2>err </dev/null
+  [ "$(sed -n 1p err)" = "cannot open the journal $path: $reason" ] && [ "$(sed -n '$p' err)" = 'journal fault' ] && pass ||
+    fail "the reason of $name: $(cat err)"
 }
 mkdir folder
-refused "a folder" folder
-refused "a journal in no folder" nowhere/j
-refused "a journal below a file" /dev/null/j
+refused "a folder" folder 'it is a folder'
+refused "a journal in no folder" nowhere/j 'its folder is not there, or no file can be made in it'
+refused "a journal below a file" /dev/null/j 'not a directory'
 echo 'no database, but a text of some length' >text
-refused "a text" text
+refused "a text" text 'it is not a journal: no SQLite database, or none of wdl'
 if [ "$sqlite3" ]; then
   sqlite3 notes 'CREATE TABLE note (id INTEGER PRIMARY KEY, text); INSERT INTO note VALUES (1, 2)'
-  refused "a database with other tables" notes
+  refused "a database with other tables" notes 'it is not a journal: the database has other tables'
   sqlite3 entries 'CREATE TABLE entry (id INTEGER PRIMARY KEY); INSERT INTO entry VALUES (1)'
-  refused "a database with another table entry" entries
+  refused "a database with another table entry" entries 'it is not a journal: the database has other tables'
 fi
 mkdir shut open
 chmod a+rx "$work"
@@ -343,14 +349,14 @@ as_other=
 if $as_other true 2>/dev/null; then
   kept_program=$program kept_root=$root
   program=$work/wdl root=$work/open/run
-  refused "a journal in a read-only folder" "$work/shut/j" $as_other
+  refused "a journal in a read-only folder" "$work/shut/j" 'its folder is not there, or no file can be made in it' $as_other
   $as_other "$program" run --journal "$work/open/j" --root "$root" w.wdl >out 2>err </dev/null
   status=$?
   echo '{"w.r":[["0"],["1"]]}' >want
   gives "a journal in another folder" 0 want ''
   cp "$work/open/j" "$work/open/read_only"
   chmod 444 "$work/open/read_only"
-  refused "a journal that is read-only" "$work/open/read_only" $as_other
+  refused "a journal that is read-only" "$work/open/read_only" 'it, or the log beside it, cannot be written, or the file system has no locks' $as_other
   program=$kept_program root=$kept_root
 else
   skip "a read-only folder" "root cannot become another user here"
@@ -387,6 +393,8 @@ if has umount && mount -t tmpfs -o size=1m tmpfs "$disk" 2>/dev/null; then
   head -c 1048576 /dev/zero >"$disk/filler" 2>/dev/null
   on_disk
   gives "a journal on a full disk" 10 nothing 'journal fault'
+  WDL_NOTES=1 "$program" run --journal "$disk/j" --root "$root" w.wdl >out 2>err </dev/null
+  grep -q "^cannot .* the journal $disk/j: no space is left on the device$" err && pass || fail "the reason of a full disk: $(cat err)"
   launched "a journal on a full disk"
   rm "$disk/filler"
   on_disk

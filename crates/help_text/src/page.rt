@@ -60,6 +60,15 @@ Each option may be given once, as --workers 8 or --workers=8. Jobs are run by
 sh, or by the program that the environment variable WDL_SHELL names, as
 PROGRAM -c COMMAND.
 
+With --journal a job runs again where it has not succeeded yet, where its
+command, its inputs or the root are others than before, and where an input file
+or a file that it left was changed or removed since. Copy a journal between
+runs, and by sqlite3 FILE \".backup COPY\" and not by cp.
+
+Ctrl-C, TERM, HUP, QUIT, KILL and the end of the terminal end the run and its
+commands; what the journal has stays. One run at a time has a root, and one a
+journal.
+
 status  meaning
      0  success: the outputs were written
      1  a job failed, or an expression has no value

@@ -90,21 +90,16 @@ fn word_at(text: &str, at: usize) -> &str {
 /// Appends what stands at a byte.
 fn push_found(note: &mut Note, text: &str, at: usize, expected: Expected) -> Result<(), NoMemory> {
     note.push(", found ")?;
-    let Some(first) = text.get(at..).unwrap_or("").chars().next() else {
+    let first = first_of(text, at);
+    if first.is_empty() {
         return note.push("the end");
-    };
+    }
     let word = word_at(text, at);
     if is_value(expected) && !word.is_empty() {
         note.push_name(word)?;
         return note.push(meant_by(word));
     }
-    note.push("`")?;
-    note.push(if first.is_control() {
-        "?"
-    } else {
-        first_of(text, at)
-    })?;
-    note.push("`")
+    note.push_name(first)
 }
 
 /// The character of a text that begins at a byte.

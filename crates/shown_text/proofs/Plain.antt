@@ -62,9 +62,15 @@ all_plain (c ∷ cs) h =
     let t = parts (encode_utf8 c) (encode_utf8_all cs) h in
     has_nul-append (shown_char c) (flat_map shown_char cs) (one_plain c t.0) (all_plain cs t.1)
 
-pub chars_plain : (s : List ℕ) → IsUtf8 s → has_nul s ≡ false → has_nul (flat_map shown_char (chars s)) ≡ false
+chars_plain : (s : List ℕ) → IsUtf8 s → has_nul s ≡ false → has_nul (flat_map shown_char (chars s)) ≡ false
 chars_plain s u h = all_plain (chars s) (ap has_nul (encodes-chars s u) ∙ h)
 
+-- what is shown of a text without NUL
+pub shown_plain : (s : List ℕ) → IsUtf8 s → has_nul s ≡ false → has_nul (shown s) ≡ false
+unfolding shown
+shown_plain s u h = chars_plain s u h
+
+-- it stands for each character of the text
 pub shown_is : (s : List ℕ) → flat_map shown_char (chars s) ≡ shown s
 unfolding shown
 shown_is s = refl

@@ -32,13 +32,20 @@ pub fn push_shown(text: &mut String, c: char) -> Result<(), NoMemory>
 
 /// Returns the text with its control characters escaped, as [`push_shown`] does it, and all else as
 /// it is.
-pub fn shown_of(alloc: Global, text: &str) -> Result<Text, NoMemory>
-    requires { has_nul text.now ≡ false }
-    ensures { IfOk result (λ shown. shown ≡ spec.shown text.now) }
+pub fn shown_string(alloc: Global, text: &str) -> Result<String, NoMemory>
+    ensures { IfOk result (λ shown. string_bytes shown ≡ spec.shown text.now) }
 {
     let mut shown = String::new(alloc);
     for c in text.chars() {
         push_shown(&mut shown, c)?;
     }
-    Ok(Text::from_string(shown))
+    Ok(shown)
+}
+
+/// The same for a text that holds no NUL.
+pub fn shown_of(alloc: Global, text: &str) -> Result<Text, NoMemory>
+    requires { has_nul text.now ≡ false }
+    ensures { IfOk result (λ shown. shown ≡ spec.shown text.now) }
+{
+    Ok(Text::from_string(shown_string(alloc, text)?))
 }
