@@ -29,7 +29,7 @@ below p zero c h l = absurd (omega arith)
 below p (suc n) zero h l = (and_parts (p zero) (all_below (λ k. p (suc k)) n) h).0
 below p (suc n) (suc c) h l = below (λ k. p (suc k)) n c (and_parts (p zero) (all_below (λ k. p (suc k)) n) h).1 (omega arith)
 
-no_nul : ℕ → Bool
+abbrev no_nul : ℕ → Bool
 no_nul c = not (has_nul (encode_utf8_all (escape_default c)))
 
 is_low : (c : ℕ) → is_control c ≡ true → c < 160
@@ -40,6 +40,7 @@ from_not true h = sym h
 from_not false h = refl
 
 escape_plain : (c : ℕ) → is_control c ≡ true → has_nul (encode_utf8_all (escape_default c)) ≡ false
+unfolding lib.Utf8.encode
 escape_plain c h = from_not _ (below no_nul 160 c refl (is_low c h))
 
 one_of : (b : Bool) (x y : List ℕ) → (b ≡ true → has_nul x ≡ false) → has_nul y ≡ false → has_nul (cond b x y) ≡ false
