@@ -20,6 +20,7 @@
 # The functions set the variables that they name. A script has set `self`, its own path.
 # shellcheck disable=SC2034,SC2154
 
+set -eu
 script=${self##*/}
 newline='
 '
@@ -311,9 +312,9 @@ name_container() {
 # end_container ENGINE PROCESS: ends the container `container`, which gets WDL_GRACE seconds, and
 # the client, which may have got no further than the image.
 end_container() {
-  "$1" stop -t "${WDL_GRACE:-5}" "$container"
-  kill -TERM "$2"
-  "$1" rm --force "$container"
+  "$1" stop -t "${WDL_GRACE:-5}" "$container" || :
+  kill -TERM "$2" || :
+  "$1" rm --force "$container" || :
 } >/dev/null 2>&1
 
 # find_client NAME: ends the script where there is no such program.
@@ -327,7 +328,7 @@ find_client() {
 # HUP, INT, QUIT or TERM, it ends the client by the function `end_client PROCESS` of the script;
 # where it is killed, a process that it leaves does.
 run_client() {
-  client=
+  client='' piped='' status=0
   for signal in 1 2 3 15; do
     # shellcheck disable=SC2064 # The number is that of now.
     trap "end_script $((128 + signal))" "$signal"
@@ -338,18 +339,18 @@ run_client() {
   eval "$words" '3>&- 4<&- &'
   client=$!
   watch
-  wait "$client"
-  status=$?
+  wait "$client" || status=$?
   release
   exit "$status"
 }
 
-# end_script STATUS
+# end_script STATUS: the signal may come when the client was just started.
 end_script() {
   trap '' 1 2 3 15
+  client=${client:-${!-}}
   if [ "$client" ]; then
     end_client "$client"
-    wait "$client"
+    wait "$client" || :
   fi
   release
   exit "$1"
@@ -358,7 +359,6 @@ end_script() {
 # open_pipe: makes a pipe whose ends are 3 and 4. Where the job's directory takes none, `piped` is
 # empty, and nothing watches.
 open_pipe() {
-  piped=
   mkfifo .wdl-pipe 2>/dev/null || return 0
   # shellcheck disable=SC2094 # It is a pipe.
   exec 3<>.wdl-pipe 4<.wdl-pipe && piped=yes
@@ -370,7 +370,7 @@ open_pipe() {
 # processes of its jobs.
 watch() {
   [ "$piped" ] || return 0
-  session=$(command -v setsid)
+  session=$(command -v setsid) || session=
   (
     cd /
     # shellcheck disable=SC2086 # It may be nothing.
