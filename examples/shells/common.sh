@@ -189,6 +189,17 @@ double_quotes() {
   text=$text$tail
 }
 
+# add_variables: passes on what a job is told, by the option --env of docker and podman.
+add_variables() {
+  for name in $(awk 'BEGIN { for (name in ENVIRON) print name }' | LC_ALL=C sort); do
+    case $name in
+      WDL_PLACE | WDL_TASK | WDL_ATTEMPT | WDL_ROOT | WDL_INPUTS | WDL_RUNTIME_*)
+        add_words --env "$name"
+        ;;
+    esac
+  done
+}
+
 # mount_option PATH read|write: adds the option --mount of docker and podman.
 mount_option() {
   [ "$2" = read ] && mode="readonly" || mode=
