@@ -14,7 +14,8 @@ unset WDL_RUNTIME_gpu WDL_RUNTIME_gpus WDL_RUNTIME_gres
 echo "the scripts alone"
 # Programs on the PATH that write their arguments into the file `recorded`, one a line, and end
 # with 7. Where WAITS is set they wait for TERM. What `stop`, `rm` and `image exists` are given, and
-# a TERM, is written into `noted`, and some variables that they have into `told`.
+# a TERM, is written into `noted`, and some variables that they have into `told`. They leave the
+# file LEAVES, and end with ENDS, where these are set.
 scripts=$top/examples/shells
 mkdir recorders
 cat >recorders/srun <<'EOF'
@@ -35,7 +36,8 @@ if [ "${WAITS-}" ]; then
   wait
 fi
 mv "$RECORDS/new" "$RECORDS/recorded"
-exit 7
+[ -z "${LEAVES-}" ] || : >"$LEAVES"
+exit "${ENDS-7}"
 EOF
 # The user's number is 1000, or USER_NUMBER.
 printf '#!/bin/sh\necho "${USER_NUMBER:-1000}"\n' >recorders/id
@@ -55,9 +57,21 @@ passed_on() {
   done | LC_ALL=C sort | while read -r name; do printf '[--env]\n[%s]\n' "$name"; done
 }
 
+# by_node: of lines that end with SHELL, -c and COMMAND, what `slurm` makes: the command leaves a mark
+# at its end.
+on_node='"$0" -c "$1"; status=$?; (: >"$2"); exit "$status"'
+by_node() {
+  awk -v script="$on_node" -v mark="$job/.wdl-ended" '
+    { last[NR] = $0 }
+    END {
+      for (i = 1; i <= NR - 3; i++) print last[i]
+      print "[sh]\n[-c]\n[" script "]\n" last[NR - 2] "\n" last[NR] "\n[" mark "]"
+    }'
+}
+
 # told SCRIPT WORDS.. -- SETTINGS..: with these variables the script gives its client the words and
 # the command, ends with its status, and leaves nothing in the job's directory. The word PASSED
-# stands for what is passed on.
+# stands for what is passed on. The last of the words of `slurm` is the shell of the node.
 told() {
   script=$1
   shift
@@ -68,6 +82,7 @@ told() {
   done
   shift
   printf '[%s]\n' -c "$line" >>wanted
+  case $script in *slurm) by_node <wanted >new && mv new wanted ;; esac
   passed_on "$@" >passed
   sed -e '/^\[PASSED]$/r passed' -e '/^\[PASSED]$/d' wanted >new && mv new wanted
   rm -f recorded noted
@@ -202,6 +217,14 @@ told slurm $of_srun --gpus=2 sh -- WDL_RUNTIME_gpu=2
 told slurm $of_srun sh -- WDL_RUNTIME_gpu=false WDL_RUNTIME_disks=many
 untold slurm 125 'slurm: `gpu`: expected true, false or a number, found "yes"' WDL_RUNTIME_gpu=yes
 
+# srun ends with status 0 where a node fails; the command has not ended then.
+for left in "$job/.wdl-ended" ''; do
+  [ "$left" ] && want='0 ' || want='1 slurm: srun ended with status 0, and the command did not end: has the node failed?'
+  in_job ENDS=0 LEAVES="$left" "$scripts/slurm" -c "$line"
+  same "a step that leaves '$left'" "$want" "$? $(cat err)"
+  [ ! -e "$job/.wdl-ended" ] && pass || fail "the mark of a step stays"
+done
+
 # Images: `container`, else `docker`, else WDL_IMAGE; of a list the first.
 list=$(printf 'b:2\nc:3')
 while IFS='|' read -r container docker image docker_image apptainer_image; do
@@ -331,7 +354,8 @@ for word in "$@"; do
   [ "$last" != --entrypoint ] || shell=$word
   last=$word
 done
-while [ $# -gt 3 ]; do shift; done
+[ "${0##*/}" = srun ] && words=6 || words=3
+while [ $# -gt $words ]; do shift; done
 [ -z "$shell" ] || { shift && set -- "$shell" "$@"; }
 exec "$@"
 EOF
@@ -342,12 +366,23 @@ has bash || ln -s "$(command -v sh)" stand_ins/bash
 export ARGUMENTS="$work/arguments"
 plain_path=$PATH
 
+# for_node TASK: of the words for `slurm`, which end with SHELL, -c and COMMAND, what it makes; those of others as they are.
+for_node() {
+  [ "$shell" = slurm ] && [ -z "${WDL_IMAGE-}" ] || { cat; return; }
+  awk -v script="$on_node" -v mark="$root/$1/.wdl-ended" '
+    { last[NR] = $0 }
+    END {
+      for (i = 1; i <= NR - 3; i++) print last[i]
+      print "sh\n-c\n" script "\n" last[NR - 2] "\n" last[NR] "\n" mark
+    }'
+}
+
 # by SHELL WORDS..: runs a command by that script of examples/shells, whose stand-in must be given the words and then the command.
 by() {
   shell=$1
   shift
   command='echo "$(basename "$PWD")"  '\''two  blanks'\''; exit 3'
-  printf '%s\n' "$@" -c "$command" >want_arguments
+  printf '%s\n' "$@" -c "$command" | for_node t >want_arguments
   document w.wdl "task t { command <<<$command>>> output { String r = read_string(stdout()) } runtime { returnCodes: 3 } }
 workflow w { call t output { String r = t.r } }"
   export WDL_SHELL="$top/examples/shells/$shell" PATH="$work/stand_ins:$plain_path"
@@ -383,7 +418,7 @@ asks() {
   shell=$1
   shift
   command='echo "$WDL_TASK $WDL_RUNTIME_memory"; tr "\\0" "|" <"$WDL_INPUTS"; exit 3'
-  printf '%s\n' "$@" -c "$command" >want_arguments
+  printf '%s\n' "$@" -c "$command" | for_node t >want_arguments
   document w.wdl "task t { input { File f Array[File] more } command <<<$command>>> output { String r = read_string(stdout()) }
 runtime { returnCodes: 3 container: [\"a:1\", \"b:2\"] cpu: \"1.5\" memory: \"8 GB\" gpu: true } }
 workflow w { call t { input: f = \"$odd\", more = [\"$odd\", \"$root/x\"] } output { String r = t.r } }"
@@ -470,6 +505,7 @@ commanded() {
 
 # five SCRIPT: runs the pipeline by that script, without what an earlier run left.
 five() {
+  shell=$1
   rm -f arguments.*
   export WDL_SHELL="$top/examples/shells/$1" PATH="$work/stand_ins:$plain_path"
   expect "five tasks by $1" 0 '{"five.line":"10 variants"}\n' '' run --inputs five.json --root "$root" five.wdl
@@ -481,7 +517,7 @@ five() {
 given() {
   task=$1
   shift
-  printf '%s\n' "$@" -c "$(commanded "$task")" >want_arguments
+  printf '%s\n' "$@" -c "$(commanded "$task")" | for_node "$task" >want_arguments
   numbered "arguments.$task" >is
   cmp -s is want_arguments && pass && return
   fail "the arguments for the task $task"

@@ -335,6 +335,9 @@ find_client() {
   exit 127
 }
 
+# check_end: looks at the `status` of a client that has ended. A script may have its own.
+check_end() { :; }
+
 # run_client: runs the client of `words`, and ends with its status. Where the script is ended, by
 # HUP, INT, QUIT or TERM, it ends the client by the function `end_client PROCESS` of the script;
 # where it is killed, a process that it leaves does.
@@ -352,6 +355,7 @@ run_client() {
   watch
   wait "$client" || status=$?
   release
+  check_end
   exit "$status"
 }
 
