@@ -307,6 +307,23 @@ told docker $of_docker --mount "type=bind,\"source=$odd_field\",\"target=$odd_fi
 told apptainer exec --mount "type=bind,\"source=$odd_field\",\"destination=$odd_field\"" --pwd "$job" a:1 sh -- WDL_IMAGE=a:1
 job=$run/scatter-0/1/align
 
+# The script of docs/CLUSTERS.md for another engine.
+sed -n '/^    #!\/bin\/sh$/,/^$/s/^    //p' "$top/docs/CLUSTERS.md" >grid
+chmod +x grid
+ln -s "$scripts/common.sh" common.sh
+cat >recorders/qrsh <<'EOF'
+#!/bin/sh
+printf '[%s]' "$@" >"$RECORDS/recorded"
+for last; do :; done
+exec sh -c "$last"
+EOF
+chmod +x recorders/qrsh
+in_job WDL_RUNTIME_cpu=1.5 WDL_RUNTIME_memory='8 GB' "$here/grid" -c "$line"
+same "the script of the page" "3 a  bc $job" "$? $(cat out)"
+same "the words of qrsh" '[-now][n][-cwd][-V][-N][align][-pe][smp][2][-l][mem_free=7630M][exec sh -c "$WDL_COMMAND"]' "$(cat recorded)"
+in_job WDL_RUNTIME_cpu=two "$here/grid" -c "$line"
+same "the script of the page refuses" '125 grid: `cpu`: expected a number above zero, such as 2 or 1.5, found "two"' "$? $(cat err)"
+
 # The mark of the run is that of the script, which ends its client, and of Apptainer, which is the
 # script. `slurm` tells the command's script that the step has limits, and srun to pass INT on.
 for pair in 'slurm:none slurm 1' 'docker:none none none' 'podman:none none none' 'apptainer:mark none none'; do
