@@ -59,7 +59,7 @@ passed_on() {
 
 # by_node: of lines that end with SHELL, -c and COMMAND, what `slurm` makes: the command leaves a mark
 # at its end.
-on_node='"$0" -c "$1"; status=$?; (: >"$2"); exit "$status"'
+on_node='"$0" -c "$1" & trap "kill $!" 2 15; status=0; wait $! || status=$?; wait $!; [ "$status" != 0 ] || : >"$2"; exit "$status"'
 by_node() {
   awk -v script="$on_node" -v mark="$job/.wdl-ended" '
     { last[NR] = $0 }
