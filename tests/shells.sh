@@ -14,7 +14,8 @@ unset WDL_RUNTIME_gpu WDL_RUNTIME_gpus WDL_RUNTIME_gres
 echo "the scripts alone"
 # Programs on the PATH that write their arguments into the file `recorded`, one a line, and end
 # with 7. Where WAITS is set they wait for TERM. What `stop`, `rm` and `image exists` are given, and
-# a TERM, is written into `noted`, and some variables that they have into `told`.
+# a TERM, is written into `noted`, and some variables that they have into `told`. They leave the
+# file LEAVES, and end with ENDS, where these are set.
 scripts=$top/examples/shells
 mkdir recorders
 cat >recorders/srun <<'EOF'
@@ -35,7 +36,8 @@ if [ "${WAITS-}" ]; then
   wait
 fi
 mv "$RECORDS/new" "$RECORDS/recorded"
-exit 7
+[ -z "${LEAVES-}" ] || : >"$LEAVES"
+exit "${ENDS-7}"
 EOF
 # The user's number is 1000, or USER_NUMBER.
 printf '#!/bin/sh\necho "${USER_NUMBER:-1000}"\n' >recorders/id
@@ -48,8 +50,28 @@ line='echo "a  b"'\''c'\'' $PWD; exit 3'
 in_job() { (cd "$job" && exec env RECORDS="$here" PATH="$here/recorders:$PATH" "$@") >out 2>err </dev/null; }
 numbered() { sed 's/\(wdl-[a-z]*-\)[0-9a-f]\{16\}/\1NUMBER/' "$1" 2>/dev/null; }
 
+# passed_on SETTINGS..: the words by which `docker` and `podman` pass on what this job is told.
+passed_on() {
+  for name in WDL_ATTEMPT WDL_PLACE WDL_TASK "$@"; do
+    case $name in WDL_ATTEMPT | WDL_PLACE | WDL_TASK | WDL_ROOT=* | WDL_INPUTS=* | WDL_RUNTIME_*=*) echo "${name%%=*}" ;; esac
+  done | LC_ALL=C sort | while read -r name; do printf '[--env]\n[%s]\n' "$name"; done
+}
+
+# by_node: of lines that end with SHELL, -c and COMMAND, what `slurm` makes: the command leaves a mark
+# at its end.
+on_node='"$0" -c "$1" & trap "kill $!" 2 15; status=0; wait $! || status=$?; wait $!; [ "$status" != 0 ] || : >"$2"; exit "$status"'
+by_node() {
+  awk -v script="$on_node" -v mark="$job/.wdl-ended" '
+    { last[NR] = $0 }
+    END {
+      for (i = 1; i <= NR - 3; i++) print last[i]
+      print "[sh]\n[-c]\n[" script "]\n" last[NR - 2] "\n" last[NR] "\n[" mark "]"
+    }'
+}
+
 # told SCRIPT WORDS.. -- SETTINGS..: with these variables the script gives its client the words and
-# the command, ends with its status, and leaves nothing in the job's directory.
+# the command, ends with its status, and leaves nothing in the job's directory. The word PASSED
+# stands for what is passed on. The last of the words of `slurm` is the shell of the node.
 told() {
   script=$1
   shift
@@ -60,6 +82,9 @@ told() {
   done
   shift
   printf '[%s]\n' -c "$line" >>wanted
+  case $script in *slurm) by_node <wanted >new && mv new wanted ;; esac
+  passed_on "$@" >passed
+  sed -e '/^\[PASSED]$/r passed' -e '/^\[PASSED]$/d' wanted >new && mv new wanted
   rm -f recorded noted
   in_job "$@" "$scripts/$script" -c "$line"
   got=$?
@@ -112,8 +137,8 @@ mkdir -p run/scatter-0/1/align
 run=$here/run
 job=$run/scatter-0/1/align
 of_srun='--quiet --nodes=1 --ntasks=1 --job-name=scatter-0/1/align'
-of_docker='run --rm --init --name wdl-align-NUMBER --user 1000:1000 --env HOME=/tmp'
-of_podman='run --rm --init --name wdl-align-NUMBER --userns=keep-id --user 1000:1000 --env HOME=/tmp --security-opt label=disable'
+of_docker='run --rm --init --name wdl-align-NUMBER --user 1000:1000 --env HOME=/tmp PASSED'
+of_podman='run --rm --init --name wdl-align-NUMBER --userns=keep-id --user 1000:1000 --env HOME=/tmp --security-opt label=disable PASSED'
 own="type=bind,source=$job,target=$job"
 
 # OpenWDL 1.1, "Units of Storage": KB is 1000 bytes and KiB is 1024, whatever the case, and the B may
@@ -192,6 +217,14 @@ told slurm $of_srun --gpus=2 sh -- WDL_RUNTIME_gpu=2
 told slurm $of_srun sh -- WDL_RUNTIME_gpu=false WDL_RUNTIME_disks=many
 untold slurm 125 'slurm: `gpu`: expected true, false or a number, found "yes"' WDL_RUNTIME_gpu=yes
 
+# srun ends with status 0 where a node fails; the command has not ended then.
+for left in "$job/.wdl-ended" ''; do
+  [ "$left" ] && want='0 ' || want='1 slurm: srun ended with status 0, and the command did not end: has the node failed?'
+  in_job ENDS=0 LEAVES="$left" "$scripts/slurm" -c "$line"
+  same "a step that leaves '$left'" "$want" "$? $(cat err)"
+  [ ! -e "$job/.wdl-ended" ] && pass || fail "the mark of a step stays"
+done
+
 # Images: `container`, else `docker`, else WDL_IMAGE; of a list the first.
 list=$(printf 'b:2\nc:3')
 while IFS='|' read -r container docker image docker_image apptainer_image; do
@@ -225,7 +258,7 @@ quay.io/a/b:1 - quay.io/a/b:1
 localhost/a - localhost/a
 here:5000/a - here:5000/a
 END
-told podman run --rm --init --name wdl-align-NUMBER --user 0:0 --env HOME=/tmp --security-opt label=disable \
+told podman run --rm --init --name wdl-align-NUMBER --user 0:0 --env HOME=/tmp --security-opt label=disable PASSED \
   --mount "$own" --workdir "$job" --network=none --entrypoint bash quay.io/a -- \
   USER_NUMBER=0 WDL_IMAGE=quay.io/a WDL_PODMAN_ARGS=--network=none WDL_IMAGE_SHELL=bash
 for script in docker podman apptainer; do
@@ -274,6 +307,23 @@ told docker $of_docker --mount "type=bind,\"source=$odd_field\",\"target=$odd_fi
 told apptainer exec --mount "type=bind,\"source=$odd_field\",\"destination=$odd_field\"" --pwd "$job" a:1 sh -- WDL_IMAGE=a:1
 job=$run/scatter-0/1/align
 
+# The script of docs/CLUSTERS.md for another engine.
+sed -n '/^    #!\/bin\/sh$/,/^$/s/^    //p' "$top/docs/CLUSTERS.md" >grid
+chmod +x grid
+ln -s "$scripts/common.sh" common.sh
+cat >recorders/qrsh <<'EOF'
+#!/bin/sh
+printf '[%s]' "$@" >"$RECORDS/recorded"
+for last; do :; done
+exec sh -c "$last"
+EOF
+chmod +x recorders/qrsh
+in_job WDL_RUNTIME_cpu=1.5 WDL_RUNTIME_memory='8 GB' "$here/grid" -c "$line"
+same "the script of the page" "3 a  bc $job" "$? $(cat out)"
+same "the words of qrsh" '[-now][n][-cwd][-V][-N][align][-pe][smp][2][-l][mem_free=7630M][exec sh -c "$WDL_COMMAND"]' "$(cat recorded)"
+in_job WDL_RUNTIME_cpu=two "$here/grid" -c "$line"
+same "the script of the page refuses" '125 grid: `cpu`: expected a number above zero, such as 2 or 1.5, found "two"' "$? $(cat err)"
+
 # The mark of the run is that of the script, which ends its client, and of Apptainer, which is the
 # script. `slurm` tells the command's script that the step has limits, and srun to pass INT on.
 for pair in 'slurm:none slurm 1' 'docker:none none none' 'podman:none none none' 'apptainer:mark none none'; do
@@ -310,41 +360,53 @@ if [ -z "${program-}" ]; then
 fi
 
 echo "shells"
-# Stand-ins on the PATH: each writes its arguments into a file, one a line, and runs the command that they end with.
+# Stand-ins on the PATH: each writes its arguments into a file of the task, one a line, and runs the command that they end with.
 mkdir stand_ins
 cat >stand_ins/srun <<'EOF'
 #!/bin/sh
-printf '%s\n' "$@" >"$ARGUMENTS"
+[ "$1" != image ] || exit 1
+printf '%s\n' "$@" >"$ARGUMENTS.$WDL_TASK"
 shell= last=
 for word in "$@"; do
   [ "$last" != --entrypoint ] || shell=$word
   last=$word
 done
-while [ $# -gt 3 ]; do shift; done
+[ "${0##*/}" = srun ] && words=6 || words=3
+while [ $# -gt $words ]; do shift; done
 [ -z "$shell" ] || { shift && set -- "$shell" "$@"; }
 exec "$@"
 EOF
 chmod +x stand_ins/srun
-cp stand_ins/srun stand_ins/apptainer
-cp stand_ins/srun stand_ins/docker
+for name in docker podman apptainer; do cp stand_ins/srun stand_ins/$name; done
 # Where there is no Bash, sh stands in: what is tested is who is called, and with which words.
 has bash || ln -s "$(command -v sh)" stand_ins/bash
 export ARGUMENTS="$work/arguments"
 plain_path=$PATH
+
+# for_node TASK: of the words for `slurm`, which end with SHELL, -c and COMMAND, what it makes; those of others as they are.
+for_node() {
+  [ "$shell" = slurm ] && [ -z "${WDL_IMAGE-}" ] || { cat; return; }
+  awk -v script="$on_node" -v mark="$root/$1/.wdl-ended" '
+    { last[NR] = $0 }
+    END {
+      for (i = 1; i <= NR - 3; i++) print last[i]
+      print "sh\n-c\n" script "\n" last[NR - 2] "\n" last[NR] "\n" mark
+    }'
+}
 
 # by SHELL WORDS..: runs a command by that script of examples/shells, whose stand-in must be given the words and then the command.
 by() {
   shell=$1
   shift
   command='echo "$(basename "$PWD")"  '\''two  blanks'\''; exit 3'
-  printf '%s\n' "$@" -c "$command" >want_arguments
+  printf '%s\n' "$@" -c "$command" | for_node t >want_arguments
   document w.wdl "task t { command <<<$command>>> output { String r = read_string(stdout()) } runtime { returnCodes: 3 } }
 workflow w { call t output { String r = t.r } }"
   export WDL_SHELL="$top/examples/shells/$shell" PATH="$work/stand_ins:$plain_path"
   expect "the shell $shell" 0 '{"w.r":"t two  blanks"}\n' '' run --root "$root" w.wdl
   PATH=$plain_path
   unset WDL_SHELL
-  numbered arguments >is
+  numbered arguments.t >is
   if cmp -s is want_arguments; then pass; else
     fail "the arguments of $shell"
     diff want_arguments is
@@ -361,39 +423,179 @@ by apptainer exec --bind '/data a:/data a:ro' --bind /b:/b:ro --bind "$root:$roo
 export WDL_APPTAINER_ARGS='--nv *' WDL_IMAGE_SHELL=bash
 by apptainer exec --bind '/data a:/data a:ro' --bind /b:/b:ro --bind "$root:$root:ro" --bind "$t:$t" --pwd "$t" --nv '*' tools.sif bash
 export WDL_DOCKER_ARGS='--network=none *'
-by docker run --rm --init --name wdl-t-NUMBER --user "$(id -u):$(id -g)" --env HOME=/tmp \
+to_docker="--user $(id -u):$(id -g) --env HOME=/tmp --env WDL_ATTEMPT"
+by docker run --rm --init --name wdl-t-NUMBER $to_docker --env WDL_PLACE --env WDL_ROOT --env WDL_TASK \
   --mount 'type=bind,source=/data a,target=/data a,readonly' --mount type=bind,source=/b,target=/b,readonly \
   --mount "type=bind,source=$root,target=$root,readonly" --mount "type=bind,source=$t,target=$t" --workdir "$t" --network=none '*' --entrypoint bash tools.sif
 unset WDL_MOUNTS WDL_SRUN_ARGS WDL_NODE_SHELL WDL_IMAGE WDL_APPTAINER_ARGS WDL_IMAGE_SHELL WDL_DOCKER_ARGS
-# The inputs of a task: given SHELL WORDS..
+# What a task asks for, and its inputs: asks SHELL WORDS..
 odd="$work/data, of:mine/a b"
 mkdir -p "${odd%/*}" && : >"$odd"
-given() {
+asks() {
   shell=$1
   shift
-  command='echo "$WDL_TASK"; tr "\\0" "|" <"$WDL_INPUTS"; exit 3'
-  printf '%s\n' "$@" -c "$command" >want_arguments
+  command='echo "$WDL_TASK $WDL_RUNTIME_memory"; tr "\\0" "|" <"$WDL_INPUTS"; exit 3'
+  printf '%s\n' "$@" -c "$command" | for_node t >want_arguments
   document w.wdl "task t { input { File f Array[File] more } command <<<$command>>> output { String r = read_string(stdout()) }
-runtime { returnCodes: 3 } }
+runtime { returnCodes: 3 container: [\"a:1\", \"b:2\"] cpu: \"1.5\" memory: \"8 GB\" gpu: true } }
 workflow w { call t { input: f = \"$odd\", more = [\"$odd\", \"$root/x\"] } output { String r = t.r } }"
   export WDL_SHELL="$top/examples/shells/$shell" PATH="$work/stand_ins:$plain_path"
-  expect "the inputs of a task in $shell" 0 "{\"w.r\":\"t\\\\n$odd|$root/x|\"}\n" '' run --root "$root" w.wdl
+  expect "what a task asks of $shell" 0 "{\"w.r\":\"t 8 GB\\\\n$odd|$root/x|\"}\n" '' run --root "$root" w.wdl
   PATH=$plain_path
   unset WDL_SHELL
-  numbered arguments >is
+  numbered arguments.t >is
   if cmp -s is want_arguments; then pass; else
     fail "the arguments of $shell for a task"
     diff want_arguments is
   fi
 }
-export WDL_IMAGE=a.sif
-given slurm --quiet --nodes=1 --ntasks=1 --job-name=t sh
-given docker run --rm --init --name wdl-t-NUMBER --user "$(id -u):$(id -g)" --env HOME=/tmp \
+asks slurm --quiet --nodes=1 --ntasks=1 --job-name=t --cpus-per-task=2 --mem=7630M --gpus=1 sh
+asks docker run --rm --init --name wdl-t-NUMBER $to_docker --env WDL_INPUTS --env WDL_PLACE --env WDL_ROOT \
+  --env WDL_RUNTIME_container --env WDL_RUNTIME_cpu --env WDL_RUNTIME_gpu --env WDL_RUNTIME_memory --env WDL_TASK \
   --mount "type=bind,source=$root,target=$root,readonly" --mount "type=bind,\"source=$odd\",\"target=$odd\",readonly" \
-  --mount "type=bind,source=$t,target=$t" --workdir "$t" --entrypoint sh a.sif
-given apptainer exec --bind "$root:$root:ro" --mount "type=bind,\"source=$odd\",\"destination=$odd\",ro" \
-  --bind "$t:$t" --pwd "$t" a.sif sh
+  --mount "type=bind,source=$t,target=$t" --workdir "$t" --cpus 1.5 --memory 8000000000 --entrypoint sh a:1
+asks apptainer exec --bind "$root:$root:ro" --mount "type=bind,\"source=$odd\",\"destination=$odd\",ro" \
+  --bind "$t:$t" --pwd "$t" --cpus 1.5 --memory 8000000000 docker://a:1 sh
+export WDL_SHELL="$top/examples/shells/slurm" PATH="$work/stand_ins:$plain_path"
+rm -f arguments.*
+runs "an amount that is not understood" 1 '' 'failed t: status 125\n' \
+  'task t { command <<<>>> runtime { memory: "two" } } workflow w { call t }'
+[ ! -e arguments.t ] && pass || fail "something was started for an amount that is not understood"
+PATH=$plain_path
+unset WDL_SHELL
+
+# A pipeline of five tasks, each of which asks for other things.
+cat >five.wdl <<'EOF'
+version 1.1
+task sort {
+  input { File reads }
+  command <<<cat "~{reads}" >sorted>>>
+  output { File sorted = "sorted" }
+  runtime { container: ["quay.io/lab/sort:1", "lab/other:2"] cpu: "1.5" memory: "8 GB" }
+}
+task index {
+  input { File sorted }
+  command <<<wc -c <"~{sorted}" >index; exit 3>>>
+  output { File index = "index" }
+  runtime { docker: "lab/index:2" cpu: 2 memory: 8589934592 gpu: true returnCodes: [0, 3] }
+}
+task count {
+  input { File index }
+  command <<<cat "~{index}"; exit 4>>>
+  output { Int count = read_int(stdout()) }
+  runtime { memory: "0.5 GiB" maxRetries: 1 returnCodes: 4 disks: "local-disk 10 SSD" }
+}
+task variants {
+  input { Int count }
+  command <<<echo $((~{count} + 1))>>>
+  output { Int more = read_int(stdout()) }
+  runtime { container: "*" docker: "docker://lab/variants" cpu: 4 memory: "8192 MB" gpu: false gres: "gpu:a100:2" }
+}
+task report {
+  input { Int count }
+  command <<<echo ~{count} variants>>>
+  output { String line = read_string(stdout()) }
+}
+workflow five {
+  input { File reads }
+  call sort { input: reads }
+  call index { input: sorted = sort.sorted }
+  call count { input: index = index.index }
+  call variants { input: count = count.count }
+  call report { input: count = variants.more }
+  output { String line = report.line }
+}
+EOF
+printf 123456789 >"$odd"
+printf '{"five.reads": "%s"}' "$odd" >five.json
+
+# commanded TASK: the command of that task.
+commanded() {
+  case $1 in
+    sort) echo "cat \"$odd\" >sorted" ;;
+    index) echo "wc -c <\"$root/sort/sorted\" >index; exit 3" ;;
+    count) echo "cat \"$root/index/index\"; exit 4" ;;
+    variants) echo 'echo $((9 + 1))' ;;
+    report) echo 'echo 10 variants' ;;
+  esac
+}
+
+# five SCRIPT: runs the pipeline by that script, without what an earlier run left.
+five() {
+  shell=$1
+  rm -f arguments.*
+  export WDL_SHELL="$top/examples/shells/$1" PATH="$work/stand_ins:$plain_path"
+  expect "five tasks by $1" 0 '{"five.line":"10 variants"}\n' '' run --inputs five.json --root "$root" five.wdl
+  PATH=$plain_path
+  unset WDL_SHELL
+}
+
+# given TASK WORDS..: the client of the task was given the words, and then its command.
+given() {
+  task=$1
+  shift
+  printf '%s\n' "$@" -c "$(commanded "$task")" | for_node "$task" >want_arguments
+  numbered "arguments.$task" >is
+  cmp -s is want_arguments && pass && return
+  fail "the arguments for the task $task"
+  diff want_arguments is
+}
+
+of_srun='--quiet --nodes=1 --ntasks=1 --job-name'
+five slurm
+given sort $of_srun=sort --cpus-per-task=2 --mem=7630M sh
+given index $of_srun=index --cpus-per-task=2 --mem=8192M --gpus=1 sh
+given count $of_srun=count --mem=512M sh
+given variants $of_srun=variants --cpus-per-task=4 --mem=7813M --gres=gpu:a100:2 sh
+given report $of_srun=report sh
+
+read_root="--mount type=bind,source=$root,target=$root,readonly"
+read_odd="type=bind,\"source=$odd\",\"target=$odd\",readonly"
+# own TASK: its directory, in which it works.
+own() { echo "--mount type=bind,source=$root/$1,target=$root/$1 --workdir $root/$1"; }
+# passing NAMES..: the words that pass on these attributes of a task, which has input files where FILES stands before them.
+passing() {
+  [ "${1-}" != FILES ] && inputs= || inputs='--env WDL_INPUTS'
+  [ -z "$inputs" ] || shift
+  echo "--env WDL_ATTEMPT $inputs --env WDL_PLACE --env WDL_ROOT"
+  for name; do echo "--env WDL_RUNTIME_$name"; done
+  echo "--env WDL_TASK"
+}
+
+# in_containers SCRIPT PREFIX WORDS..: `docker` and `podman`, which get these words for the user, and PREFIX before an image without a registry.
+in_containers() {
+  script=$1 prefix=$2
+  shift 2
+  five "$script"
+  given sort run --rm --init --name wdl-sort-NUMBER "$@" $(passing FILES container cpu memory) $read_root --mount "$read_odd" $(own sort) \
+    --cpus 1.5 --memory 8000000000 --entrypoint sh quay.io/lab/sort:1
+  given index run --rm --init --name wdl-index-NUMBER "$@" $(passing FILES cpu docker gpu memory) $read_root $(own index) \
+    --cpus 2 --memory 8589934592 --entrypoint sh "${prefix}lab/index:2"
+  given count run --rm --init --name wdl-count-NUMBER "$@" $(passing FILES disks memory) $read_root $(own count) \
+    --memory 536870912 --entrypoint sh "${prefix}lab/plain"
+  given variants run --rm --init --name wdl-variants-NUMBER "$@" $(passing container cpu docker gpu gres memory) $read_root $(own variants) \
+    --cpus 4 --memory 8192000000 --entrypoint sh "${prefix}lab/variants"
+  given report run --rm --init --name wdl-report-NUMBER "$@" $(passing) $read_root $(own report) --entrypoint sh "${prefix}lab/plain"
+}
+user="--user $(id -u):$(id -g) --env HOME=/tmp"
+[ "$(id -u)" = 0 ] && keep= || keep=--userns=keep-id
+export WDL_IMAGE=lab/plain
+in_containers docker '' $user
+in_containers podman docker.io/ $keep $user --security-opt label=disable
+
+# bound TASK: the same for `apptainer`.
+bound() { echo "--bind $root/$1:$root/$1 --pwd $root/$1"; }
+read_root="--bind $root:$root:ro"
+export WDL_IMAGE=plain.sif
+five apptainer
+given sort exec $read_root --mount "type=bind,\"source=$odd\",\"destination=$odd\",ro" $(bound sort) --cpus 1.5 --memory 8000000000 \
+  docker://quay.io/lab/sort:1 sh
+given index exec $read_root $(bound index) --cpus 2 --memory 8589934592 docker://lab/index:2 sh
+given count exec $read_root $(bound count) --memory 536870912 plain.sif sh
+given variants exec $read_root $(bound variants) --cpus 4 --memory 8192000000 docker://lab/variants sh
+given report exec $read_root $(bound report) plain.sif sh
 unset WDL_IMAGE
+
 # A run within a job is not told what that job was.
 export WDL_RUNTIME_cpu=9 WDL_RUNTIME_container=a:1 WDL_INPUTS=/none
 runs "what another job was told" 0 '{"w.r":"none none none"}\n' '' 'task t {
@@ -403,7 +605,7 @@ runs "what another job was told" 0 '{"w.r":"none none none"}\n' '' 'task t {
 unset WDL_RUNTIME_cpu WDL_RUNTIME_container WDL_INPUTS
 # A slurm that runs the command in an image on the node.
 export WDL_NODE_SHELL="$top/examples/shells/docker" WDL_IMAGE=debian:12
-by slurm run --rm --init --name wdl-t-NUMBER --user "$(id -u):$(id -g)" --env HOME=/tmp \
+by slurm run --rm --init --name wdl-t-NUMBER $to_docker --env WDL_PLACE --env WDL_ROOT --env WDL_TASK \
   --mount "type=bind,source=$root,target=$root,readonly" --mount "type=bind,source=$t,target=$t" --workdir "$t" --entrypoint sh debian:12
 unset WDL_NODE_SHELL WDL_IMAGE
 

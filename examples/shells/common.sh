@@ -3,8 +3,7 @@
 # reads what `wdl` tells a job about its task, and runs a client (srun, docker, ..) so that it
 # ends with the script. Nothing is started before all values were understood.
 #
-# `wdl` sets these variables, but for the last, which it does not set yet; a version that sets none
-# of them is served too:
+# `wdl` sets these variables; a version that sets none of them is served too:
 #
 #   WDL_PLACE, WDL_TASK  the place and the name of the call, such as scatter-0/1/align and align
 #   WDL_ROOT             the folder of --root
@@ -21,6 +20,7 @@
 # The functions set the variables that they name. A script has set `self`, its own path.
 # shellcheck disable=SC2034,SC2154
 
+set -eu
 script=${self##*/}
 newline='
 '
@@ -189,6 +189,17 @@ double_quotes() {
   text=$text$tail
 }
 
+# add_variables: passes on what a job is told, by the option --env of docker and podman.
+add_variables() {
+  for name in $(awk 'BEGIN { for (name in ENVIRON) print name }' | LC_ALL=C sort); do
+    case $name in
+      WDL_PLACE | WDL_TASK | WDL_ATTEMPT | WDL_ROOT | WDL_INPUTS | WDL_RUNTIME_*)
+        add_words --env "$name"
+        ;;
+    esac
+  done
+}
+
 # mount_option PATH read|write: adds the option --mount of docker and podman.
 mount_option() {
   [ "$2" = read ] && mode="readonly" || mode=
@@ -312,9 +323,9 @@ name_container() {
 # end_container ENGINE PROCESS: ends the container `container`, which gets WDL_GRACE seconds, and
 # the client, which may have got no further than the image.
 end_container() {
-  "$1" stop -t "${WDL_GRACE:-5}" "$container"
-  kill -TERM "$2"
-  "$1" rm --force "$container"
+  "$1" stop -t "${WDL_GRACE:-5}" "$container" || :
+  kill -TERM "$2" || :
+  "$1" rm --force "$container" || :
 } >/dev/null 2>&1
 
 # find_client NAME: ends the script where there is no such program.
@@ -324,11 +335,14 @@ find_client() {
   exit 127
 }
 
+# check_end: looks at the `status` of a client that has ended. A script may have its own.
+check_end() { :; }
+
 # run_client: runs the client of `words`, and ends with its status. Where the script is ended, by
 # HUP, INT, QUIT or TERM, it ends the client by the function `end_client PROCESS` of the script;
 # where it is killed, a process that it leaves does.
 run_client() {
-  client=
+  client='' piped='' status=0
   for signal in 1 2 3 15; do
     # shellcheck disable=SC2064 # The number is that of now.
     trap "end_script $((128 + signal))" "$signal"
@@ -339,18 +353,19 @@ run_client() {
   eval "$words" '3>&- 4<&- &'
   client=$!
   watch
-  wait "$client"
-  status=$?
+  wait "$client" || status=$?
   release
+  check_end
   exit "$status"
 }
 
-# end_script STATUS
+# end_script STATUS: the signal may come when the client was just started.
 end_script() {
   trap '' 1 2 3 15
+  client=${client:-${!-}}
   if [ "$client" ]; then
     end_client "$client"
-    wait "$client"
+    wait "$client" || :
   fi
   release
   exit "$1"
@@ -359,7 +374,6 @@ end_script() {
 # open_pipe: makes a pipe whose ends are 3 and 4. Where the job's directory takes none, `piped` is
 # empty, and nothing watches.
 open_pipe() {
-  piped=
   mkfifo .wdl-pipe 2>/dev/null || return 0
   # shellcheck disable=SC2094 # It is a pipe.
   exec 3<>.wdl-pipe 4<.wdl-pipe && piped=yes
@@ -371,7 +385,7 @@ open_pipe() {
 # processes of its jobs.
 watch() {
   [ "$piped" ] || return 0
-  session=$(command -v setsid)
+  session=$(command -v setsid) || session=
   (
     cd /
     # shellcheck disable=SC2086 # It may be nothing.

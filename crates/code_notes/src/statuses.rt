@@ -18,8 +18,8 @@ What to do:
 status 1: `failed PLACE NAME: CODE WORD`
 
 NAME at PLACE has no value: a declaration, input, argument or output of that
-name, the item of a scatter, `if` (a condition), `command`, `returnCodes` or
-`maxRetries`; CODE is one of 501 to 516.
+name, the item of a scatter, `if` (a condition), `command`, or a `runtime`
+attribute; CODE is one of 501 to 516.
 
 What to do:
   See the code.

@@ -98,8 +98,8 @@ const TOO_LARGE: &str = "\
 
 A list of more than 100,000 items, a value of more than the size 4,194,304, a
 command or a written text of more than 65,536 bytes, files written for one
-command of more than 4,194,304 bytes together, `maxRetries` below 0 or above
-100.
+command of more than 4,194,304 bytes together, runtime attributes of more than
+65,536 bytes together, `maxRetries` below 0 or above 100.
 
 Example:
   Array[Int] xs = range(100001)

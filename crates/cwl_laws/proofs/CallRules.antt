@@ -113,12 +113,13 @@ module _ (lib : Library) (declared : List (List ℕ)) (c : TCall) (seen given : 
         place = name_reads c.name called.name;
       }
 
--- A call of a task of the subset agrees with its step.
+-- A call of a task of the subset without attributes agrees with its step.
 pub task_call_kept : (r : Run) → AreStatuses r.table → (callee : Callee) (flows : ℕ → Process) (declared : List (List ℕ)) (c : TCall) (seen given : Seen) (scope : Scope) → IsCalled r.library declared c seen given scope
     → (k : ℕ) (t : TaskDef) → c.target ≡ target.Task k → slice_get r.library.tasks k ≡ Some t → task_typed r.library.structs t ≡ true → task_broken r.library.structs t ≡ []
+    → t.attributes ≡ []
     → Simulates (ground_of r) r.library.structs seen.names scope (call_of r callee (record { keys = signature_keys c.name (signature r.library c.target); calls = c.name ∷ [] }) c)
     (call_draft r.library (target_by r.library flows) c)
-task_call_kept r small callee flows declared c seen given scope called k t at there typed kept =
+task_call_kept r small callee flows declared c seen given scope called k t at there typed kept bare =
     let is : signature r.library c.target ≡ Some (task_signature t) = ap (signature r.library) at ∙ ap (option_and_then (λ u. Some (task_signature u))) there in
     let inputs = task_inputs r.library.structs t typed kept in
     call_simulates r small callee (record { keys = signature_keys c.name (signature r.library c.target); calls = c.name ∷ [] }) seen.names scope (target_by r.library flows) c k t (tool_of t)
@@ -128,7 +129,7 @@ task_call_kept r small callee flows declared c seen given scope called k t at th
       task = there;
       process = ap (target_by r.library flows) at ∙ ap task_process there;
       call = call_is r.library declared c seen given scope called (task_signature t) is inputs.0 inputs.1;
-      made = tool_is r t typed kept;
+      made = tool_is r t typed kept bare;
     })
 
 -- A call of a workflow that agrees with its process agrees with its step.

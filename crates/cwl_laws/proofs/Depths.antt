@@ -23,7 +23,7 @@ use Rattle.cwl_image.specs.Image.{Scope, flow_image}
 use Rattle.cwl_image.specs.Named.{flow_named}
 use Rattle.cwl_image.specs.Subset.{called_broken, declared_by, each_broken, flow_at, flow_broken, flow_output_broken, output_scope, reached, target_broken, task_at, task_broken, task_output_broken, task_scope, unless}
 use Rattle.cwl_laws.specs.Parts.{IsCalled}
-use Rattle.cwl_laws.specs.Tools.{AreStatuses, CalleeAgrees}
+use Rattle.cwl_laws.specs.Tools.{AreBare, AreStatuses, CalleeAgrees}
 use Rattle.cwl_laws.proofs.Agreeing.{CallDone, CallsDone}
 use Rattle.cwl_laws.proofs.CallRules.{flow_call_kept, task_call_kept}
 use Rattle.cwl_laws.proofs.Callees.{callee_agrees}
@@ -77,7 +77,7 @@ few_of (g ∷ fs) (suc k) f e h = few_of fs k f e (rest (count_statements g.body
 
 -- ---- any depth
 
-module _ (r : Run) (small : AreStatuses r.table) (kept : IsKept r.library) (differ : OutputsDiffer r.library) (named : list_all flow_named r.library.flows ≡ true)
+module _ (r : Run) (small : AreStatuses r.table) (bare : AreBare r.library) (kept : IsKept r.library) (differ : OutputsDiffer r.library) (named : list_all flow_named r.library.flows ≡ true)
     (few : sum_of (map (λ (f : FlowDef). count_statements f.body) r.library.flows) < 2 ^ 32) (sound : (depth : ℕ) (st : Statement) → IsSound r (flow r depth) st) where
   -- A workflow that nests no deeper agrees with its process.
   abbrev AgreesAt : ℕ → Type 0
@@ -102,7 +102,7 @@ module _ (r : Run) (small : AreStatuses r.table) (kept : IsKept r.library) (diff
       absurd (none-some _ (sym (ap (option_and_then (call_by r.library.structs c seen)) (ap (signature r.library) at ∙ ap (option_and_then (λ t. Some (task_signature t))) there)) ∙ called.typed))
   task_done depth declared c seen given scope called k at (Some t) there broken =
       record {
-        agrees = task_call_kept r small (flow r depth) (flow_image r.library depth) declared c seen given scope called k t at there (all_at (task_typed r.library.structs) r.library.tasks k t kept.tasks there) broken;
+        agrees = task_call_kept r small (flow r depth) (flow_image r.library depth) declared c seen given scope called k t at there (all_at (task_typed r.library.structs) r.library.tasks k t kept.tasks there) broken (bare k t there);
         simple = λ s e d i.
             let same : task_signature t ≡ s = same_Some _ _ (sym (ap (signature r.library) at ∙ ap (option_and_then (λ u. Some (task_signature u))) there) ∙ e) in
             task_simple r.library.structs t broken d (subst (λ (z : Signature). Contains z.outputs d) (sym same) i);

@@ -6,6 +6,7 @@ use Rattle.std.proofs.lemmas.Bool.{false≢true, and_parts, or_from, or_parts}
 use Rattle.wdl_base.specs.declared.fault.Why.TheVariants.{Code}
 use Rattle.wdl_base.specs.declared.name.Key.{Key}
 use Rattle.wdl_base.specs.declared.place.Segment.{Segment}
+use Rattle.wdl_base.specs.declared.request.Attribute.{Attribute}
 use Rattle.wdl_value.specs.declared.env.Bind.{Bind}
 use Rattle.wdl_value.specs.declared.value.Value.{Value}
 use Rattle.wdl_value.specs.Fits.{Structs}
@@ -20,7 +21,7 @@ use Rattle.wdl_typed.specs.Bodies.{signature, task_signature}
 use Rattle.wdl_typed.specs.Declarations.{input_names, plain_key}
 use Rattle.wdl_typed.specs.Flow.{Callee, Flowing, Names, Run, Sight, arg_bind, args_known, args_met, asked, call_of, call_place, called, env_of, failing_at, has_ended, missing, output_keys, task_called, with_args, with_fault}
 use Rattle.wdl_typed.specs.Lists.{are_distinct}
-use Rattle.wdl_typed.specs.Requests.{Asked, Failing, Filled, Successes, Tried, asked_as, asked_with, asks, command_met, named as called_by, retries_met, tried, with_inputs, with_privates}
+use Rattle.wdl_typed.specs.Requests.{Asked, Failing, Filled, Successes, Tried, asked_as, asked_with, asks, attributes_met, command_met, named as called_by, retries_met, tried, with_inputs, with_privates}
 use Rattle.wdl_typed.specs.Scope.{is_among, lookup, same_key}
 use Rattle.flow_laws.proofs.Attempts.{asked_gives}
 use Rattle.flow_laws.proofs.KnownNames.{known_among}
@@ -84,25 +85,29 @@ module _ (r : Run) (small : AreStatuses r.table) (n : Names) (t : TaskDef) (tool
     asked_agrees env bound =
         subst (λ o. Agrees Outs (asked r n place t call (after_codes o)) (tool_run (ground_of r) tool place (command_of tool.argument Taken))) (sym (is.codes env).met)
         (subst (λ o. Agrees Outs (asked r n place t call (after_retries (is.codes env).successes (called_by (codes "maxRetries") (retries_met env o)))) (tool_run (ground_of r) tool place (command_of tool.argument Taken))) (sym is.retries)
-        (by_command (command_met env t.command []) (command_of tool.argument Taken) (is.command object env bound)))
+        (subst (λ as_. Agrees Outs (asked r n place t call (after_attributes (is.codes env).successes zero (attributes_met env as_ []))) (tool_run (ground_of r) tool place (command_of tool.argument Taken))) (sym is.attributes)
+        (by_command (command_met env t.command []) (command_of tool.argument Taken) (is.command object env bound))))
       where
-        all_asked : Filled → Asked
-        all_asked = asked_as t (record { env = env; files = [] }) (is.codes env).successes zero []
+        after_attributes : Successes → ℕ → Tried (List Attribute) → Tried Asked
+        after_attributes s n o =
+            tried o (λ as_. tried (called_by (codes "command") (command_met env t.command [])) (λ f. Ok (asked_as t (record { env = env; files = [] }) s n as_ f)))
 
         after_retries : Successes → Tried ℕ → Tried Asked
-        after_retries s o =
-            tried o (λ n. tried (called_by (codes "command") (command_met env t.command [])) (λ f. Ok (asked_as t (record { env = env; files = [] }) s n [] f)))
+        after_retries s o = tried o (λ n. after_attributes s n (attributes_met env t.attributes []))
 
         after_codes : Outcome Successes → Tried Asked
         after_codes o = tried (called_by (codes "returnCodes") o) (λ s. after_retries s (called_by (codes "maxRetries") (retries_met env t.retries)))
 
+        made : Filled → Asked
+        made f = asked_as t (record { env = env; files = [] }) (is.codes env).successes zero [] f
+
         by_command : (o : Outcome Filled) (p : Option (List ℕ)) → CommandsAgree o p
             → Agrees Outs
-            (asked r n place t call (tried (called_by (codes "command") o) (λ f. Ok (all_asked f))))
+            (asked r n place t call (tried (called_by (codes "command") o) (λ f. Ok (made f))))
             (tool_run (ground_of r) tool place p)
         by_command (Ok f) (Some s) h =
-            subst (λ text. Agrees Outs (asked r n place t call (Ok (all_asked f))) (tool_run (ground_of r) tool place (Some text))) h
-            (attempts_agree r n place t call (all_asked f) tool Outs refl small (is.codes env).same
+            subst (λ text. Agrees Outs (asked r n place t call (Ok (made f))) (tool_run (ground_of r) tool place (Some text))) h
+            (attempts_agree r n place t call (made f) tool Outs refl small (is.codes env).same
             (λ answer. told_agree call r place answer t.outputs tool.outputs (is.outputs place) env))
         by_command (Err c) None h = fault_agrees (record { name = codes "command"; why = Code c })
         by_command (Ok f) None h = absurd h

@@ -17,7 +17,7 @@ use Rattle.wdl_typed.specs.declared.scope.Bound.{Bound}
 use Rattle.wdl_typed.specs.declared.task.TDecl.{TDecl}
 use Rattle.wdl_typed.specs.declared.task.TInput.{TInput}
 use Rattle.wdl_typed.specs.declared.task.TaskDef.{TaskDef}
-use Rattle.wdl_typed.specs.Declarations.{bound, codes_typed, command_typed, context, decl_names, decls_bound, decls_typed, default_typed, in_output, in_place, input_names, inputs_bound, inputs_typed, output_context, private_names, retries_typed, task_names, task_typed}
+use Rattle.wdl_typed.specs.Declarations.{attributes_typed, bound, codes_typed, command_typed, context, decl_names, decls_bound, decls_typed, default_typed, in_output, in_place, input_names, inputs_bound, inputs_typed, output_context, private_names, retries_typed, task_names, task_typed}
 use Rattle.wdl_typed.specs.Evaluation.{settled}
 use Rattle.wdl_typed.specs.Flow.{Run}
 use Rattle.wdl_typed.specs.KnownTypes.{is_some, is_written}
@@ -143,20 +143,19 @@ record Parts (structs : Structs) (t : TaskDef) : Type 0 where
 
 parts_of : (structs : Structs) (t : TaskDef) → task_typed structs t ≡ true → Parts structs t
 parts_of structs t h =
-    let f = and_parts
-    (are_distinct (task_names t) && inputs_typed structs [] t.inputs && decls_typed (in_place structs) structs (inputs_bound t.inputs) t.privates && codes_typed structs (private_names t) t.codes && retries_typed structs (private_names t) t.retries && command_typed structs (private_names t) t.command)
-    (decls_typed (in_output structs) structs (private_names t) t.outputs) h in
-    let e = and_parts
-    (are_distinct (task_names t) && inputs_typed structs [] t.inputs && decls_typed (in_place structs) structs (inputs_bound t.inputs) t.privates && codes_typed structs (private_names t) t.codes && retries_typed structs (private_names t) t.retries)
-    (command_typed structs (private_names t) t.command) f.0 in
-    let d = and_parts
-    (are_distinct (task_names t) && inputs_typed structs [] t.inputs && decls_typed (in_place structs) structs (inputs_bound t.inputs) t.privates && codes_typed structs (private_names t) t.codes)
-    (retries_typed structs (private_names t) t.retries) e.0 in
-    let c = and_parts
-    (are_distinct (task_names t) && inputs_typed structs [] t.inputs && decls_typed (in_place structs) structs (inputs_bound t.inputs) t.privates)
-    (codes_typed structs (private_names t) t.codes) d.0 in
-    let b = and_parts (are_distinct (task_names t) && inputs_typed structs [] t.inputs) (decls_typed (in_place structs) structs (inputs_bound t.inputs) t.privates) c.0 in
-    let a = and_parts (are_distinct (task_names t)) (inputs_typed structs [] t.inputs) b.0 in
+    let one = are_distinct (task_names t) in
+    let two = one && inputs_typed structs [] t.inputs in
+    let three = two && decls_typed (in_place structs) structs (inputs_bound t.inputs) t.privates in
+    let four = three && codes_typed structs (private_names t) t.codes in
+    let five = four && retries_typed structs (private_names t) t.retries in
+    let six = five && attributes_typed structs (private_names t) t.attributes in
+    let f = and_parts (six && command_typed structs (private_names t) t.command) (decls_typed (in_output structs) structs (private_names t) t.outputs) h in
+    let e = and_parts six (command_typed structs (private_names t) t.command) f.0 in
+    let n = and_parts five (attributes_typed structs (private_names t) t.attributes) e.0 in
+    let d = and_parts four (retries_typed structs (private_names t) t.retries) n.0 in
+    let c = and_parts three (codes_typed structs (private_names t) t.codes) d.0 in
+    let b = and_parts two (decls_typed (in_place structs) structs (inputs_bound t.inputs) t.privates) c.0 in
+    let a = and_parts one (inputs_typed structs [] t.inputs) b.0 in
     record { names = a.0; inputs = a.1; codes = c.1; command = e.1; outputs = f.1 }
 
 -- the rules that a task keeps
@@ -216,9 +215,10 @@ task_inputs structs t typed kept =
       first_distinct (input_names t.inputs) (decl_names t.privates) (first_distinct (input_names t.inputs ++ decl_names t.privates) (decl_names t.outputs) p.names),
     )
 
--- A task that is well typed and keeps the rules is as its tool.
-pub tool_is : (r : Run) (t : TaskDef) → task_typed r.library.structs t ≡ true → task_broken r.library.structs t ≡ [] → IsTool r t (tool_of t)
-tool_is r t typed kept =
+-- A task that is well typed, keeps the rules and has no attributes is as its tool.
+pub tool_is : (r : Run) (t : TaskDef) → task_typed r.library.structs t ≡ true → task_broken r.library.structs t ≡ [] → t.attributes ≡ []
+    → IsTool r t (tool_of t)
+tool_is r t typed kept bare =
     let p = parts_of r.library.structs t typed in
     let k = rules_of r.library.structs t kept in
     let u = run_rules r.library.structs t k.run in
@@ -226,6 +226,7 @@ tool_is r t typed kept =
       inputs = refl;
       privates = no_privates r.library.structs (task_scope t) t.privates k.privates;
       retries = no_retries t.retries u.retries;
+      attributes = bare;
       codes = codes_agree r.library.structs (private_names t) (task_scope t) t p.codes u.codes u.are;
       command = λ object env are.
           commands_agree r.library.structs (private_names t) (task_scope t) t.inputs object env

@@ -142,7 +142,7 @@ as_meant main f m a =
     }
 
 pub simulates : Simulation
-simulates lib main f given site table checked subset named there fit small =
+simulates lib main f given site table checked subset named bare there fit small =
     let r : Run = record { library = lib; site = site; table = table } in
     let kept = kept_by lib (Some main) checked in
     let library : IsLibrary lib = record { tasks = kept.tasks; flows = kept.flows } in
@@ -154,6 +154,6 @@ simulates lib main f given site table checked subset named there fit small =
     let counted = and_parts (are_structs lib.structs && list_all (task_typed lib.structs) lib.tasks && list_all (flow_typed lib) lib.flows && main_is_there lib.flows (Some main)) (nat_lt (count lib) (2 ^ 32)) checked in
     let few = last_few (length lib.tasks) (length lib.flows) (sum_of (map (λ (u : TaskDef). length u.command) lib.tasks)) (sum_of (map (λ (g : FlowDef). count_statements g.body) lib.flows)) counted.1 in
     as_meant f (whole r main given) _
-    (agrees_at r small kept (outputs_differ lib kept) words.1 few (λ depth st. sound r (flow r depth) library (callees_sound r library depth) st) 24 24 main f (omega arith) there t.nested
+    (agrees_at r small bare kept (outputs_differ lib kept) words.1 few (λ depth st. sound r (flow r depth) library (callees_sound r library depth) st) 24 24 main f (omega arith) there t.nested
     (nothing_broken (broken_in lib main) subset) given (object_of given) [] (object_same lib.structs f.inputs given b.1)
     (inputs_met lib.structs f.inputs given differ b.1 f.inputs (λ i c. c) a.1))

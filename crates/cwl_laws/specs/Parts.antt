@@ -63,9 +63,11 @@ CalleesAgree =
     → IsWorkflow (ground_of r) r.library.structs f.inputs (runners_of r (flow r depth) f.body) (drafts_of r.library (flow_image r.library depth) f.body) f.outputs
     → CalleeAgrees r (flow r (suc depth)) k f (flow_image r.library (suc depth) k)
 
--- A task that is well typed and keeps the rules is as its tool, and its inputs are those of the subset.
+-- A task that is well typed, keeps the rules and has no attributes is as its tool, and its inputs are those of the subset.
 abbrev pub TasksAreTools : Type 0
-TasksAreTools = (r : Run) (t : TaskDef) → task_typed r.library.structs t ≡ true → task_broken r.library.structs t ≡ [] → IsTool r t (tool_of t)
+TasksAreTools =
+    (r : Run) (t : TaskDef) → task_typed r.library.structs t ≡ true → task_broken r.library.structs t ≡ [] → t.attributes ≡ []
+    → IsTool r t (tool_of t)
 
 abbrev pub TaskInputsKept : Type 0
 TaskInputsKept =
@@ -144,12 +146,12 @@ pub record IsCalled (lib : Library) (declared : List (List ℕ)) (c : TCall) (se
 abbrev pub names_of_call : Library → TCall → Names
 names_of_call lib c = record { keys = signature_keys c.name (signature lib c.target); calls = c.name ∷ [] }
 
--- A call of a task of the subset agrees with its step.
+-- A call of a task of the subset without attributes agrees with its step.
 abbrev pub TaskCallsKept : Type 0
 TaskCallsKept =
     (r : Run) → AreStatuses r.table → (callee : Callee) (flows : ℕ → Process) (declared : List (List ℕ)) (c : TCall) (seen given : Seen) (scope : Scope)
     → IsCalled r.library declared c seen given scope → (k : ℕ) (t : TaskDef) → c.target ≡ target.Task k → slice_get r.library.tasks k ≡ Some t
-    → task_typed r.library.structs t ≡ true → task_broken r.library.structs t ≡ []
+    → task_typed r.library.structs t ≡ true → task_broken r.library.structs t ≡ [] → t.attributes ≡ []
     → Simulates (ground_of r) r.library.structs seen.names scope (call_of r callee (names_of_call r.library c) c)
     (call_draft r.library (target_by r.library flows) c)
 

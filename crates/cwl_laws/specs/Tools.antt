@@ -41,6 +41,10 @@ ground_of r = record { site = r.site; table = r.table }
 abbrev pub AreStatuses : List Row → Type 0
 AreStatuses table = (place : List Segment) (attempt : ℕ) (answer : Answer) → answer_at table place attempt ≡ Some answer → answer.status < 256
 
+-- No task has attributes that are told as text. (One that fails stops the flow, and the tool of its task has none.)
+abbrev pub AreBare : Library → Type 0
+AreBare lib = (k : ℕ) (t : TaskDef) → slice_get lib.tasks k ≡ Some t → t.attributes ≡ []
+
 -- ---- outputs
 
 abbrev pub IsFile : Value → Type 0
@@ -95,6 +99,7 @@ pub record IsTool (r : Run) (t : TaskDef) (tool : Tool) : Type 0 where
   pub inputs : tool.inputs ≡ map cwl_in t.inputs
   pub privates : t.privates ≡ []
   pub retries : t.retries ≡ None
+  pub attributes : t.attributes ≡ []
   pub codes : (env : List Bind) → CodesAgree t tool env
   pub command : (object : List Named) (env : List Bind) → ((i : TInput) → Contains t.inputs i → IsBound r.library.structs object env i)
       → CommandsAgree (command_met env t.command []) (command_of tool.argument (all_taken object (map cwl_in t.inputs)))

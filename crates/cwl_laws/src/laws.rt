@@ -21,7 +21,8 @@ ghost use Rattle.cwl_laws.specs.Parts.{
   WiresRefer,
 };
 
-/// The CWL process of a checked form of the subset means what the flow of the form gives.
+/// The CWL process of a checked form of the subset whose tasks have no attributes means what the
+/// flow of the form gives.
 ///
 /// For inputs that fit, any site and any table of answers with statuses below 256, the flow is
 /// clean exactly where the meaning of the process is complete. Then both have the same jobs and the

@@ -77,7 +77,8 @@ task_outputs structs t h =
     let c = (and_parts _ _ b).0 in
     let d = (and_parts _ _ c).0 in
     let e = (and_parts _ _ d).0 in
-    let names : are_distinct (task_names t) ≡ true = (and_parts _ _ e).0 in
+    let f = (and_parts _ _ e).0 in
+    let names : are_distinct (task_names t) ≡ true = (and_parts _ _ f).0 in
     names_right (input_names t.inputs ++ decl_names t.privates) (decl_names t.outputs) names
 
 flow_outputs : (f : FlowDef) → IsFlow f → are_distinct (decl_names f.outputs) ≡ true

@@ -1,3 +1,4 @@
+pub mod Bare
 pub mod Givens
 pub mod Inputs
 pub mod Lookups

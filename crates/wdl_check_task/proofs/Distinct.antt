@@ -44,7 +44,7 @@ has_either n (m ∷ ns) ms h =
       | inr e ↦ elim (has_either n ns ms e) [ inl k ↦ inl (or_right (bytes_eq m n) (has_name n ns) k) | inr k ↦ inr k ]
     ]
 
-has_left : (n : List ℕ) (ns ms : List (List ℕ)) → has_name n ns ≡ true → has_name n (ns ++ ms) ≡ true
+pub has_left : (n : List ℕ) (ns ms : List (List ℕ)) → has_name n ns ≡ true → has_name n (ns ++ ms) ≡ true
 has_left n [] ms h = absurd (false≢true h)
 has_left n (m ∷ ns) ms h =
     elim (or_cases (bytes_eq m n) (has_name n ns) h) [

@@ -32,7 +32,7 @@ use Rattle.wdl_typed.specs.declared.task.TDecl.{TDecl}
 use Rattle.wdl_typed.specs.declared.task.TInput.{TInput}
 use Rattle.wdl_typed.specs.declared.task.TaskDef.{TaskDef}
 use Rattle.wdl_typed.specs.Declarations as well
-use Rattle.wdl_typed.specs.Declarations.{codes_typed, decl_names, decls_bound, hole_type, in_body, input_names, inputs_bound, retries_typed}
+use Rattle.wdl_typed.specs.Declarations.{attributes_typed, codes_typed, decl_names, decls_bound, hole_type, in_body, input_names, inputs_bound, retries_typed}
 use Rattle.wdl_typed.specs.Lists.{are_distinct, has_name, numbers_differ}
 use Rattle.wdl_typed.specs.Order.{Needing, picked}
 use Rattle.wdl_typed.specs.Typing.{hole_takes, is_type, takes_some, type_of}
@@ -64,6 +64,7 @@ use Rattle.wdl_check_laws.proofs.TreeLaws.{coerced_has}
 use Rattle.wdl_order.proofs.LeastLaws.{least}
 use Rattle.wdl_check_decls.proofs.WellTyped.{decls_types, expr_types, inputs_types, placed_types, then_some, refused_some, has_type}
 use Rattle.wdl_check_task.proofs.Made.{Made, made}
+use Rattle.wdl_check_task.proofs.Kept.{each_kept}
 use Rattle.wdl_check_task.proofs.Distinct.{Among, among_both, distinct_both, distinct_left, distinct_right, picked_among, picked_distinct, picked_map}
 
 module _ (w : World) (names : List Bound) where
@@ -79,7 +80,7 @@ module _ (w : World) (names : List Bound) where
   RetriesFine r = retries_typed w.structs names r ≡ true
 
   abbrev SaidFine : Said → Type 0
-  SaidFine s = CodesFine s.codes × RetriesFine s.retries
+  SaidFine s = CodesFine s.codes × RetriesFine s.retries × (attributes_typed w.structs names s.attributes ≡ true)
 
   cast_fine : (span : Span) (x : Typed) (t : Ty) (e : TExpr) → Has x → (cast_to t span x).typed ≡ Some e → is_type (in_body w.structs names e) t ≡ true
   cast_fine span x t e h k =
@@ -114,12 +115,16 @@ module _ (w : World) (names : List Bound) where
 
   runtime_fine : (as_ : List (Attribute Expr)) (s : Said) → (runtime_typed w names as_).typed ≡ Some s → SaidFine s
   runtime_fine as_ s h =
-      let q = then_some (each_typed w names as_) (λ x. named_typed w names as_) s h in
+      let q = then_some (each_typed w names as_) (named_typed w names as_) s h in
       let c =
       then_some (some_codes w names (first_named (texts "returnCodes") as_))
-      (λ c. then_ (some_retries w names (first_named (texts "maxRetries") as_)) (λ r. done (said c r))) s q.2 in
-      let r = then_some (some_retries w names (first_named (texts "maxRetries") as_)) (λ r. done (said c.0 r)) s c.2 in
-      subst SaidFine (same_Some (said c.0 r.0) s r.2) (some_codes_fine (first_named (texts "returnCodes") as_) c.0 c.1, some_retries_fine (first_named (texts "maxRetries") as_) r.0 r.1)
+      (λ c. then_ (some_retries w names (first_named (texts "maxRetries") as_)) (λ r. done (said q.0 c r))) s q.2 in
+      let r = then_some (some_retries w names (first_named (texts "maxRetries") as_)) (λ r. done (said q.0 c.0 r)) s c.2 in
+      subst SaidFine (same_Some (said q.0 c.0 r.0) s r.2) (
+        some_codes_fine (first_named (texts "returnCodes") as_) c.0 c.1,
+        some_retries_fine (first_named (texts "maxRetries") as_) r.0 r.1,
+        each_kept w names as_ q.0 q.1,
+      )
 
   -- ---- the command
 
@@ -319,7 +324,7 @@ whole_fine w t d are m =
     (decls_reordered Output w names (outputs_of t.elements) m.os m.from_outputs) (declared_distinct t.elements m.once) in
     let b = and_from _ _ a (inputs_types w (inputs_of t.elements) m.is are m.from_inputs) in
     let c = and_from _ _ b (decls_types Private w (inputs_bound m.is) (privates_of t.elements) m.ds are m.from_privates) in
-    and_from _ _ (and_from _ _ (and_from _ _ (and_from _ _ c s.0) s.1) (command_fine w names (parts_of t.elements) m.qs m.from_command))
+    and_from _ _ (and_from _ _ (and_from _ _ (and_from _ _ (and_from _ _ c s.0) s.1) s.2) (command_fine w names (parts_of t.elements) m.qs m.from_command))
     (decls_types Output w names (outputs_of t.elements) m.os are m.from_outputs)
 
 pub task_types : TaskTypes

@@ -1,8 +1,9 @@
 -- The runtime section (OpenWDL 1.1, "Runtime Section"): of two attributes with one name the first counts.
-use Rattle.std.specs.Prelude.{ℕ, Bool, false, List, [], ◌∷◌, Option, Some, None, if◌then◌else◌, codes}
+use Rattle.std.specs.Prelude.{ℕ, Bool, false, not, ◌&&◌, ◌||◌, List, [], ◌∷◌, ◌++◌, Option, Some, None, if◌then◌else◌, codes}
 use Rattle.std.specs.List.{find}
 use Rattle.std.specs.Str.{bytes_eq}
 use Rattle.wdl_base.specs.declared.span.Span.{Span}
+use Rattle.wdl_base.specs.Names.{is_name}
 use Rattle.wdl_value.specs.declared.ty.Ty.{Ty}
 use Rattle.wdl_value.specs.declared.ty.Ty.TheVariants as ty
 use Rattle.wdl_value.specs.declared.value.Value.{Value, Value-F, out-Value}
@@ -13,8 +14,11 @@ use Rattle.wdl_ast.specs.declared.leaf.Attribute.{Attribute}
 use Rattle.wdl_typed.specs.declared.expr.TExpr.{TExpr, TExpr-F, out-TExpr}
 use Rattle.wdl_typed.specs.declared.expr.TExpr.TheOpen as layer
 use Rattle.wdl_typed.specs.declared.scope.Bound.{Bound}
+use Rattle.wdl_typed.specs.declared.task.TAttribute.{TAttribute}
 use Rattle.wdl_typed.specs.declared.task.TCodes.{TCodes}
 use Rattle.wdl_typed.specs.declared.task.TCodes.TheVariants as success
+use Rattle.wdl_typed.specs.Declarations.{is_printable}
+use Rattle.wdl_typed.specs.Lists.{has_name}
 use Rattle.wdl_check_rules.specs.declared.typed.Typed.{Typed}
 use Rattle.wdl_check_rules.specs.Rules.{coerced}
 use Rattle.wdl_check_rules.specs.Spans.{span_of}
@@ -52,10 +56,38 @@ codes_of span x = if is_star x.expr then done success.Any else (if coerces x.ty 
 abbrev pub value_typed : World → List Bound → Attribute Expr → Outcome Typed
 value_typed w names a = expr_typed w names false false a.value
 
--- each attribute is an expression
-abbrev pub each_typed : World → List Bound → List (Attribute Expr) → Outcome (Unit {0})
-each_typed w names [] = done tt
-each_typed w names (a ∷ as_) = then_ (value_typed w names a) (λ x. each_typed w names as_)
+abbrev pub attribute : List ℕ → TExpr → TAttribute
+attribute name e = record { name = name; value = e }
+
+-- the attributes that have fields of their own in a typed task
+abbrev pub is_own : List ℕ → Bool
+is_own name = bytes_eq name (codes "returnCodes") || bytes_eq name (codes "maxRetries")
+
+-- the name of an attribute behind attributes of those names, where it is the first one
+abbrev pub first_name : List (List ℕ) → List ℕ → Option (List ℕ)
+first_name before text = if is_name text && not (has_name text before) then Some text else None
+
+abbrev pub seen_with : List (List ℕ) → Option (List ℕ) → List (List ℕ)
+seen_with before None = before
+seen_with before (Some name) = before ++ name ∷ []
+
+abbrev pub is_kept : List ℕ → Typed → Bool
+is_kept name x = not (is_own name) && is_printable x.ty
+
+-- The first attribute of a name is kept where its type is printable.
+abbrev pub kept_with : List TAttribute → Option (List ℕ) → Typed → List TAttribute
+kept_with all None x = all
+kept_with all (Some name) x = if is_kept name x then all ++ attribute name x.expr ∷ [] else all
+
+-- Each attribute is an expression; those that are kept, behind others.
+abbrev pub each_behind : World → List Bound → List (List ℕ) → List TAttribute → List (Attribute Expr) → Outcome (List TAttribute)
+each_behind w names before all [] = done all
+each_behind w names before all (a ∷ as_) =
+    then_ (value_typed w names a) (λ x.
+    each_behind w names (seen_with before (first_name before a.key.text)) (kept_with all (first_name before a.key.text) x) as_)
+
+abbrev pub each_typed : World → List Bound → List (Attribute Expr) → Outcome (List TAttribute)
+each_typed w names = each_behind w names [] []
 
 abbrev pub first_named : List ℕ → List (Attribute Expr) → Option (Attribute Expr)
 first_named name = find (λ (a : Attribute Expr). bytes_eq a.key.text name)
@@ -74,14 +106,14 @@ abbrev pub some_retries : World → List Bound → Option (Attribute Expr) → O
 some_retries w names None = done None
 some_retries w names (Some a) = then_ (retries_typed w names a) (λ e. done (Some e))
 
-abbrev pub said : TCodes → Option TExpr → Said
-said codes retries = record { codes = codes; retries = retries }
+abbrev pub said : List TAttribute → TCodes → Option TExpr → Said
+said attributes codes retries = record { codes = codes; retries = retries; attributes = attributes }
 
-abbrev pub named_typed : World → List Bound → List (Attribute Expr) → Outcome Said
-named_typed w names as_ =
+abbrev pub named_typed : World → List Bound → List (Attribute Expr) → List TAttribute → Outcome Said
+named_typed w names as_ kept =
     then_ (some_codes w names (first_named (codes "returnCodes") as_)) (λ c.
     then_ (some_retries w names (first_named (codes "maxRetries") as_)) (λ r.
-    done (said c r)))
+    done (said kept c r)))
 
 abbrev pub runtime_typed : World → List Bound → List (Attribute Expr) → Outcome Said
-runtime_typed w names as_ = then_ (each_typed w names as_) (λ x. named_typed w names as_)
+runtime_typed w names as_ = then_ (each_typed w names as_) (named_typed w names as_)

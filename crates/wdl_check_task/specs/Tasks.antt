@@ -57,6 +57,7 @@ task_of span h k outputs = record {
   privates = h.privates;
   codes = k.said.codes;
   retries = k.said.retries;
+  attributes = k.said.attributes;
   command = k.command;
   outputs = outputs;
   span = span;

@@ -150,13 +150,18 @@ fn task_of(span: Span, head: Head, work: Work, outputs: Items<TDecl>) -> TaskDef
         privates,
     } = head;
     let Work { command, said } = work;
-    let Said { codes, retries } = said;
+    let Said {
+        codes,
+        retries,
+        attributes,
+    } = said;
     TaskDef {
         name,
         inputs,
         privates,
         codes,
         retries,
+        attributes,
         command,
         outputs,
         span,

@@ -1,4 +1,4 @@
-use wdl_typed::{TDecl, TExpr, TField, TInput};
+use wdl_typed::{TAttribute, TDecl, TExpr, TField, TInput};
 use wdl_value::{Member, Name, StructDef};
 
 /// What is declared under a name.
@@ -22,6 +22,14 @@ impl Named for TInput {
 
 impl Named for TDecl {
     ghost named = { λ d. d.name };
+
+    fn name(&self) -> &Name {
+        &self.name
+    }
+}
+
+impl Named for TAttribute {
+    ghost named = { λ a. a.name };
 
     fn name(&self) -> &Name {
         &self.name

@@ -12,6 +12,7 @@ use Rattle.wdl_value.specs.SameType.{same_type}
 use Rattle.wdl_value.proofs.SameTypeLemmas.{same_type-true}
 use Rattle.wdl_typed.specs.declared.expr.TExpr.{TExpr}
 use Rattle.wdl_typed.specs.declared.expr.TPart.{TPart}
+use Rattle.wdl_typed.specs.declared.task.TAttribute.{TAttribute}
 use Rattle.wdl_typed.specs.declared.task.TCodes.{TCodes}
 use Rattle.wdl_typed.specs.declared.task.TCodes.TheVariants as codes
 use Rattle.wdl_typed.specs.declared.task.TDecl.{TDecl}
@@ -21,7 +22,7 @@ use Rattle.wdl_same.specs.Exprs.{same_expr, same_parts}
 use Rattle.wdl_same.specs.Forms.{same_names}
 use Rattle.wdl_same.specs.Laws.{taken}
 use Rattle.wdl_same.specs.Lists.{alike}
-use Rattle.wdl_same.specs.Tasks.{same_codes, same_decl, same_decls, same_default, same_input, same_inputs, same_member, same_members, same_struct, same_structs, same_task}
+use Rattle.wdl_same.specs.Tasks.{same_attribute, same_attributes, same_codes, same_decl, same_decls, same_default, same_input, same_inputs, same_member, same_members, same_struct, same_structs, same_task}
 use Rattle.wdl_same.proofs.Equal.{expr_equal, pieces_equal}
 
 -- ---- lists
@@ -121,12 +122,21 @@ codes_equal (codes.One e) (codes.One f) h = ap codes.One (expr_equal e f h)
 codes_equal (codes.Many e) (codes.Many f) h = ap codes.Many (expr_equal e f h)
 codes_equal a b h = absurd (false≢true h)
 
-abbrev pub task : List TInput → List TDecl → TCodes → Option TExpr → List (TPart TExpr) → List TDecl → TaskDef
-task is ps c r parts os =
-    record { name = []; inputs = is; privates = ps; codes = c; retries = r; command = parts; outputs = os; span = nowhere }
+attribute_equal : (a b : TAttribute) → same_attribute a b ≡ true → a ≡ b
+attribute_equal a b h =
+    let p = and_parts (bytes_eq a.name b.name) (same_expr a.value b.value) h in
+    ap (λ (n : List ℕ). record { name = n; value = a.value }) ((bytes_eq-Decides a.name b.name).0 p.0)
+    ∙ ap (λ (e : TExpr). record { name = b.name; value = e }) (expr_equal a.value b.value p.1)
+
+attributes_equal : (as_ bs : List TAttribute) → same_attributes as_ bs ≡ true → as_ ≡ bs
+attributes_equal = alike_equal same_attribute attribute_equal
+
+abbrev pub task : List TInput → List TDecl → TCodes → Option TExpr → List TAttribute → List (TPart TExpr) → List TDecl → TaskDef
+task is ps c r as_ parts os =
+    record { name = []; inputs = is; privates = ps; codes = c; retries = r; attributes = as_; command = parts; outputs = os; span = nowhere }
 
 abbrev pub plain_task : TaskDef → TaskDef
-plain_task t = task (map plain_input t.inputs) (map plain_decl t.privates) t.codes t.retries t.command (map plain_decl t.outputs)
+plain_task t = task (map plain_input t.inputs) (map plain_decl t.privates) t.codes t.retries t.attributes t.command (map plain_decl t.outputs)
 
 pub task_plain : (t u : TaskDef) → same_task t u ≡ true → plain_task t ≡ plain_task u
 task_plain t u h =
@@ -134,14 +144,20 @@ task_plain t u h =
     let ps = same_decls t.privates u.privates in
     let cs = same_codes t.codes u.codes in
     let rs = same_default t.retries u.retries in
-    let a = and_parts (is && ps && cs && rs && same_parts t.command u.command) (same_decls t.outputs u.outputs) h in
-    let b = and_parts (is && ps && cs && rs) (same_parts t.command u.command) a.0 in
-    let c = and_parts (is && ps && cs) rs b.0 in
+    let ns = same_attributes t.attributes u.attributes in
+    let a = and_parts (is && ps && cs && rs && ns && same_parts t.command u.command) (same_decls t.outputs u.outputs) h in
+    let b = and_parts (is && ps && cs && rs && ns) (same_parts t.command u.command) a.0 in
+    let n = and_parts (is && ps && cs && rs) ns b.0 in
+    let c = and_parts (is && ps && cs) rs n.0 in
     let d = and_parts (is && ps) cs c.0 in
     let e = and_parts is ps d.0 in
-    ap (λ (x : List TInput). task x (map plain_decl t.privates) t.codes t.retries t.command (map plain_decl t.outputs)) (inputs_plain t.inputs u.inputs e.0)
-    ∙ ap (λ (x : List TDecl). task (map plain_input u.inputs) x t.codes t.retries t.command (map plain_decl t.outputs)) (decls_plain t.privates u.privates e.1)
-    ∙ ap (λ (x : TCodes). task (map plain_input u.inputs) (map plain_decl u.privates) x t.retries t.command (map plain_decl t.outputs)) (codes_equal t.codes u.codes d.1)
-    ∙ ap (λ (x : Option TExpr). task (map plain_input u.inputs) (map plain_decl u.privates) u.codes x t.command (map plain_decl t.outputs)) (default_equal t.retries u.retries c.1)
-    ∙ ap (λ (x : List (TPart TExpr)). task (map plain_input u.inputs) (map plain_decl u.privates) u.codes u.retries x (map plain_decl t.outputs)) (pieces_equal t.command u.command b.1)
-    ∙ ap (task (map plain_input u.inputs) (map plain_decl u.privates) u.codes u.retries u.command) (decls_plain t.outputs u.outputs a.1)
+    let outs = map plain_decl t.outputs in
+    let ins = map plain_input u.inputs in
+    let owns = map plain_decl u.privates in
+    ap (λ (x : List TInput). task x (map plain_decl t.privates) t.codes t.retries t.attributes t.command outs) (inputs_plain t.inputs u.inputs e.0)
+    ∙ ap (λ (x : List TDecl). task ins x t.codes t.retries t.attributes t.command outs) (decls_plain t.privates u.privates e.1)
+    ∙ ap (λ (x : TCodes). task ins owns x t.retries t.attributes t.command outs) (codes_equal t.codes u.codes d.1)
+    ∙ ap (λ (x : Option TExpr). task ins owns u.codes x t.attributes t.command outs) (default_equal t.retries u.retries c.1)
+    ∙ ap (λ (x : List TAttribute). task ins owns u.codes u.retries x t.command outs) (attributes_equal t.attributes u.attributes n.1)
+    ∙ ap (λ (x : List (TPart TExpr)). task ins owns u.codes u.retries u.attributes x outs) (pieces_equal t.command u.command b.1)
+    ∙ ap (task ins owns u.codes u.retries u.attributes u.command) (decls_plain t.outputs u.outputs a.1)

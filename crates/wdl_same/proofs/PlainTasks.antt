@@ -11,7 +11,7 @@ use Rattle.wdl_typed.specs.declared.task.TaskDef.{TaskDef}
 use Rattle.wdl_typed.specs.Declarations.{decl_names, input_names, plain_key}
 use Rattle.wdl_typed.specs.Flow.{output_keys}
 use Rattle.wdl_typed.specs.KnownTypes.{is_some}
-use Rattle.wdl_typed.specs.Requests.{Asked, Prepared, Tried, asked_with, asks, bad_status, bind, codes_met, command_met, default_value, is_reading, is_success, named, output_met, outputs_met, paths_at, placed_value, reads_any, retries_met, tells, tried, with_inputs, with_paths, with_private, with_privates}
+use Rattle.wdl_typed.specs.Requests.{Asked, Prepared, Tried, asked_with, asks, attributes_met, bad_status, bind, codes_met, command_met, default_value, is_reading, is_success, named, output_met, outputs_met, paths_at, placed_value, reads_any, retries_met, tells, tried, with_inputs, with_paths, with_private, with_privates}
 use Rattle.wdl_typed.specs.Scope.{lookup}
 use Rattle.wdl_same.proofs.Plain.{plain_decl, plain_input, plain_task}
 
@@ -66,6 +66,7 @@ abbrev asked_by : TaskDef → Prepared → Paths → Bool → Tried Asked
 asked_by t p names reads =
     tried (named (codes "returnCodes") (codes_met p.env t.codes)) (λ s.
     tried (named (codes "maxRetries") (retries_met p.env t.retries)) (λ n.
+    tried (attributes_met p.env t.attributes []) (λ as_.
     tried (named (codes "command") (command_met p.env t.command p.files)) (λ f.
     Ok (record {
       env = p.env;
@@ -73,10 +74,10 @@ asked_by t p names reads =
       retries = n;
       command = f.text;
       files = f.files;
-      attributes = [];
+      attributes = as_;
       inputs = with_paths f.files [] (paths_at p.env names);
       reads = reads;
-    }))))
+    })))))
 
 asked_unseen : (t : TaskDef) (p : Prepared) → asked_with (plain_task t) p ≡ asked_with t p
 asked_unseen t p =

@@ -6,6 +6,7 @@ use Rattle.wdl_value.specs.declared.ty.StructDef.{StructDef}
 use Rattle.wdl_value.specs.Fits.{Structs}
 use Rattle.wdl_value.specs.SameType.{same_type}
 use Rattle.wdl_typed.specs.declared.expr.TExpr.{TExpr}
+use Rattle.wdl_typed.specs.declared.task.TAttribute.{TAttribute}
 use Rattle.wdl_typed.specs.declared.task.TCodes.{TCodes}
 use Rattle.wdl_typed.specs.declared.task.TCodes.TheVariants as codes
 use Rattle.wdl_typed.specs.declared.task.TDecl.{TDecl}
@@ -57,11 +58,18 @@ same_codes (codes.One e) (codes.One f) = same_expr e f
 same_codes (codes.Many e) (codes.Many f) = same_expr e f
 same_codes a b = false
 
+abbrev pub same_attribute : TAttribute → TAttribute → Bool
+same_attribute a b = bytes_eq a.name b.name && same_expr a.value b.value
+
+abbrev pub same_attributes : List TAttribute → List TAttribute → Bool
+same_attributes = alike same_attribute
+
 abbrev pub same_task : TaskDef → TaskDef → Bool
 same_task t u =
     same_inputs t.inputs u.inputs
     && same_decls t.privates u.privates
     && same_codes t.codes u.codes
     && same_default t.retries u.retries
+    && same_attributes t.attributes u.attributes
     && same_parts t.command u.command
     && same_decls t.outputs u.outputs

@@ -2,7 +2,7 @@ ghost use Rattle.std.specs.Prelude.{◌≡◌};
 ghost use Rattle.wdl_same.specs.Tasks as spec;
 
 use crate::expressions::same_expr;
-use wdl_typed::{TDecl, TExpr, TInput};
+use wdl_typed::{TAttribute, TDecl, TExpr, TInput};
 use wdl_value::{Member, StructDef};
 
 fn same_member(m: &Member, n: &Member) -> bool
@@ -101,6 +101,29 @@ pub fn same_decls(xs: &[TDecl], ys: &[TDecl]) -> bool
             return false;
         };
         if !same_decl(x, y) {
+            return false;
+        }
+        left = rest;
+    }
+    left.is_empty()
+}
+
+fn same_attribute(a: &TAttribute, b: &TAttribute) -> bool
+    ensures { result ≡ spec.same_attribute a.now b.now }
+{
+    a.name.same(&b.name) && same_expr(&a.value, &b.value)
+}
+
+/// Whether both lists have the same attributes in the same order.
+pub fn same_attributes(xs: &[TAttribute], ys: &[TAttribute]) -> bool
+    ensures { result ≡ spec.same_attributes xs.now ys.now }
+{
+    let mut left = ys;
+    for x in xs {
+        let [y, rest @ ..] = left else {
+            return false;
+        };
+        if !same_attribute(x, y) {
             return false;
         }
         left = rest;

@@ -1,7 +1,7 @@
 ghost use Rattle.std.specs.Prelude.{◌≡◌};
 ghost use Rattle.wdl_same.specs.Tasks as spec;
 
-use crate::declared::{same_decls, same_default, same_inputs};
+use crate::declared::{same_attributes, same_decls, same_default, same_inputs};
 use crate::expressions::{same_expr, same_parts};
 use wdl_typed::{TCodes, TaskDef};
 
@@ -24,6 +24,7 @@ pub fn same_task(t: &TaskDef, u: &TaskDef) -> bool
         && same_decls(t.privates.as_slice(), u.privates.as_slice())
         && same_codes(&t.codes, &u.codes)
         && same_default(&t.retries, &u.retries)
+        && same_attributes(t.attributes.as_slice(), u.attributes.as_slice())
         && same_parts(t.command.as_slice(), u.command.as_slice())
         && same_decls(t.outputs.as_slice(), u.outputs.as_slice())
 }

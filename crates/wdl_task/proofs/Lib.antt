@@ -1,3 +1,4 @@
+pub mod AttributeSteps
 pub mod Fit
 pub mod InputLaws
 pub mod Fuse

@@ -1,15 +1,19 @@
 -- Tasks that are kept: each step may be taken, and what it gives fits.
-use Rattle.std.proofs.Common.{◌≡◌, ℕ, Bool, true, false, cond, ◌&&◌, List, [], ◌∷◌, ◌++◌, length, codes, Option, Some, None, Ok, Err, append_assoc, sym, ap, ◌∙◌, subst, refl}
+use Rattle.std.proofs.Common.{◌≡◌, ◌≢◌, inl, inr, ℕ, Bool, true, false, cond, ◌&&◌, List, [], ◌∷◌, ◌++◌, length, codes, Option, Some, None, Ok, Err, append_assoc, sym, ap, ◌∙◌, subst, refl}
 use Rattle.std.specs.List.{list_all}
-use Rattle.std.proofs.lemmas.Bool.{false≢true, and_parts}
+use Rattle.std.proofs.lemmas.Bool.{false≢true, and_parts, or_cases, or_right}
 use Rattle.std.proofs.lemmas.Option.{same_Some}
 use Rattle.wdl_base.specs.declared.answer.Answer.{Answer}
 use Rattle.wdl_base.specs.declared.body.Laid.{Laid}
+use Rattle.wdl_base.specs.declared.request.Attribute.{Attribute}
 use Rattle.wdl_value.specs.declared.env.Bind.{Bind}
-use Rattle.wdl_value.specs.declared.ty.Ty.{Ty}
+use Rattle.wdl_value.specs.declared.ty.Ty.{Ty, out-Ty}
 use Rattle.wdl_value.specs.declared.ty.Ty.TheVariants as ty
-use Rattle.wdl_value.specs.declared.value.Value.{Value}
+use Rattle.wdl_value.specs.declared.value.Value.{Value, Value-F, out-Value}
+use Rattle.wdl_value.specs.declared.value.Value.TheOpen as value
+use Rattle.wdl_value.specs.Bare.{bare}
 use Rattle.wdl_value.specs.Fits.{Structs, fits}
+use Rattle.wdl_value.specs.Kinds.{is_absent, is_scalar}
 use Rattle.wdl_value.specs.Outcome.{Outcome, and_then}
 use Rattle.wdl_value.specs.Written.{written_name}
 use Rattle.wdl_typed.specs.declared.expr.Choice.{Choice}
@@ -19,22 +23,23 @@ use Rattle.wdl_typed.specs.declared.expr.THole.{THole}
 use Rattle.wdl_typed.specs.declared.expr.TPart.{TPart}
 use Rattle.wdl_typed.specs.declared.expr.TPart.TheVariants as part
 use Rattle.wdl_typed.specs.declared.scope.Bound.{Bound}
+use Rattle.wdl_typed.specs.declared.task.TAttribute.{TAttribute}
 use Rattle.wdl_typed.specs.declared.task.TCodes.{TCodes}
 use Rattle.wdl_typed.specs.declared.task.TCodes.TheVariants as status
 use Rattle.wdl_typed.specs.declared.task.TDecl.{TDecl}
 use Rattle.wdl_typed.specs.declared.task.TaskDef.{TaskDef}
-use Rattle.wdl_typed.specs.Declarations.{bound, codes_typed, command_typed, context, decls_bound, decls_typed, hole_type, in_body, in_output, in_place, inputs_bound, inputs_typed, or_type, output_context, private_names, retries_typed, task_names, task_typed, type_in_place}
-use Rattle.wdl_typed.specs.Evaluation.{Met, met, value_of}
+use Rattle.wdl_typed.specs.Declarations.{are_printable, attribute_names, attributes_typed, bound, codes_typed, command_typed, context, decls_bound, decls_typed, hole_type, in_body, in_output, in_place, inputs_bound, inputs_typed, is_printable, or_type, output_context, private_names, retries_typed, some_printable, task_names, task_typed, type_in_place}
+use Rattle.wdl_typed.specs.Evaluation.{Met, hole_text, met, value_of, wrong}
 use Rattle.wdl_typed.specs.Journal.{is_given}
 use Rattle.wdl_typed.specs.KnownTypes.{is_written}
 use Rattle.wdl_typed.specs.Lists.{are_distinct}
-use Rattle.wdl_typed.specs.Requests.{Asked, Filled, Laying, Prepared, Tried, after, as_laying, asked_as, asked_with, asks, before, bad_status, bind, codes_met, command_met, is_success, landed, named, output_met, outputs_met, placed_value, retries_met, tried, with_inputs, with_private, with_privates}
-use Rattle.wdl_typed.specs.Typing.{Typing, is_type, takes_some, type_of}
+use Rattle.wdl_typed.specs.Requests.{Asked, Filled, Laying, Prepared, Successes, Tried, after, as_laying, asked_as, asked_with, asks, attribute_choice, attributes_met, bad_status, before, bind, codes_met, command_met, is_success, landed, named, output_met, outputs_met, placed_value, retries_met, tried, with_inputs, with_private, with_privates}
+use Rattle.wdl_typed.specs.Typing.{Typing, is_type, scalar_items, takes_some, type_of}
 use Rattle.wdl_eval.specs.Laws.{IsMet, IsSound}
 use Rattle.wdl_eval.specs.Ready.{IsReady}
 use Rattle.wdl_eval.proofs.Texts.{hole_fine}
 use Rattle.wdl_task.specs.Calls.{Call, call_of, cast_name, named_value, with_file}
-use Rattle.wdl_task.specs.Readiness.{AreCodesReady, AreHolesReady, AreInputsReady, AreNamesReady, AreOutputsReady, ArePrivatesReady, IsCallReady, IsDefaultReady, IsHoleReady, IsPlacedReady, IsPrinted, are_given, is_for}
+use Rattle.wdl_task.specs.Readiness.{AreCodesReady, AreHolesReady, AreInputsReady, AreNamesReady, AreOutputsReady, ArePrivatesReady, AreTextsReady, IsCallReady, IsDefaultReady, IsHoleReady, IsPlacedReady, IsPrinted, are_given, is_for}
 use Rattle.wdl_task.specs.Soundness.{AreOutputs, AskedFit, ToldFit}
 use Rattle.wdl_task.proofs.Fit.{Fit, append_none, fit_more, has_all, made_next, ready}
 use Rattle.wdl_task.proofs.InputLaws.{given_fits, inputs_law, is_type-some, named_ok, value_fits_type}
@@ -168,6 +173,40 @@ module _ (structs : Structs) where
         let law = placed_law names [] env true h.expr p.0 f (hole_in_place h.choice h.expr p.0 p.1) in
         (law.0, λ l k. printed h.choice p.0 l.value (sym (ap (takes_some h.choice) p.1) ∙ typed) (law.1 files l k))
 
+    -- ---- the texts of attributes
+
+    abbrev Prints : Choice → Value-F Value → Type 0
+    Prints c y = hole_text c y ≢ wrong
+
+    as_it_is : (y : Value-F Value) → Prints choice.Plain y → Prints (attribute_choice y) y
+    as_it_is (value.List xs) h = absurd (h refl)
+    as_it_is y h = h
+
+    item_by_item : (y : Value-F Value) → Prints (choice.Sep (10 ∷ [])) y → Prints (attribute_choice y) y
+    item_by_item (value.List xs) h = h
+    item_by_item y h = absurd (h refl)
+
+    told : (t : Ty) (x : Value) → is_printable t ≡ true → fits structs x t ≡ true → IsPrinted (attribute_choice (out-Value x)) x
+    told t x h k =
+        elim (or_cases (is_scalar (bare t)) (scalar_items (out-Ty t)) h) [
+          | inl e ↦ as_it_is (out-Value x) (printed choice.Plain t x (or_right (is_absent t) (is_scalar (bare t)) e) k)
+          | inr e ↦ item_by_item (out-Value x) (printed (choice.Sep (10 ∷ [])) t x e k)
+        ]
+
+    some_told : (o : Option Ty) → some_printable o ≡ true → (t : Ty) × (o ≡ Some t) × (is_printable t ≡ true)
+    some_told (Some t) h = (t, refl, h)
+    some_told None h = absurd (false≢true h)
+
+    texts_ready : (as_ : List TAttribute) → are_printable structs names as_ ≡ true → AreTextsReady as_ env
+    texts_ready [] h = tt
+    texts_ready (a ∷ as_) h =
+        let p = and_parts (some_printable (in_body structs names a.value)) (are_printable structs names as_) h in
+        let q = some_told (in_body structs names a.value) p.0 in
+        let fits_it = λ (x : Value) (e : value_of (before env) a.value ≡ Ok x). value_fits_type structs names [] false false (before env) a.value q.0 x q.1 f e in (
+          (ready structs names [] env false false a.value q.0 q.1 f, λ x e. told q.0 x q.2 (fits_it x e)),
+          texts_ready as_ p.1,
+        )
+
     holes_ready : (parts : List (TPart TExpr)) → command_typed structs names parts ≡ true → (g : Filled) → AreHolesReady parts env g
     holes_ready [] h g = tt
     holes_ready (part.Chars s ∷ parts) h g = holes_ready parts h (record { text = g.text ++ s; files = g.files })
@@ -222,6 +261,7 @@ module _ (structs : Structs) (t : TaskDef) (given : List Bind) (typed : task_typ
     pub privates : privates_typed ≡ true
     pub codes : codes_typed structs (private_names t) t.codes ≡ true
     pub retries : retries_typed structs (private_names t) t.retries ≡ true
+    pub attributes : attributes_typed structs (private_names t) t.attributes ≡ true
     pub command : command_typed structs (private_names t) t.command ≡ true
     pub outputs : outputs_typed ≡ true
 
@@ -232,14 +272,16 @@ module _ (structs : Structs) (t : TaskDef) (given : List Bind) (typed : task_typ
       let three = two && privates_typed in
       let four = three && codes_typed structs (private_names t) t.codes in
       let five = four && retries_typed structs (private_names t) t.retries in
-      let six = five && command_typed structs (private_names t) t.command in
+      let more = five && attributes_typed structs (private_names t) t.attributes in
+      let six = more && command_typed structs (private_names t) t.command in
       let f = and_parts six outputs_typed typed in
-      let e = and_parts five (command_typed structs (private_names t) t.command) f.0 in
-      let d = and_parts four (retries_typed structs (private_names t) t.retries) e.0 in
+      let e = and_parts more (command_typed structs (private_names t) t.command) f.0 in
+      let n = and_parts five (attributes_typed structs (private_names t) t.attributes) e.0 in
+      let d = and_parts four (retries_typed structs (private_names t) t.retries) n.0 in
       let c = and_parts three (codes_typed structs (private_names t) t.codes) d.0 in
       let b = and_parts two privates_typed c.0 in
       let a = and_parts one (inputs_typed structs [] t.inputs) b.0 in
-      record { inputs = a.1; privates = b.1; codes = c.1; retries = d.1; command = e.1; outputs = f.1 }
+      record { inputs = a.1; privates = b.1; codes = c.1; retries = d.1; attributes = n.1; command = e.1; outputs = f.1 }
 
   beginning : Fit structs [] (inputs_bound t.inputs) given
   beginning = record {
@@ -265,6 +307,9 @@ module _ (structs : Structs) (t : TaskDef) (given : List Bind) (typed : task_typ
       record {
         codes = codes_ready structs (private_names t) p.env f t.codes parts.codes;
         retries = retries_ready structs (private_names t) p.env f t.retries parts.retries;
+        attributes =
+            texts_ready structs (private_names t) p.env f t.attributes
+            (and_parts (are_distinct (attribute_names t.attributes)) (are_printable structs (private_names t) t.attributes) parts.attributes).1;
         holes = holes_ready structs (private_names t) p.env f t.command parts.command (record { text = []; files = p.files });
       }
 
@@ -277,12 +322,16 @@ module _ (structs : Structs) (t : TaskDef) (given : List Bind) (typed : task_typ
     where
       asked_env : (p : Prepared) → asked_with t p ≡ Ok a → p.env ≡ a.env
       asked_env p e =
-          let made : _ → _ → Filled → Asked = λ s n f. asked_as t p s n [] f in
-          let x = tried_in (named (codes "returnCodes") (codes_met p.env t.codes)) (λ s. tried (named (codes "maxRetries") (retries_met p.env t.retries)) (λ n. tried (named (codes "command") (command_met p.env t.command p.files)) (λ f. Ok (made s n f)))) a e in
-          let y = tried_in (named (codes "maxRetries") (retries_met p.env t.retries)) (λ n. tried (named (codes "command") (command_met p.env t.command p.files)) (λ f. Ok (made x.0 n f))) a x.2 in
-          let z = tried_in (named (codes "command") (command_met p.env t.command p.files)) (λ f. Ok (made x.0 y.0 f)) a y.2 in
+          let command : Successes → ℕ → List Attribute → Tried Asked =
+          λ s n as_. tried (named (codes "command") (command_met p.env t.command p.files)) (λ g. Ok (asked_as t p s n as_ g)) in
+          let attributes : Successes → ℕ → Tried Asked = λ s n. tried (attributes_met p.env t.attributes []) (command s n) in
+          let retries : Successes → Tried Asked = λ s. tried (named (codes "maxRetries") (retries_met p.env t.retries)) (attributes s) in
+          let x = tried_in (named (codes "returnCodes") (codes_met p.env t.codes)) retries a e in
+          let y = tried_in (named (codes "maxRetries") (retries_met p.env t.retries)) (attributes x.0) a x.2 in
+          let k = tried_in (attributes_met p.env t.attributes []) (command x.0 y.0) a y.2 in
+          let z = tried_in (named (codes "command") (command_met p.env t.command p.files)) (λ g. Ok (asked_as t p x.0 y.0 k.0 g)) a k.2 in
           let end = z.2 in
-          let same : made x.0 y.0 z.0 ≡ a = cc in
+          let same : asked_as t p x.0 y.0 k.0 z.0 ≡ a = cc in
           ap (λ (b : Asked). b.env) same
 
   pub outputs_ready : (a : Asked) → asks t given ≡ Ok a → (dir : List ℕ) (answer : Answer) → OutputsLaw structs dir answer t.outputs a.env

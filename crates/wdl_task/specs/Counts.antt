@@ -37,9 +37,9 @@ hole_count [] = 0
 hole_count (part.Chars s ∷ parts) = hole_count parts
 hole_count (part.Hole h ∷ parts) = 1 + hole_count parts
 
--- `returnCodes`, `maxRetries` and the placeholders of the command
+-- `returnCodes`, `maxRetries`, the other attributes and the placeholders of the command
 abbrev pub requested_count : TaskDef → ℕ
-requested_count t = codes_count t.codes + default_count t.retries + hole_count t.command
+requested_count t = codes_count t.codes + default_count t.retries + length t.attributes + hole_count t.command
 
 -- the left-out defaults and the private declarations, and what is evaluated after them
 abbrev pub prepare_count : TaskDef → List Bind → ℕ

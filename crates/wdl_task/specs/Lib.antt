@@ -1,3 +1,4 @@
+pub mod AttributeBytes
 pub mod Calls
 pub mod Counts
 pub mod Members

@@ -11,13 +11,14 @@ use Rattle.wdl_typed.specs.declared.expr.TExpr.{TExpr}
 use Rattle.wdl_typed.specs.declared.expr.THole.{THole}
 use Rattle.wdl_typed.specs.declared.expr.TPart.{TPart}
 use Rattle.wdl_typed.specs.declared.expr.TPart.TheVariants as part
+use Rattle.wdl_typed.specs.declared.task.TAttribute.{TAttribute}
 use Rattle.wdl_typed.specs.declared.task.TCodes.{TCodes}
 use Rattle.wdl_typed.specs.declared.task.TCodes.TheVariants as status
 use Rattle.wdl_typed.specs.declared.task.TDecl.{TDecl}
 use Rattle.wdl_typed.specs.declared.task.TInput.{TInput}
 use Rattle.wdl_typed.specs.declared.task.TaskDef.{TaskDef}
 use Rattle.wdl_typed.specs.Declarations.{plain_key, task_typed}
-use Rattle.wdl_typed.specs.Evaluation.{hole_text, wrong}
+use Rattle.wdl_typed.specs.Evaluation.{hole_text, value_of, wrong}
 use Rattle.wdl_typed.specs.Journal.{is_given}
 use Rattle.wdl_typed.specs.KnownTypes.{is_some}
 use Rattle.wdl_typed.specs.Requests as spec
@@ -88,6 +89,15 @@ AreCodesReady (status.Many e) env = IsReady e env
 abbrev pub IsPrinted : Choice → Value → Type 0
 IsPrinted choice x = hole_text choice (out-Value x) ≢ wrong
 
+-- The value is told as text.
+abbrev pub IsTextReady : TExpr → List Bind → Type 0
+IsTextReady e env =
+    IsReady e env × ((x : Value) → value_of (spec.before env) e ≡ Ok x → IsPrinted (spec.attribute_choice (out-Value x)) x)
+
+abbrev pub AreTextsReady : List TAttribute → List Bind → Type 0
+AreTextsReady [] env = Unit {0}
+AreTextsReady (a ∷ as_) env = IsTextReady a.value env × AreTextsReady as_ env
+
 abbrev pub IsHoleReady : THole TExpr → List Bind → List Laid → Type 0
 IsHoleReady h env files =
     IsPlacedReady h.expr env × ((l : spec.Laying) → spec.placed_value env files h.expr ≡ Ok l → IsPrinted h.choice l.value)
@@ -103,6 +113,7 @@ AreHolesReady (part.Hole h ∷ parts) env f =
 pub record AreNamesReady (t : TaskDef) (p : spec.Prepared) : Type 0 where
   pub codes : AreCodesReady t.codes p.env
   pub retries : IsDefaultReady t.retries p.env
+  pub attributes : AreTextsReady t.attributes p.env
   pub holes : AreHolesReady t.command p.env (record { text = []; files = p.files })
 
 abbrev pub AreOutputsReady : Structs → List ℕ → Answer → List TDecl → List Bind → Type 0

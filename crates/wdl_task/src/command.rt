@@ -26,7 +26,7 @@ pub struct Filled {
 }
 
 /// The text that a placeholder prints for a value that it takes.
-fn printed(alloc: Global, choice: &Choice, value: &Value) -> Result<Text, EvalFault>
+pub fn printed(alloc: Global, choice: &Choice, value: &Value) -> Result<Text, EvalFault>
     requires printed { IsPrinted choice.now value.now }
     ensures value { Gives (spec.settled_text (text_of_hole choice.now (out-Value value.now))) result }
 {

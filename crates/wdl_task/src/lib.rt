@@ -1,6 +1,7 @@
 //! What a task asks to be run and what an answer tells (OpenWDL 1.1, "Task Definition").
 #![tactic(auto)]
 
+mod attribute_texts;
 mod attributes;
 mod binding;
 mod command;

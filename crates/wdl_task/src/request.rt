@@ -7,6 +7,7 @@ ghost use Rattle.wdl_task.specs.Counts.{prepare_count, requested_count};
 ghost use Rattle.wdl_task.specs.Readiness.{AreNamesReady, Kept};
 ghost use Rattle.wdl_task.specs.Views.{made_of, next_of, Prepares};
 
+use crate::attribute_texts::attributes_of;
 use crate::attributes::{codes_of, retries_of};
 use crate::command::{Filled, command_of};
 use crate::fault::{CallFault, named};
@@ -59,7 +60,7 @@ fn job_dir(alloc: Global, site: &Text, place: &Place, attempt: u32) -> Result<Te
 }
 
 /// The request of an attempt once the values of the names are known: `returnCodes` and
-/// `maxRetries`, then the command.
+/// `maxRetries`, the other attributes, then the command.
 fn requested<L: Ledger>(
     alloc: Global,
     task: &TaskDef,
@@ -79,6 +80,7 @@ fn requested<L: Ledger>(
     let codes = named(alloc, "returnCodes", outcome)?;
     let outcome = retries_of(alloc, &task.retries, &env, steps);
     let retries = named(alloc, "maxRetries", outcome)?;
+    let attributes = attributes_of(alloc, task.attributes.as_slice(), &env, steps)?;
     let outcome = command_of(alloc, task.command.as_slice(), &env, files, steps);
     let Filled { text, files } = named(alloc, "command", outcome)?;
     let inputs = files_given(alloc, task, &env, files.as_slice())?;
@@ -88,7 +90,7 @@ fn requested<L: Ledger>(
         dir: job_dir(alloc, site, place, attempt)?,
         command: text,
         files,
-        attributes: Items::new(alloc),
+        attributes,
         inputs,
         reads: do_read(task.outputs.as_slice()),
     };
@@ -101,10 +103,10 @@ fn requested<L: Ledger>(
 }
 
 /// The request of an attempt, and what its answer is told by: left-out inputs take their default or
-/// are undefined, then come private declarations, `returnCodes`, `maxRetries` and the command, each
-/// placeholder from left to right. The request also has the files among the values of the inputs
-/// and the private declarations. The first fault has the name of its input or declaration, or
-/// `returnCodes`, `maxRetries` or `command`.
+/// are undefined, then come private declarations, `returnCodes`, `maxRetries`, the other attributes
+/// and the command, each placeholder from left to right. The request also has the files among the
+/// values of the inputs and the private declarations. The first fault has the name of its input,
+/// declaration or attribute, or `command`.
 pub fn prepare<L: Ledger>(
     alloc: Global,
     task: &TaskDef,

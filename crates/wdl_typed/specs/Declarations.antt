@@ -1,12 +1,14 @@
 -- Which inputs, declarations, outputs and tasks are well typed (OpenWDL 1.1, "Task Definition"). The lists of a task are in
 -- dependency order: each expression sees those of its own list that stand before it.
-use Rattle.std.specs.Prelude.{ℕ, Bool, true, false, ◌&&◌, List, [], ◌∷◌, ◌++◌, Option, Some, None, option_and_then, if◌then◌else◌, map}
+use Rattle.std.specs.Prelude.{ℕ, Bool, true, false, ◌&&◌, ◌||◌, List, [], ◌∷◌, ◌++◌, Option, Some, None, option_and_then, if◌then◌else◌, map}
 use Rattle.wdl_base.specs.declared.name.Key.{Key}
-use Rattle.wdl_value.specs.declared.ty.Ty.{Ty}
+use Rattle.wdl_value.specs.declared.ty.Ty.{Ty, out-Ty}
 use Rattle.wdl_value.specs.declared.ty.Ty.TheVariants as ty
+use Rattle.wdl_value.specs.Bare.{bare}
 use Rattle.wdl_value.specs.Coerces.{coerces}
 use Rattle.wdl_value.specs.Fits.{Structs}
 use Rattle.wdl_value.specs.FunctionTypes.{function_type, writes}
+use Rattle.wdl_value.specs.Kinds.{is_scalar}
 use Rattle.wdl_typed.specs.declared.expr.Choice.{Choice}
 use Rattle.wdl_typed.specs.declared.expr.Choice.TheVariants as choice
 use Rattle.wdl_typed.specs.declared.expr.TExpr.{TExpr, TExpr-F, fold-TExpr, map-TExpr}
@@ -14,6 +16,7 @@ use Rattle.wdl_typed.specs.declared.expr.TExpr.TheOpen as layer
 use Rattle.wdl_typed.specs.declared.expr.TPart.{TPart}
 use Rattle.wdl_typed.specs.declared.expr.TPart.TheVariants as part
 use Rattle.wdl_typed.specs.declared.scope.Bound.{Bound}
+use Rattle.wdl_typed.specs.declared.task.TAttribute.{TAttribute}
 use Rattle.wdl_typed.specs.declared.task.TCodes.{TCodes}
 use Rattle.wdl_typed.specs.declared.task.TCodes.TheVariants as codes
 use Rattle.wdl_typed.specs.declared.task.TDecl.{TDecl}
@@ -21,7 +24,7 @@ use Rattle.wdl_typed.specs.declared.task.TInput.{TInput}
 use Rattle.wdl_typed.specs.declared.task.TaskDef.{TaskDef}
 use Rattle.wdl_typed.specs.KnownTypes.{is_written}
 use Rattle.wdl_typed.specs.Lists.{are_distinct}
-use Rattle.wdl_typed.specs.Typing.{Context, Typing, all_types, exact_args, is_type, items_in, takes_some, type_of, type_step, when}
+use Rattle.wdl_typed.specs.Typing.{Context, Typing, all_types, exact_args, is_type, items_in, scalar_items, takes_some, type_of, type_step, when}
 
 -- ---- the places of functions that write files
 
@@ -118,6 +121,24 @@ abbrev pub retries_typed : Structs → List Bound → Option TExpr → Bool
 retries_typed structs names None = true
 retries_typed structs names (Some e) = is_type (in_body structs names e) ty.Int
 
+-- the type of a value that is told as text: Boolean, Int, String, File, an optional of one of these, or an array of one of these
+abbrev pub is_printable : Ty → Bool
+is_printable t = is_scalar (bare t) || scalar_items (out-Ty t)
+
+abbrev pub some_printable : Option Ty → Bool
+some_printable None = false
+some_printable (Some t) = is_printable t
+
+abbrev pub are_printable : Structs → List Bound → List TAttribute → Bool
+are_printable structs names [] = true
+are_printable structs names (a ∷ as_) = some_printable (in_body structs names a.value) && are_printable structs names as_
+
+abbrev pub attribute_names : List TAttribute → List (List ℕ)
+attribute_names = map (λ (a : TAttribute). a.name)
+
+abbrev pub attributes_typed : Structs → List Bound → List TAttribute → Bool
+attributes_typed structs names as_ = are_distinct (attribute_names as_) && are_printable structs names as_
+
 -- a file may be written in a placeholder without options
 abbrev pub hole_type : Structs → List Bound → Choice → TExpr → Option Ty
 hole_type structs names choice.Plain e = type_in_place (context structs names) e true
@@ -143,5 +164,6 @@ task_typed structs t =
     && decls_typed (in_place structs) structs (inputs_bound t.inputs) t.privates
     && codes_typed structs (private_names t) t.codes
     && retries_typed structs (private_names t) t.retries
+    && attributes_typed structs (private_names t) t.attributes
     && command_typed structs (private_names t) t.command
     && decls_typed (in_output structs) structs (private_names t) t.outputs

@@ -29,14 +29,17 @@ use Rattle.wdl_value.specs.Fits.{Structs, members_of}
 use Rattle.wdl_value.specs.FunctionTypes.{reads_text, writes}
 use Rattle.wdl_value.specs.Keyed.{has_key}
 use Rattle.wdl_value.specs.Outcome.{Outcome, and_then}
-use Rattle.wdl_value.specs.Parts.{int_in, items_in}
+use Rattle.wdl_value.specs.Parts.{int_in, is_undefined, items_in}
 use Rattle.wdl_value.specs.Written.{short_texts, written, written_name, written_within}
+use Rattle.wdl_typed.specs.declared.expr.Choice.{Choice}
+use Rattle.wdl_typed.specs.declared.expr.Choice.TheVariants as choice
 use Rattle.wdl_typed.specs.declared.expr.TExpr.{TExpr, TExpr-F, fold-TExpr, map-TExpr}
 use Rattle.wdl_typed.specs.declared.expr.TExpr.TheOpen as layer
 use Rattle.wdl_typed.specs.declared.expr.TField.{TField}
 use Rattle.wdl_typed.specs.declared.expr.TPair.{TPair}
 use Rattle.wdl_typed.specs.declared.expr.TPart.{TPart}
 use Rattle.wdl_typed.specs.declared.expr.TPart.TheVariants as part
+use Rattle.wdl_typed.specs.declared.task.TAttribute.{TAttribute}
 use Rattle.wdl_typed.specs.declared.task.TCodes.{TCodes}
 use Rattle.wdl_typed.specs.declared.task.TCodes.TheVariants as status
 use Rattle.wdl_typed.specs.declared.task.TDecl.{TDecl}
@@ -164,7 +167,7 @@ placed files plain (Some w) = and_then (settled w.argument) (lay w files)
 abbrev pub placed_value : List Bind → List Laid → TExpr → Outcome Laying
 placed_value env files e = placed files (placing env e).plain (placing env e).write
 
--- ---- private declarations, attributes, the command
+-- ---- private declarations, `returnCodes` and `maxRetries`, the command
 
 -- the names' values, and the files laid down so far
 pub record Prepared : Type 0 where
@@ -242,6 +245,40 @@ command_within f = if within (length f.text) then Ok f else Err TooLarge
 
 abbrev pub command_met : List Bind → List (TPart TExpr) → List Laid → Outcome Filled
 command_met env parts files = and_then (filled env parts (record { text = []; files = files })) command_within
+
+-- ---- other attributes
+
+-- An array is printed item by item, with newlines between.
+abbrev pub attribute_choice : Value-F Value → Choice
+attribute_choice (value.List xs) = choice.Sep (10 ∷ [])
+attribute_choice x = choice.Plain
+
+abbrev pub attribute_text : Value-F Value → Outcome (List ℕ)
+attribute_text x = settled_text (hole_text (attribute_choice x) x)
+
+abbrev pub attributes_size : List Attribute → ℕ
+attributes_size [] = 0
+attributes_size (a ∷ as_) = length a.name + length a.value + attributes_size as_
+
+abbrev pub attributes_within : List Attribute → Outcome (List Attribute)
+attributes_within as_ = if within (attributes_size as_) then Ok as_ else Err TooLarge
+
+abbrev pub attribute_as : List ℕ → List ℕ → Attribute
+attribute_as name text = record { name = name; value = text }
+
+-- What is undefined gives no attribute.
+abbrev pub with_attribute : List ℕ → List Attribute → Value → Outcome (List Attribute)
+with_attribute name done x =
+    if is_undefined x then Ok done
+    else and_then (attribute_text (out-Value x)) (λ text. attributes_within (done ++ attribute_as name text ∷ []))
+
+abbrev pub attribute_met : List Bind → TAttribute → List Attribute → Outcome (List Attribute)
+attribute_met env a done = and_then (value_of (before env) a.value) (with_attribute a.name done)
+
+-- the attributes in order, behind those that are met
+abbrev pub attributes_met : List Bind → List TAttribute → List Attribute → Tried (List Attribute)
+attributes_met env [] done = Ok done
+attributes_met env (a ∷ as_) done = tried (named a.name (attribute_met env a done)) (attributes_met env as_)
 
 -- ---- requests
 
@@ -339,10 +376,11 @@ abbrev pub asked_with : TaskDef → Prepared → Tried Asked
 asked_with t p =
     tried (named (codes "returnCodes") (codes_met p.env t.codes)) (λ s.
     tried (named (codes "maxRetries") (retries_met p.env t.retries)) (λ n.
+    tried (attributes_met p.env t.attributes []) (λ as_.
     tried (named (codes "command") (command_met p.env t.command p.files)) (λ f.
-    Ok (asked_as t p s n [] f))))
+    Ok (asked_as t p s n as_ f)))))
 
--- left-out inputs, private declarations, `returnCodes`, `maxRetries`, the command, in this order
+-- left-out inputs, private declarations, `returnCodes`, `maxRetries`, the other attributes, the command, in this order
 abbrev pub asks : TaskDef → List Bind → Tried Asked
 asks t given =
     tried (with_inputs t.inputs given) (λ env.

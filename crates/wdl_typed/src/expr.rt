@@ -1,4 +1,6 @@
 ghost use Rattle.std.specs.Prelude.{◌≡◌};
+ghost use Rattle.wdl_value.specs.declared.ty.Ty.{out-Ty};
+ghost use Rattle.wdl_typed.specs.Declarations as declarations;
 ghost use Rattle.wdl_typed.specs.Typing as spec;
 
 use sqlite_items::{Boxed, Items};
@@ -29,6 +31,24 @@ pub enum Choice {
     Default(Text),
 }
 
+/// Whether the item of an array of this type has a text.
+fn has_scalar_items(t: &Ty) -> bool
+    ensures { result ≡ spec.scalar_items (out-Ty t.now) }
+{
+    match t {
+        Ty::Array { item, .. } => is_scalar(item.get()),
+        _ => false,
+    }
+}
+
+/// Whether the values of a type are told as text: the type is Boolean, Int, String, File, an
+/// optional of one of these, or an array of one of these.
+pub fn is_printable(t: &Ty) -> bool
+    ensures { result ≡ declarations.is_printable t.now }
+{
+    is_scalar(bare_type(t)) || has_scalar_items(t)
+}
+
 impl Choice {
     /// Whether a placeholder with this option takes a value of the type.
     pub fn takes(&self, t: &Ty) -> bool
@@ -36,10 +56,7 @@ impl Choice {
     {
         match self {
             Choice::Plain => is_absent(t) || is_scalar(bare_type(t)),
-            Choice::Sep(_) => match t {
-                Ty::Array { item, .. } => is_scalar(item.get()),
-                _ => false,
-            },
+            Choice::Sep(_) => has_scalar_items(t),
             Choice::Both { .. } => is_bool(bare_type(t)),
             Choice::Default(_) => is_scalar(bare_type(t)),
         }

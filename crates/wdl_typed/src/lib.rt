@@ -10,9 +10,9 @@ mod success;
 mod task;
 
 pub use checked::{Checked, CheckedParts};
-pub use expr::{Choice, TExpr, TField, THole, TPair, TPart};
+pub use expr::{Choice, TExpr, TField, THole, TPair, TPart, is_printable};
 pub use flow::{FlowDef, Statement, TCall, TIf, TScatter, Target};
 pub use reading::{do_read, is_reading};
 pub use scope::Bound;
 pub use success::Success;
-pub use task::{TCodes, TDecl, TInput, TaskDef};
+pub use task::{TAttribute, TCodes, TDecl, TInput, TaskDef};

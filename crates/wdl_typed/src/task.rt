@@ -31,9 +31,19 @@ pub enum TCodes {
     Many(TExpr),
 }
 
-/// A task (OpenWDL 1.1, "Task Definition"). Its lists are in dependency order; `privates` are its
-/// declarations outside the input section, `retries` is the runtime attribute `maxRetries`, and the
-/// command is dedented.
+/// A runtime attribute whose value is told to whatever runs the command: its type is Boolean, Int,
+/// String, File, an optional of one of these or an array of one of these (OpenWDL 1.1, "Runtime
+/// Section").
+#[derive(Debug, Drop)]
+pub struct TAttribute {
+    pub name: Name,
+    pub value: TExpr,
+}
+
+/// A task (OpenWDL 1.1, "Task Definition"). Its lists are in dependency order, but the attributes,
+/// which are in the order of the text; `privates` are its declarations outside the input section,
+/// `retries` is the runtime attribute `maxRetries`, `attributes` are those other than this one and
+/// `returnCodes`, the first of each name, and the command is dedented.
 #[derive(Debug, Drop)]
 pub struct TaskDef {
     pub name: Name,
@@ -41,6 +51,7 @@ pub struct TaskDef {
     pub privates: Items<TDecl>,
     pub codes: TCodes,
     pub retries: Option<TExpr>,
+    pub attributes: Items<TAttribute>,
     pub command: Items<TPart<TExpr>>,
     pub outputs: Items<TDecl>,
     pub span: Span,

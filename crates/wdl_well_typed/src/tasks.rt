@@ -7,8 +7,8 @@ ghost use Rattle.wdl_typed.specs.Typing.{is_type as is_type_of};
 ghost use Rattle.wdl_well_typed.specs.Tasks.{lists_typed};
 
 use std::alloc::Global;
-use wdl_names::{Indexed, NameStack, TypedNames, add_all};
-use wdl_typed::{Choice, TCodes, TExpr, THole, TPart, TaskDef};
+use wdl_names::{Indexed, NameStack, TypedNames, add_all, are_distinct};
+use wdl_typed::{Choice, TAttribute, TCodes, TExpr, THole, TPart, TaskDef, is_printable};
 use wdl_typing::{
     Context, Standing, body_type, decls_are_typed, inputs_are_typed, is_type, takes_some,
     type_in_place, type_of,
@@ -79,6 +79,46 @@ fn retries_are_typed(
     }
 }
 
+/// Whether an expression has a type, and one whose values are told as text.
+fn some_printable(found: &Option<Ty>) -> bool
+    ensures { result ≡ spec.some_printable found.now }
+{
+    match found {
+        Some(t) => is_printable(t),
+        None => false,
+    }
+}
+
+/// Whether the values of the attributes are told as text.
+fn are_printable(
+    alloc: Global,
+    attributes: &[TAttribute],
+    structs: &Indexed<StructDef>,
+    names: &TypedNames,
+) -> Result<bool, NoMemory>
+    ensures { IfOk result (λ b. b ≡ spec.are_printable structs.now names.now attributes.now) }
+{
+    for attribute in attributes {
+        let found = body_type(alloc, &attribute.value, structs, names)?;
+        if !some_printable(&found) {
+            return Ok(false);
+        }
+    }
+    Ok(true)
+}
+
+/// Whether the attributes have names that differ, and values that are told as text.
+fn attributes_are_typed(
+    alloc: Global,
+    attributes: &[TAttribute],
+    structs: &Indexed<StructDef>,
+    names: &TypedNames,
+) -> Result<bool, NoMemory>
+    ensures { IfOk result (λ b. b ≡ spec.attributes_typed structs.now names.now attributes.now) }
+{
+    Ok(are_distinct(alloc, attributes)? && are_printable(alloc, attributes, structs, names)?)
+}
+
 /// A file may be written in a placeholder without options.
 fn hole_type(
     alloc: Global,
@@ -127,11 +167,12 @@ fn run_is_typed(
     structs: &Indexed<StructDef>,
     names: &TypedNames,
 ) -> Result<bool, NoMemory>
-    ensures { IfOk result (λ b. b ≡ (spec.codes_typed structs.now names.now task.now.codes && spec.retries_typed structs.now names.now task.now.retries && spec.command_typed structs.now names.now task.now.command)) }
+    ensures { IfOk result (λ b. b ≡ (spec.codes_typed structs.now names.now task.now.codes && spec.retries_typed structs.now names.now task.now.retries && spec.attributes_typed structs.now names.now task.now.attributes && spec.command_typed structs.now names.now task.now.command)) }
 {
     Ok(
         codes_are_typed(alloc, &task.codes, structs, names)?
             && retries_are_typed(alloc, &task.retries, structs, names)?
+            && attributes_are_typed(alloc, task.attributes.as_slice(), structs, names)?
             && command_is_typed(alloc, task.command.as_slice(), structs, names)?,
     )
 }

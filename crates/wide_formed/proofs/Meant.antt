@@ -15,7 +15,6 @@ use Rattle.wdl_typed.specs.declared.flow.FlowDef.{FlowDef}
 use Rattle.wdl_typed.specs.declared.task.TInput.{TInput}
 use Rattle.wdl_typed.specs.Bodies.{Library}
 use Rattle.wdl_typed.specs.Declarations.{input_names, inputs_bound, plain_key}
-use Rattle.wdl_typed.specs.Flow.{whole}
 use Rattle.wdl_typed.specs.Journal.{inputs_fit}
 use Rattle.wdl_typed.specs.Kept.{flow_typed, is_checked}
 use Rattle.wdl_typed.specs.KnownTypes.{are_structs}
@@ -35,13 +34,15 @@ use Rattle.cwl_image.specs.Image.{cwl_in, flow_at as process_at, flow_image, ima
 use Rattle.cwl_image.specs.Named.{names_are_names}
 use Rattle.cwl_image.specs.Subset.{broken_in, called_broken, each_broken, flow_at, flow_broken, in_subset, input_broken, is_default, reached as broken_to, target_broken, unless}
 use Rattle.cwl_laws.specs.Premises.{AreInputs, AreMet}
-use Rattle.cwl_laws.specs.Simulation.{IsMeant, object_of}
+use Rattle.cwl_laws.specs.Simulation.{object_of}
 use Rattle.cwl_laws.specs.Tools.{AreStatuses}
 use Rattle.cwl_laws.proofs.Calls.{left_absent}
 use Rattle.cwl_laws.proofs.Flows.{flow_rules}
 use Rattle.cwl_laws.proofs.Starts.{all_meet, each_fits}
 use Rattle.cwl_laws.proofs.Tools.{both_empty, inputs_are, rule_holds}
-use Rattle.cwl_laws.proofs.Whole.{object_same, simulates, nothing_broken}
+use Rattle.cwl_laws.proofs.Whole.{object_same, nothing_broken}
+use Rattle.attribute_laws.specs.Simulation.{IsFormMeant}
+use Rattle.attribute_laws.proofs.Simulated.{forms_mean}
 use Rattle.leaf_image.specs.declared.leaf.Leaf.{Leaf}
 use Rattle.leaf_image.specs.declared.leaf.Place.{Place}
 use Rattle.leaf_image.specs.Leaves.{is_record, places_at}
@@ -335,7 +336,7 @@ module _ (lib : Library) (main : ℕ) (f : FlowDef) (given : List Bind) (site : 
 
   abbrev Says : FlowDef → List RecordLeaf → List TInput → Type 0
   Says g rs source =
-      IsMeant g (whole (record { library = low; site = site; table = table }) main (lowered_given rs given g.inputs)) (form_means ground rs source lib.structs (image low main) (object_of given))
+      IsFormMeant low main g (lowered_given rs given g.inputs) site table (form_means ground rs source lib.structs (image low main) (object_of given))
 
   module _ (h : HasMain lib main f) where
     differ_now : are_distinct (input_names h.flow.inputs) ≡ true
@@ -353,8 +354,8 @@ module _ (lib : Library) (main : ℕ) (f : FlowDef) (given : List Bind) (site : 
     meant_by : (rs : List RecordLeaf) → ((i : TInput) → Contains h.flow.inputs i → IsTakenFor lib.structs i (value_for lib.structs rs given i))
         → form_means ground rs f.inputs lib.structs (image low main) (object_of given) ≡ means ground (image low main) (object_of (lowered_given rs given h.flow.inputs)) [] → Says h.flow rs f.inputs
     meant_by rs takes e =
-        subst (IsMeant h.flow (whole (record { library = low; site = site; table = table }) main (lowered_given rs given h.flow.inputs))) (sym e)
-        (simulates low main h.flow (lowered_given rs given h.flow.inputs) site table h.checked subset named_so h.there (given_fit lib.structs rs given h.flow.inputs differ_now takes) small)
+        subst (IsFormMeant low main h.flow (lowered_given rs given h.flow.inputs) site table) (sym e)
+        (forms_mean low main h.flow (lowered_given rs given h.flow.inputs) site table h.checked subset named_so h.there (given_fit lib.structs rs given h.flow.inputs differ_now takes) small)
 
     by_how : (rs : List RecordLeaf) → IsLoweredMain lib.structs f h.flow rs → Says h.flow rs f.inputs
     by_how rs (unreplaced q e) =

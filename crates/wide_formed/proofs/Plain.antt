@@ -12,7 +12,7 @@ use Rattle.cwl_model.proofs.Rounds.{first_is}
 use Rattle.cwl_image.specs.Expressions.{is_simple, simple_step}
 use Rattle.cwl_image.specs.Named.{names_are_names}
 use Rattle.cwl_image.specs.Subset.{in_subset}
-use Rattle.cwl_laws.proofs.Whole.{simulates}
+use Rattle.attribute_laws.proofs.Simulated.{forms_mean}
 use Rattle.leaf_image.specs.declared.leaf.Leaf.{Leaf}
 use Rattle.leaf_image.specs.declared.leaf.Place.{Place}
 use Rattle.leaf_image.specs.Leaves.{is_record}
@@ -43,7 +43,7 @@ no_leaves structs is (l ∷ ls) h simple =
 pub plain_simulates : PlainSimulates
 plain_simulates lib main f same checked subset named there = (
   by_how (lowering lib main).records (lowered_main lib main f checked there).how,
-  λ given site table fit small. simulates lib main f given site table checked own names there fit small,
+  λ given site table fit small. forms_mean lib main f given site table checked own names there fit small,
 )
   where
     own : in_subset lib main ≡ true

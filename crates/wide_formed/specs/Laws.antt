@@ -8,7 +8,6 @@ use Rattle.wdl_value.specs.Tables.{Row}
 use Rattle.wdl_typed.specs.declared.flow.FlowDef.{FlowDef}
 use Rattle.wdl_typed.specs.declared.task.TInput.{TInput}
 use Rattle.wdl_typed.specs.Bodies.{Library}
-use Rattle.wdl_typed.specs.Flow.{whole}
 use Rattle.wdl_typed.specs.Journal.{inputs_fit}
 use Rattle.wdl_typed.specs.Kept.{is_checked}
 use Rattle.cwl_model.specs.declared.process.Process.{Process}
@@ -23,8 +22,9 @@ use Rattle.cwl_emit.specs.Reading.{cwl_of}
 use Rattle.cwl_formed.specs.Objects.{inputs_of, object_in}
 use Rattle.cwl_formed.specs.Plain.{texts_are_plain}
 use Rattle.leaf_image.specs.Leaves.{is_record}
-use Rattle.cwl_laws.specs.Simulation.{IsMeant, object_of}
+use Rattle.cwl_laws.specs.Simulation.{object_of}
 use Rattle.cwl_laws.specs.Tools.{AreStatuses}
+use Rattle.attribute_laws.specs.Simulation.{IsFormMeant}
 use Rattle.cwl_records.specs.declared.leaf.RecordLeaf.{RecordLeaf}
 use Rattle.cwl_records.specs.WideReading.{wide_of}
 use Rattle.wide_formed.specs.Forms.{LoweredForm, are_named, document_json, lowered_given, lowered_means, lowering, wide_process}
@@ -50,11 +50,12 @@ LoweredStands =
 
 -- ---- meaning
 
--- The document means, for the object of these inputs, what the flow of the lowered form gives for the leaves of these inputs.
+-- The document means, for the object of these inputs, what the flow of the lowered form gives for the leaves of these inputs, where that
+-- is clean; the flow of the lowered form without attributes is clean exactly where the meaning is complete.
 pub record IsLoweredMeant (l : LoweredForm) (main : ℕ) (given : List Bind) (site : List ℕ) (table : List Row) : Type 0 where
   pub flow : FlowDef
   pub main_is : slice_get l.lib.flows main ≡ Some flow
-  pub meant : IsMeant flow (whole (record { library = l.lib; site = site; table = table }) main (lowered_given l.records given flow.inputs))
+  pub meant : IsFormMeant l.lib main flow (lowered_given l.records given flow.inputs) site table
       (lowered_means (record { site = site; table = table }) l main (object_of given))
 
 -- For a checked form whose lowered form is in the subset and has names that are names, inputs that fit and keep the limits, any site,
@@ -72,8 +73,7 @@ PlainSimulates =
     → in_subset (lowering lib main).lib main ≡ true → names_are_names (lowering lib main).lib ≡ true → slice_get lib.flows main ≡ Some f
     → ((lowering lib main).records ≡ [])
     × ((given : List Bind) (site : List ℕ) (table : List Row) → inputs_fit lib.structs f.inputs given ≡ true → AreStatuses table
-    → IsMeant f (whole (record { library = lib; site = site; table = table }) main given)
-    (means (record { site = site; table = table }) (image lib main) (object_of given) []))
+    → IsFormMeant lib main f given site table (means (record { site = site; table = table }) (image lib main) (object_of given) []))
 
 -- ---- input objects
 

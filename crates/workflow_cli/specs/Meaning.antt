@@ -15,7 +15,9 @@ use Rattle.json_values.specs.Ordered.{is_ordered}
 use Rattle.cwl_model.specs.Means.{Named, means}
 use Rattle.cwl_image.specs.Image.{image}
 use Rattle.cwl_formed.specs.Objects.{inputs_of, object_in}
-use Rattle.cwl_laws.specs.Simulation.{IsMeant, object_of}
+use Rattle.cwl_laws.specs.Simulation.{object_of}
+use Rattle.attribute_laws.specs.Simulation.{IsFormMeant}
+use Rattle.lowering_laws.specs.Laws.{IsReadMeant}
 use Rattle.leaf_image.specs.Leaves.{is_record}
 use Rattle.wide_formed.specs.Forms.{LoweredForm, lowered_means}
 use Rattle.wide_formed.specs.Laws.{IsLoweredMeant, Stands}
@@ -50,10 +52,11 @@ DocumentsMean =
     (tells : Tells) (file text : List ℕ) (d : IsDocumentOf tells file text) (given : List Bind) (site : List ℕ) (table : List Row)
     → inputs_fit d.checked.structs d.flow.inputs given ≡ true → AreStatuses table → MeansFlow d.checked d.number given site table
 
--- It means, for the object of these inputs, what the flow of the workflow as it was read gives for them.
+-- It means, for the object of these inputs, what the flow of the workflow as it was read gives for them, where that is clean; its meaning
+-- is complete exactly where the flow without attributes is clean.
 abbrev pub MeansAsRead : Checked → ℕ → FlowDef → List Bind → List ℕ → List Row → Type 0
 MeansAsRead c number flow given site table =
-    IsMeant flow (whole (record { library = library_of c; site = site; table = table }) number given)
+    IsReadMeant (library_of c) number flow given site table
     (lowered_means (record { site = site; table = table }) (lowered c number) number (object_of given))
 
 -- So it does where the files that the answers tell of keep the limits of values.
@@ -69,10 +72,11 @@ ObjectsMean =
     (tells : Tells) (file : List ℕ) (inputs : Option (List ℕ)) (text : List ℕ) (o : IsObjectOf tells file inputs text) (site : List ℕ) (table : List Row)
     → AreStatuses table → MeansFlow o.checked o.number o.given site table
 
--- The flow of the main workflow for these inputs is as the meaning of its process, with the object of the inputs.
+-- The flow of the main workflow for these inputs is as the meaning of its process, with the object of the inputs, where that flow is
+-- clean; so is that of the workflow without attributes, and where it is not clean the meaning is not complete.
 abbrev pub IsMeantPlainly : Checked → ℕ → FlowDef → List Bind → List ℕ → List Row → Type 0
 IsMeantPlainly c number flow given site table =
-    IsMeant flow (whole (record { library = library_of c; site = site; table = table }) number given)
+    IsFormMeant (library_of c) number flow given site table
     (means (record { site = site; table = table }) (image (library_of c) number) (object_of given) [])
 
 -- Where nothing was lowered, the process is that of the checked form, and means what its flow gives.

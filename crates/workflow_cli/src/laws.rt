@@ -15,11 +15,12 @@ ghost use Rattle.workflow_cli.specs.Meaning.{
 /// replaced by their members, as a process with records round it (CWL v1.2, Workflow,
 /// "InputRecordSchema"). The process means what the workflow does (CWL v1.2, Workflow; OpenWDL 1.1,
 /// "Workflow Definition"): for inputs that fit and keep the limits, any site, and any table of
-/// answers with statuses below 256, the flow of that main workflow, for the members of these
-/// inputs, is clean exactly where the meaning of the process is complete, and then both have the
-/// same jobs and the same outputs. So are the flow of the workflow as it was read, for these inputs
-/// themselves, and the meaning of the process, where the files that answers tell of keep the limits
-/// of values; and in any case where there was nothing to replace.
+/// answers with statuses below 256, where the flow of that main workflow, for the members of these
+/// inputs, is clean, the meaning of the process is complete, and both have the same jobs and the
+/// same outputs. So are the flow of the workflow as it was read, for these inputs themselves, and
+/// the meaning of the process, where the files that answers tell of keep the limits of values; and
+/// in any case where there was nothing to replace. The meaning is complete exactly where the flow
+/// without runtime attributes is clean.
 ///
 /// The same holds of the inputs whose CWL input object `cwl --inputs` writes: where none is a
 /// struct, that is the text of a JSON value that reads, by the types of the inputs of the process,

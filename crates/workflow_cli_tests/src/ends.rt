@@ -95,6 +95,13 @@ $ run --workers 1 w.wdl
 > 1 0 stop
 > ! failed say maxRetries: 510 TooLarge
 
+say runtime { memory: "~{1 / 0} GB" } 
+text workflow w { call say { input: s = "hi" } output { String r = say.r } }
+file w.wdl
+$ run --workers 1 w.wdl
+> 1 0
+> ! failed say memory: 502 ZeroDivisor
+
 say runtime { returnCodes: [0, 3] } 
 text workflow w { call say { input: s = "hi" } output { String r = say.r } }
 file w.wdl

@@ -3,12 +3,18 @@ version 1.1
 task count_reads {
   input {
     File bam
-    String image = "docker://quay.io/biocontainers/samtools:1.19.2--h50ea8bc_0"
+    File index
+    String region
   }
   command <<<
-    apptainer exec --bind "$PWD,$(dirname '~{bam}')" '~{image}' samtools view -c '~{bam}'
+    samtools view -c -X '~{bam}' '~{index}' '~{region}'
   >>>
   output {
     Int reads = read_int(stdout())
+  }
+  runtime {
+    container: "quay.io/biocontainers/samtools:1.19.2--h50ea8bc_0"
+    cpu: 1
+    memory: "2 GB"
   }
 }

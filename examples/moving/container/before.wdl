@@ -3,9 +3,10 @@ version 1.1
 task count_reads {
   input {
     File bam
+    String region
   }
   command <<<
-    samtools view -c '~{bam}'
+    samtools view -c '~{bam}' '~{region}'
   >>>
   output {
     Int reads = read_int(stdout())

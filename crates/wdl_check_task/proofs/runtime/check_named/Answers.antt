@@ -10,6 +10,7 @@ returns-in-Err c =
     let w = world c.args.seeing.now in
     let names = c.args.names.now in
     let as_ = map (λ a. a.now) c.args.attributes.now in
+    let kept = c.args.kept in
     let retries = some_retries w names (first_named (codes "maxRetries") as_) in
-    then_ok (some_codes w names (first_named (codes "returnCodes") as_)) (λ k. then_ retries (λ r. done (said k r))) _ (Err c.in-Err.fault) c.in_ok-codes.ensures
-    (then_err retries (λ r. done (said c.in_ok-codes.codes r)) c.in-Err.fault c.in-Err.ensures)
+    then_ok (some_codes w names (first_named (codes "returnCodes") as_)) (λ k. then_ retries (λ r. done (said kept k r))) _ (Err c.in-Err.fault) c.in_ok-codes.ensures
+    (then_err retries (λ r. done (said kept c.in_ok-codes.codes r)) c.in-Err.fault c.in-Err.ensures)

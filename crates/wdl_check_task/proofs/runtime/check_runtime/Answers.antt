@@ -8,4 +8,4 @@ pub returns : goal.returns
 returns c =
     let w = world c.args.seeing.now in
     let as_ = map (λ a. a.now) c.args.attributes.now in
-    then_ok (each_typed w c.args.names.now as_) (λ x. named_typed w c.args.names.now as_) _ _ c.in_ok-check_each.ensures c.check_named.ensures
+    then_ok (each_typed w c.args.names.now as_) (named_typed w c.args.names.now as_) c.in_ok-kept.kept _ c.in_ok-kept.ensures c.check_named.ensures

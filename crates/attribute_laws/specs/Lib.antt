@@ -1,0 +1,4 @@
+pub mod Bare
+pub mod Forms
+pub mod Laws
+pub mod Simulation
