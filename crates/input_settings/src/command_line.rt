@@ -53,8 +53,10 @@ fn matches_in<'a>(
     };
     match command.try_get_matches_from(words) {
         Ok(matches) => Ok(Some(matches)),
-        Err(e) if e.kind() == ErrorKind::OutOfMemory => Err(NoMemory),
-        Err(_) => Ok(None),
+        Err(error) => match error.kind() {
+            ErrorKind::OutOfMemory => Err(NoMemory),
+            _ => Ok(None),
+        },
     }
 }
 

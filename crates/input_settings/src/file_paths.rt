@@ -16,9 +16,12 @@ fn is_relative(path: &str) -> bool {
     !path.is_empty() && !path.starts_with('/') && !path.contains("://")
 }
 
-/// Whether a type is File.
-fn is_file(ty: &Ty) -> bool {
-    matches!(bare_type(ty), Ty::File)
+/// Whether a type, where it is known, is File.
+fn is_file(ty: Option<&Ty>) -> bool {
+    match ty {
+        Some(ty) => matches!(bare_type(ty), Ty::File),
+        None => false,
+    }
 }
 
 /// The type of an input that a member of the inputs names.
@@ -88,7 +91,7 @@ impl<'a> Walk<'a> {
     fn has_file_keys(&self) -> bool {
         match self.open.last() {
             Some(Some(ty)) => match bare_type(ty) {
-                Ty::Map { key, .. } => is_file(key.get()),
+                Ty::Map { key, .. } => is_file(Some(key.get())),
                 _ => false,
             },
             _ => false,
@@ -124,7 +127,7 @@ impl<'a> Walk<'a> {
                 self.next = self.type_of(name);
                 return Ok(());
             }
-            Token::String(text) => if self.next.is_some_and(is_file) {
+            Token::String(text) => if is_file(self.next) {
                 self.complete(text, lexeme)?;
             },
             Token::Number(_) | Token::Bool(_) | Token::Null | Token::Bad => {}

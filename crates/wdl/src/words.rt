@@ -38,7 +38,7 @@ impl CommandLine {
 
 /// Returns the words, and whether `--notes` was among them. Where they are no text there are none,
 /// which has no reading.
-fn typed<R: Env + AllocGlobal>(rt: &R) -> Result<(Vec<String>, bool), NoMemory> {
+fn all_words<R: Env + AllocGlobal>(rt: &R) -> Result<(Vec<String>, bool), NoMemory> {
     let mut words = Vec::new(rt.alloc());
     let mut notes = false;
     let mut plain = false;
@@ -61,7 +61,7 @@ fn typed<R: Env + AllocGlobal>(rt: &R) -> Result<(Vec<String>, bool), NoMemory> 
 
 /// Returns the command line.
 pub(crate) fn command_line<R: Env + Files + AllocGlobal>(rt: &R) -> Result<CommandLine, NoMemory> {
-    let (typed, notes) = typed(rt)?;
+    let (typed, notes) = all_words(rt)?;
     let here = folder(rt);
     let here = match &here {
         Some(here) => Some(here.as_str()),
