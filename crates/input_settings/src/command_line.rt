@@ -1,7 +1,7 @@
 //! The options that set inputs, taken out of the command line.
 
 use crate::setting::{Setting, is_setting, setting_of};
-use crate::settings::{NO_FILE, Settings};
+use crate::settings::{Settings, path_of_none};
 use clap::error::ErrorKind;
 use clap::{Arg, ArgAction, ArgMatches, Command};
 use std::alloc::{AllocError, Global};
@@ -117,6 +117,11 @@ fn members_of(alloc: Global, values: &[&str]) -> Result<Option<Vec<Setting>>, No
     Ok(Some(members))
 }
 
+/// The document, which clap requires.
+fn document_of<'a>(matches: &ArgMatches<'a>) -> &'a str {
+    matches.get_str("file").unwrap_or("")
+}
+
 /// Appends an option with its value, if it is given.
 fn push_option(
     alloc: Global,
@@ -144,8 +149,7 @@ fn words_of(
         push_option(alloc, &mut words, name, matches.get_str(name))?;
     }
     words.push(String::from_str(alloc, "--")?)?;
-    let file = matches.get_str("file").unwrap_or("");
-    words.push(String::from_str(alloc, file)?)?;
+    words.push(String::from_str(alloc, document_of(matches))?)?;
     Ok(words)
 }
 
@@ -174,15 +178,14 @@ pub fn set_line<R: Files>(
         return Ok(None);
     };
     let file = matches.get_str("inputs");
-    let words = words_of(alloc, command.as_str(), &matches, file.unwrap_or(NO_FILE))?;
-    let file = match file {
-        Some(file) => Some(String::from_str(alloc, file)?),
-        None => None,
-    };
-    let settings = Settings {
-        file,
-        members,
-        folder,
-    };
-    Ok(Some(SetLine { words, settings }))
+    let path = file.unwrap_or(path_of_none(document_of(&matches)));
+    Ok(Some(SetLine {
+        words: words_of(alloc, command.as_str(), &matches, path)?,
+        settings: Settings {
+            path: String::from_str(alloc, path)?,
+            has_file: file.is_some(),
+            members,
+            folder,
+        },
+    }))
 }

@@ -9,13 +9,22 @@ use wdl_base::NoMemory;
 use wdl_typed::FlowDef;
 use wdl_value::StructDef;
 
-/// Where no inputs file is named, the path at which the empty object is read.
-pub(crate) const NO_FILE: &str = "--input";
+/// Returns the path at which the empty object is read, where no inputs file is named. It is not that
+/// of the document.
+pub(crate) fn path_of_none(document: &str) -> &'static str {
+    if document == "--input" {
+        "--inputs"
+    } else {
+        "--input"
+    }
+}
 
 /// What the command line sets on top of the inputs file.
 #[derive(Debug, Drop)]
 pub struct Settings {
-    pub(crate) file: Option<String>,
+    /// The path at which the inputs are read.
+    pub(crate) path: String,
+    pub(crate) has_file: bool,
     pub(crate) members: Vec<Setting>,
     /// A whole path, without slashes at its end.
     pub(crate) folder: Option<String>,
@@ -23,17 +32,14 @@ pub struct Settings {
 
 impl Settings {
     /// Returns the path at which the inputs are read: that of the inputs file, or where there is
-    /// none the name of the option `--input`.
+    /// none a name that stands for the empty object.
     pub fn path(&self) -> &str {
-        match &self.file {
-            Some(file) => file.as_str(),
-            None => NO_FILE,
-        }
+        self.path.as_str()
     }
 
     /// Returns whether an inputs file is named. Without one the inputs begin as the empty object.
     pub fn has_file(&self) -> bool {
-        self.file.is_some()
+        self.has_file
     }
 
     /// Returns whether relative paths are completed, so that [`Settings::text`] needs a workflow.

@@ -12,6 +12,7 @@ run --inputs i.json --input w.x=3 a.wdl|run --inputs=i.json -- a.wdl
 run a.wdl --input=w.x=3 --workers 2 --root /r --journal=j|run --inputs=--input --workers=2 --root=/r --journal=j -- a.wdl
 cwl --inputs=i.json --input w.x=3 --relative-to / a.wdl|cwl --inputs=i.json -- a.wdl
 run --relative-to=/ --inputs i.json -- --input|run --inputs=i.json -- --input
+run --input w.x=3 -- --input|run --inputs=--inputs -- --input
 run a.wdl|as they are
 run -- --input w.x=3|as they are
 run --input w.x=3|as they are
