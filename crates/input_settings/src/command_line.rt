@@ -79,15 +79,19 @@ enum Folder {
     Bad,
 }
 
-/// The whole path of a folder, without slashes at its end.
-fn whole_path(alloc: Global, path: &str, here: &str) -> Result<String, NoMemory> {
+/// The whole path of a folder, without slashes at its end. None where it is below a folder that
+/// cannot be named.
+fn whole_path(alloc: Global, path: &str, here: Option<&str>) -> Result<Option<String>, NoMemory> {
     let mut whole = String::new(alloc);
     if !path.starts_with('/') {
+        let Some(here) = here else {
+            return Ok(None);
+        };
         whole.push_str(here.trim_end_matches('/'))?;
         whole.push('/')?;
     }
     whole.push_str(path.trim_end_matches('/'))?;
-    Ok(whole)
+    Ok(Some(whole))
 }
 
 fn folder_of<R: Files>(
@@ -96,12 +100,15 @@ fn folder_of<R: Files>(
     value: Option<&str>,
     here: Option<&str>,
 ) -> Result<Folder, NoMemory> {
-    match (value, here) {
-        (None, _) => Ok(Folder::None),
-        (Some(path), Some(here)) if is_folder(rt, path) => {
-            Ok(Folder::At(whole_path(alloc, path, here)?))
-        }
-        _ => Ok(Folder::Bad),
+    let Some(path) = value else {
+        return Ok(Folder::None);
+    };
+    if !is_folder(rt, path) {
+        return Ok(Folder::Bad);
+    }
+    match whole_path(alloc, path, here)? {
+        Some(whole) => Ok(Folder::At(whole)),
+        None => Ok(Folder::Bad),
     }
 }
 
