@@ -9,8 +9,8 @@ use wdl_base::NoMemory;
 use wdl_typed::FlowDef;
 use wdl_value::StructDef;
 
-/// Returns the path at which the empty object is read, where no inputs file is named. It is not that
-/// of the document.
+/// Returns the path at which the empty object is read, where no inputs file is named. It is not
+/// that of the document.
 pub(crate) fn path_of_none(document: &str) -> &'static str {
     if document == "--input" {
         "--inputs"
