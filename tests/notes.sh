@@ -436,12 +436,13 @@ warned() {
   same "$1" "0 {} $2" "$? $(cat out) $(grep '^f.json: warning: ' err | sed 's/^f.json: warning: //' | tr '\n' '|')"
 }
 whole='each job looks in a directory of its own; give the whole path'
-warned "a relative path" "the input \`fs\`: \`a.txt\`: $whole: $work/a.txt|" '{"w.fs":["a.txt"]}'
-warned "a relative path of a file that is there" "the input \`fs\`: \`there\`: $whole: $work/there|" '{"w.fs":["there"]}'
+option='or its folder by `--relative-to`'
+warned "a relative path" "the input \`fs\`: \`a.txt\`: $whole: $work/a.txt, $option|" '{"w.fs":["a.txt"]}'
+warned "a relative path of a file that is there" "the input \`fs\`: \`there\`: $whole: $work/there, $option|" '{"w.fs":["there"]}'
 warned "a file that is not there" "the input \`fs\`: \`$work/gone\`: no such file|" '{"w.fs":["'"$work/there"'","'"$work/gone"'"]}'
 warned "a file on a network" 'the input `fs`: `https://example.org/a`: files on a network are not read; copy it to this machine|' '{"w.fs":["https://example.org/a"]}'
-warned "a file in a struct in a pair" "the input \`lane\`: \`b/r.fq\`: $whole: $work/b/r.fq|" '{"w.lane":{"left":1,"right":{"name":"x","reads":"b/r.fq"}}}'
-warned "a file as a key" "the input \`named\`: \`k\`: $whole: $work/k|" '{"w.named":{"k":"v"}}'
+warned "a file in a struct in a pair" "the input \`lane\`: \`b/r.fq\`: $whole: $work/b/r.fq, $option|" '{"w.lane":{"left":1,"right":{"name":"x","reads":"b/r.fq"}}}'
+warned "a file as a key" "the input \`named\`: \`k\`: $whole: $work/k, $option|" '{"w.named":{"k":"v"}}'
 warned "files that are there, a folder, and texts" '' '{"w.fs":["'"$work/there"'","/"],"w.s":"a.txt","w.lane":{"left":1,"right":{"name":"n","reads":null}}}'
 warned "seven files" "$(for i in 1 2 3 4 5; do printf 'the input `fs`: `/no/%s`: no such file|' $i; done)2 more input files will not be found|" \
   '{"w.fs":["/no/1","/no/2","/no/3","/no/4","/no/5","/no/6","/no/7"]}'

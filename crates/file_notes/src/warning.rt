@@ -51,15 +51,13 @@ fn push_lack(note: &mut Note, path: &str, lack: Lack, here: Option<&str>) -> Res
         Lack::Missing => note.push(": no such file"),
         Lack::Relative => {
             note.push(": each job looks in a directory of its own; give the whole path")?;
-            match here {
-                Some(folder) => {
-                    note.push(": ")?;
-                    note.push_given(folder)?;
-                    note.push("/")?;
-                    note.push_given(path)
-                }
-                None => Ok(()),
+            if let Some(folder) = here {
+                note.push(": ")?;
+                note.push_given(folder)?;
+                note.push("/")?;
+                note.push_given(path)?;
             }
+            note.push(", or its folder by `--relative-to`")
         }
     }
 }

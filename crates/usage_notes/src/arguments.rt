@@ -2,6 +2,8 @@
 
 use crate::setting::{Setting, setting_named};
 use crate::slip::Slip;
+use input_settings::{is_folder, is_setting};
+use std::fs::Files;
 use wdl_words::Command;
 
 /// The most bytes of a root.
@@ -9,7 +11,8 @@ pub(crate) const ROOT_LIMIT: usize = 512;
 
 /// What was read of the arguments of a command.
 #[derive(Drop)]
-struct Arguments<'a> {
+struct Arguments<'a, R> {
+    rt: &'a R,
     command: Command,
     /// The option whose value comes next.
     waiting: Option<Setting>,
@@ -18,6 +21,7 @@ struct Arguments<'a> {
     /// The document, or the number of calls.
     operand: Option<&'a str>,
     inputs: Option<&'a str>,
+    relative_to: Option<&'a str>,
     workers: Option<&'a str>,
     root: Option<&'a str>,
     journal: Option<&'a str>,
@@ -41,9 +45,11 @@ fn is_root(text: &str) -> bool {
 }
 
 /// Whether an option takes a value.
-fn takes(setting: Setting, value: &str) -> bool {
+fn takes<R: Files>(rt: &R, setting: Setting, value: &str) -> bool {
     match setting {
         Setting::Inputs | Setting::Journal => !value.is_empty(),
+        Setting::Input => is_setting(value),
+        Setting::RelativeTo => is_folder(rt, value),
         Setting::Workers => is_number(value, 1, 64),
         Setting::Root => is_root(value),
     }
@@ -62,24 +68,28 @@ fn is_negative(word: &str) -> bool {
     }
 }
 
-impl<'a> Arguments<'a> {
-    fn new(command: Command) -> Arguments<'a> {
+impl<'a, R: Files> Arguments<'a, R> {
+    fn new(rt: &'a R, command: Command) -> Arguments<'a, R> {
         Arguments {
+            rt,
             command,
             waiting: None,
             plain: false,
             operand: None,
             inputs: None,
+            relative_to: None,
             workers: None,
             root: None,
             journal: None,
         }
     }
 
-    /// Keeps the value of an option, and returns the one that it had.
+    /// Keeps the value of an option, and returns the one that it had, where it stands at most once.
     fn replace(&mut self, setting: Setting, value: &'a str) -> Option<&'a str> {
         match setting {
             Setting::Inputs => self.inputs.replace(value),
+            Setting::Input => None,
+            Setting::RelativeTo => self.relative_to.replace(value),
             Setting::Workers => self.workers.replace(value),
             Setting::Root => self.root.replace(value),
             Setting::Journal => self.journal.replace(value),
@@ -91,7 +101,7 @@ impl<'a> Arguments<'a> {
         if self.replace(setting, value).is_some() {
             return Some(Slip::Repeated(setting));
         }
-        if takes(setting, value) {
+        if takes(self.rt, setting, value) {
             None
         } else {
             Some(Slip::BadValue(setting, value))
@@ -197,8 +207,12 @@ impl<'a> Arguments<'a> {
 }
 
 /// Returns the first slip of the arguments of a command, which do not stand on a valid command line.
-pub(crate) fn slip_in<'a>(command: Command, words: &'a [String]) -> Slip<'a> {
-    let mut arguments = Arguments::new(command);
+pub(crate) fn slip_in<'a, R: Files>(
+    rt: &'a R,
+    command: Command,
+    words: &'a [String],
+) -> Slip<'a> {
+    let mut arguments = Arguments::new(rt, command);
     for word in words {
         if let Some(slip) = arguments.read(word.as_str()) {
             return slip;

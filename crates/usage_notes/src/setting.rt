@@ -9,6 +9,8 @@ pub(crate) const COMMANDS: &str = "run, check, inputs, cwl, bundle, explain, loa
 #[derive(Clone, Copy, Debug, PartialEq, Eq)]
 pub(crate) enum Setting {
     Inputs,
+    Input,
+    RelativeTo,
     Workers,
     Root,
     Journal,
@@ -68,6 +70,8 @@ impl Setting {
     pub(crate) fn name(self) -> &'static str {
         match self {
             Setting::Inputs => "--inputs",
+            Setting::Input => "--input",
+            Setting::RelativeTo => "--relative-to",
             Setting::Workers => "--workers",
             Setting::Root => "--root",
             Setting::Journal => "--journal",
@@ -78,8 +82,9 @@ impl Setting {
     pub(crate) fn value(self) -> &'static str {
         match self {
             Setting::Inputs | Setting::Journal => "a file",
+            Setting::Input => "NAME=VALUE",
             Setting::Workers => "a number from 1 to 64",
-            Setting::Root => "a folder",
+            Setting::Root | Setting::RelativeTo => "a folder",
         }
     }
 
@@ -87,7 +92,10 @@ impl Setting {
     pub(crate) fn is_of(self, command: Command) -> bool {
         match command {
             Command::Run => true,
-            Command::Cwl => self == Setting::Inputs,
+            Command::Cwl => matches!(
+                self,
+                Setting::Inputs | Setting::Input | Setting::RelativeTo
+            ),
             _ => false,
         }
     }
@@ -97,6 +105,8 @@ impl Setting {
 pub(crate) fn setting_named(name: &str) -> Option<Setting> {
     match name {
         "inputs" => Some(Setting::Inputs),
+        "input" => Some(Setting::Input),
+        "relative-to" => Some(Setting::RelativeTo),
         "workers" => Some(Setting::Workers),
         "root" => Some(Setting::Root),
         "journal" => Some(Setting::Journal),
@@ -119,8 +129,15 @@ pub(crate) fn setting_elsewhere(name: &str) -> Option<Setting> {
 /// Returns the names of the options of a command, without their dashes.
 pub(crate) fn names_of(command: Command) -> &'static [&'static str] {
     match command {
-        Command::Run => &["inputs", "workers", "root", "journal"],
-        Command::Cwl => &["inputs"],
+        Command::Run => &[
+            "inputs",
+            "input",
+            "relative-to",
+            "workers",
+            "root",
+            "journal",
+        ],
+        Command::Cwl => &["inputs", "input", "relative-to"],
         _ => &[],
     }
 }
@@ -128,8 +145,8 @@ pub(crate) fn names_of(command: Command) -> &'static [&'static str] {
 /// Returns the names of the options of a command as a list.
 pub(crate) fn options_of(command: Command) -> &'static str {
     match command {
-        Command::Run => "--inputs, --workers, --root, --journal",
-        Command::Cwl => "--inputs",
+        Command::Run => "--inputs, --input, --relative-to, --workers, --root, --journal",
+        Command::Cwl => "--inputs, --input, --relative-to",
         _ => "",
     }
 }

@@ -5,6 +5,7 @@ use crate::setting::{
     Setting, command_name, names_of, options_of, setting_elsewhere, setting_named,
 };
 use crate::slip::Slip;
+use input_settings::is_setting;
 use note_text::{Note, nearest_of};
 use std::alloc::Global;
 use wdl_value::NoMemory;
@@ -96,7 +97,11 @@ fn push_bad_value(note: &mut Note, setting: Setting, value: &str) -> Result<(), 
         return push_bad_root(note, value);
     }
     note.push_all(&[setting.value(), ", found "])?;
-    note.push_quoted(value)
+    note.push_quoted(value)?;
+    if setting == Setting::Input && value.ends_with(".json") {
+        note.push("; did you mean `--inputs`?")?;
+    }
+    Ok(())
 }
 
 /// Appends what is wrong with an argument beside the document or the number of calls.
@@ -114,8 +119,10 @@ fn push_extra(note: &mut Note, command: Command, extra: &str, first: &str) -> Re
         note.push_given(extra)?;
         return note.push("`");
     }
-    if has_inputs && extra.contains('=') {
-        return note.push("; give the inputs as a JSON object in a file, by `--inputs FILE`");
+    if has_inputs && is_setting(extra) {
+        note.push("; give an input by `--input ")?;
+        note.push_given(extra)?;
+        return note.push("`");
     }
     note.push(", and ")?;
     note.push_name(first)?;

@@ -5,6 +5,7 @@ use crate::setting::{COMMANDS, command_elsewhere, command_name, command_named, c
 use crate::slip_sentence::push_slip;
 use note_text::{Note, nearest_of};
 use std::alloc::Global;
+use std::fs::Files;
 use wdl_value::NoMemory;
 use wdl_words::{Command, WordFault, read_words};
 
@@ -74,7 +75,8 @@ fn push_first(
 }
 
 /// Appends what is wrong with the words, and returns the command whose help tells more.
-fn push_fault(
+fn push_fault<R: Files>(
+    rt: &R,
     alloc: Global,
     note: &mut Note,
     words: &[String],
@@ -86,7 +88,7 @@ fn push_fault(
     match command_named(first.as_str()) {
         Some(Command::Help) => push_help(alloc, note, rest)?,
         Some(command) => {
-            push_slip(alloc, note, command, slip_in(command, rest))?;
+            push_slip(alloc, note, command, slip_in(rt, command, rest))?;
             return Ok(Some(command));
         }
         None => push_first(alloc, note, first.as_str(), rest)?,
@@ -95,9 +97,9 @@ fn push_fault(
 }
 
 /// The two lines of the note on words that ask for nothing.
-fn note_on(alloc: Global, words: &[String]) -> Result<String, NoMemory> {
+fn note_on<R: Files>(rt: &R, alloc: Global, words: &[String]) -> Result<String, NoMemory> {
     let mut note = Note::new(alloc);
-    match push_fault(alloc, &mut note, words)? {
+    match push_fault(rt, alloc, &mut note, words)? {
         Some(command) => {
             let name = command_name(command);
             note.push_all(&["\n`wdl help ", name, "` shows what `", name, "` takes\n"])?;
@@ -111,10 +113,18 @@ fn note_on(alloc: Global, words: &[String]) -> Result<String, NoMemory> {
 /// argument at fault, what was expected, the nearest command or option, and the call that shows
 /// more. It ends with a newline. There is none where the command line is valid. Nothing is promised
 /// of what it says.
-pub fn usage_note(alloc: Global, words: &[String]) -> Result<Option<String>, NoMemory> {
+///
+/// `words` are the arguments that the top call is given, and `typed` those of the command line,
+/// which may have the options that set inputs.
+pub fn usage_note<R: Files>(
+    rt: &R,
+    alloc: Global,
+    words: &[String],
+    typed: &[String],
+) -> Result<Option<String>, NoMemory> {
     match read_words(alloc, words) {
         Ok(_) => Ok(None),
-        Err(WordFault::Usage) => Ok(Some(note_on(alloc, words)?)),
+        Err(WordFault::Usage) => Ok(Some(note_on(rt, alloc, typed)?)),
         Err(WordFault::NoMemory) => Err(NoMemory),
     }
 }

@@ -16,7 +16,9 @@ use keeper_sql::{KeeperNotes, SqlKeeper};
 use report_text::{Status, no_memory_line, number_of};
 use run_notes::RunNotes;
 use run_watch::Watch;
+use settings_shelf::SettingsShelf;
 use std::alloc::Global;
+use std::fs::Files;
 use std::marker::Brand;
 use std::process;
 use std::process::ExitCode;
@@ -27,13 +29,13 @@ use std::time::Clock;
 use usage_notes::usage_note;
 use wdl_port::{Keeper, Launcher, Shelf, Sink};
 use wdl_value::Steps;
-use words::{CommandLine, words};
+use words::{CommandLine, command_line};
 use workflow_cli::{FileShelf, StreamSink, workflow};
 use workflow_stages::{Explain, write_all};
 
 /// Tells a person what is wrong with words that ask for nothing.
-fn tell_usage<N: Sink>(alloc: Global, words: &[String], notes: &mut N) {
-    if let Ok(Some(note)) = usage_note(alloc, words) {
+fn tell_usage<R: Files, N: Sink>(rt: &R, alloc: Global, line: &CommandLine, notes: &mut N) {
+    if let Ok(Some(note)) = usage_note(rt, alloc, line.words(), line.typed.as_slice()) {
         let _ = write_all(notes, note.as_bytes());
     }
 }
@@ -77,17 +79,15 @@ fn number<
 fn main(rt: HostRuntime) -> ExitCode {
     let alloc: Global = rt.alloc();
     let mut err = StreamSink::new(rt.stderr());
-    let (Ok(words), Ok(shell), Ok(mark)) = (words(&rt), shell(&rt), outer_mark(&rt)) else {
+    let (Ok(line), Ok(shell), Ok(mark)) = (command_line(&rt), shell(&rt), outer_mark(&rt)) else {
         let _ = err.write(no_memory_line().as_bytes());
         return ExitCode::from(number_of(&Status::NoMemory));
     };
-    let CommandLine {
-        words,
-        notes: asked,
-    } = words;
+    let asked = line.notes;
     let stream = rt.stderr();
     let is_read = shows_notes(&rt, &stream, asked);
-    let files = RecallingShelf::new(alloc, FileShelf::new(&rt), runner_of(&shell));
+    let inputs = SettingsShelf::new(alloc, FileShelf::new(&rt), line.settings());
+    let files = RecallingShelf::new(alloc, inputs, runner_of(&shell));
     let mut shelf = SeeingShelf::new(files, &rt, folder(&rt), is_read);
     let mut out = StreamSink::new(rt.stdout());
     let style = style_of(&stream);
@@ -102,11 +102,11 @@ fn main(rt: HostRuntime) -> ExitCode {
     let launcher = ShellLauncher::new(&rt, shell, own, reasons);
     let faults = KeeperNotes::new(note_stream(&rt, rt.stderr(), asked), clear_of(style));
     let mut keeper = SqlKeeper::new(&rt, faults);
-    tell_usage(alloc, words.as_slice(), &mut notes);
+    tell_usage(&rt, alloc, &line, &mut notes);
     let number = number::<_, _, _, _, _, _, _, _, Brand>(
         &rt,
         alloc,
-        words.as_slice(),
+        line.words(),
         &mut shelf,
         &mut out,
         &mut err,

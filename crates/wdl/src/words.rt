@@ -1,6 +1,9 @@
 //! The words of the command line.
+use crate::environment::folder;
+use input_settings::{SetLine, Settings, set_line};
 use std::env;
 use std::env::Env;
+use std::fs::Files;
 use std::io::ErrorKind;
 use wdl_value::NoMemory;
 
@@ -8,13 +11,34 @@ use wdl_value::NoMemory;
 #[derive(Drop)]
 pub(crate) struct CommandLine {
     /// All but `--notes`.
-    pub words: Vec<String>,
+    pub typed: Vec<String>,
     /// Whether notes are asked for, by `--notes` in front of any `--`.
     pub notes: bool,
+    /// The words without the options that set inputs, and what these set.
+    set: Option<SetLine>,
 }
 
-/// Returns the words. Where they are no text there are none, which has no reading.
-pub(crate) fn words<R: Env + AllocGlobal>(rt: &R) -> Result<CommandLine, NoMemory> {
+impl CommandLine {
+    /// Returns the words that the top call is given.
+    pub(crate) fn words(&self) -> &[String] {
+        match &self.set {
+            Some(set) => set.words.as_slice(),
+            None => self.typed.as_slice(),
+        }
+    }
+
+    /// Returns what the command line sets of the inputs.
+    pub(crate) fn settings(&self) -> Option<&Settings> {
+        match &self.set {
+            Some(set) => Some(&set.settings),
+            None => None,
+        }
+    }
+}
+
+/// Returns the words, and whether `--notes` was among them. Where they are no text there are none,
+/// which has no reading.
+fn all_words<R: Env + AllocGlobal>(rt: &R) -> Result<(Vec<String>, bool), NoMemory> {
     let mut words = Vec::new(rt.alloc());
     let mut notes = false;
     let mut plain = false;
@@ -32,5 +56,17 @@ pub(crate) fn words<R: Env + AllocGlobal>(rt: &R) -> Result<CommandLine, NoMemor
         Err(e) if e.kind() == ErrorKind::OutOfMemory => return Err(NoMemory),
         Err(_) => {}
     }
-    Ok(CommandLine { words, notes })
+    Ok((words, notes))
+}
+
+/// Returns the command line.
+pub(crate) fn command_line<R: Env + Files + AllocGlobal>(rt: &R) -> Result<CommandLine, NoMemory> {
+    let (typed, notes) = all_words(rt)?;
+    let here = folder(rt);
+    let here = match &here {
+        Some(here) => Some(here.as_str()),
+        None => None,
+    };
+    let set = set_line(rt, rt.alloc(), typed.as_slice(), here)?;
+    Ok(CommandLine { typed, notes, set })
 }
