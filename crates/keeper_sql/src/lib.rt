@@ -7,6 +7,7 @@ mod opening;
 mod putting;
 mod rows;
 mod stamps;
+mod times;
 mod trouble;
 
 pub use database::Database;

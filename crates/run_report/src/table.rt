@@ -1,0 +1,108 @@
+use crate::escape::Shown;
+use crate::group::Group;
+use crate::span::Span;
+use crate::spent::Spent;
+use std::alloc::{AllocError, Global};
+
+/// What stands above the columns.
+pub(crate) const HEADS: [&str; 6] = ["task", "count", "failed", "total", "median", "longest"];
+
+/// A line of the table: a name, and the numbers of its jobs.
+pub(crate) type Cells = [String; 6];
+
+/// Returns a time of jobs, or `-` where no times are known.
+fn time_cell(alloc: Global, spent: &Spent, time: u64) -> Result<String, AllocError> {
+    if spent.timed == 0 {
+        return String::from_str(alloc, "-");
+    }
+    let time = Span(time);
+    format!(in alloc; "{time}")
+}
+
+/// Returns the cells of a line.
+pub(crate) fn cells_of(alloc: Global, name: &str, spent: &Spent) -> Result<Cells, AllocError> {
+    let Spent { count, failed, .. } = *spent;
+    let name = Shown(name);
+    Ok([
+        format!(in alloc; "{name}")?,
+        format!(in alloc; "{count}")?,
+        format!(in alloc; "{failed}")?,
+        time_cell(alloc, spent, spent.total)?,
+        time_cell(alloc, spent, spent.median)?,
+        time_cell(alloc, spent, spent.longest)?,
+    ])
+}
+
+/// Returns the remark on jobs whose times are not known, if there are any.
+pub(crate) fn remark_of(alloc: Global, all: &Spent) -> Result<Option<String>, AllocError> {
+    let count = all.count;
+    let untimed = count.saturating_sub(all.timed);
+    if untimed == 0 {
+        return Ok(None);
+    }
+    let remark = format!(in alloc; "The journal has no times of {untimed} of {count} jobs.")?;
+    Ok(Some(remark))
+}
+
+/// Returns the widths of the columns, in characters.
+fn widths_of(lines: &[Cells]) -> [usize; 6] {
+    let mut widths = HEADS.map(|head| head.len());
+    for cells in lines {
+        for (width, cell) in widths.iter_mut().zip(cells.iter()) {
+            *width = (*width).max(cell.as_str().chars().count());
+        }
+    }
+    widths
+}
+
+/// Appends blanks up to a width.
+fn push_blanks(text: &mut String, width: usize, cell: &str) -> Result<(), AllocError> {
+    for _ in cell.chars().count()..width {
+        text.push(' ')?;
+    }
+    Ok(())
+}
+
+/// Appends a line: the name to the left of its column, and the numbers to the right of theirs.
+fn push_line<'a>(
+    text: &mut String,
+    widths: &[usize; 6],
+    cells: impl Iterator<Item = &'a str>,
+) -> Result<(), AllocError> {
+    for (at, (cell, width)) in cells.zip(widths.iter()).enumerate() {
+        if at == 0 {
+            text.push_str(cell)?;
+            push_blanks(text, *width, cell)?;
+        } else {
+            text.push_str("  ")?;
+            push_blanks(text, *width, cell)?;
+            text.push_str(cell)?;
+        }
+    }
+    text.push('\n')
+}
+
+/// Returns the table of tasks as text: a head, a line for each task, the line of all jobs, and a
+/// remark where times are not known.
+pub(crate) fn table_text(
+    alloc: Global,
+    groups: &[Group<'_>],
+    all: &Spent,
+) -> Result<String, AllocError> {
+    let mut lines = Vec::new(alloc);
+    for group in groups {
+        lines.push(cells_of(alloc, group.task, &group.spent)?)?;
+    }
+    lines.push(cells_of(alloc, "total", all)?)?;
+    let widths = widths_of(lines.as_slice());
+    let mut text = String::new(alloc);
+    push_line(&mut text, &widths, HEADS.iter().copied())?;
+    for cells in &lines {
+        push_line(&mut text, &widths, cells.iter().map(String::as_str))?;
+    }
+    if let Some(remark) = remark_of(alloc, all)? {
+        text.push_str(remark.as_str())?;
+        text.push('\n')?;
+    }
+    Ok(text)
+}
