@@ -6,6 +6,8 @@ use thiserror::Error;
 /// Why a journal cannot be read.
 #[derive(Clone, Copy, Debug, PartialEq, Eq, Error)]
 pub(crate) enum ReadFault {
+    #[error("there is no such file")]
+    Missing,
     /// The system refuses it.
     #[error("{0}")]
     System(ErrorKind),
@@ -27,6 +29,8 @@ pub(crate) enum ReadFault {
 /// Why a page cannot be written.
 #[derive(Clone, Copy, Debug, PartialEq, Eq, Error)]
 pub(crate) enum WriteFault {
+    #[error("there is no such folder")]
+    NoFolder,
     /// The system refuses it.
     #[error("{0}")]
     System(ErrorKind),
@@ -44,6 +48,7 @@ impl From<io::Error> for ReadFault {
     fn from(e: io::Error) -> ReadFault {
         match e.kind() {
             ErrorKind::OutOfMemory => ReadFault::NoMemory,
+            ErrorKind::NotFound => ReadFault::Missing,
             kind => ReadFault::System(kind),
         }
     }
@@ -84,6 +89,7 @@ impl From<io::Error> for WriteFault {
     fn from(e: io::Error) -> WriteFault {
         match e.kind() {
             ErrorKind::OutOfMemory => WriteFault::NoMemory,
+            ErrorKind::NotFound => WriteFault::NoFolder,
             kind => WriteFault::System(kind),
         }
     }

@@ -19,7 +19,12 @@ const ROW: &str = "<tr><td>say</td><td>2</td><td class=\"bad\">1</td><td>0:00:20
 fn make_page(rt: &HostRuntime) -> Result<String, Want> {
     let lines = [
         ("say", 0, 0, Some((1_000_000_000.0, 1_000_000_010.0))),
-        ("a<b>&\"'/say", 1, 9, Some((1_000_000_010.0, 1_000_000_020.0))),
+        (
+            "a<b>&\"'/say",
+            1,
+            9,
+            Some((1_000_000_010.0, 1_000_000_020.0)),
+        ),
     ];
     make(rt, "pages/j", true, &lines)?;
     if run(rt, "--html pages/p pages/j")?.status != 0 {

@@ -69,7 +69,11 @@ fn what_is_no_journal_is_named(rt: HostRuntime) -> Result<(), Fail> {
     make_dir(&rt, "others")?;
     fs::write(&rt, "others/text", "a text of some length")?;
     for (arguments, status, line) in [
-        ("others/none", 5, "cannot read others/none: entity not found\n"),
+        (
+            "others/none",
+            5,
+            "cannot read others/none: there is no such file\n",
+        ),
         ("others", 5, "cannot read others: it is no file\n"),
         (
             "others/text",
