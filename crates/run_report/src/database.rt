@@ -61,7 +61,8 @@ fn files_of(rt: &HostRuntime, path: &str) -> Result<Files<Memory>, ReadFault> {
     lock(&file)?;
     // The log lies where a link leads.
     let real = fs::canonicalize(rt, path)?;
-    if beside(rt, real.as_str(), "-journal")?.first().is_some_and(|byte| *byte != 0) {
+    let rollback = beside(rt, real.as_str(), "-journal")?;
+    if rollback.first().is_some_and(|byte| *byte != 0) {
         return Err(ReadFault::HalfWritten);
     }
     let mut bytes = Vec::new(rt.alloc());

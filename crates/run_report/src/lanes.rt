@@ -1,4 +1,4 @@
-use crate::job::Times;
+use crate::job::{Job, Times};
 use std::alloc::{AllocError, Global};
 
 /// The lanes of bars that stand below each other where they overlap in time.
@@ -12,14 +12,11 @@ pub(crate) struct Lanes {
 
 /// Gives each bar the first lane that is free when it begins. The bars are in the order in which they
 /// begin.
-pub(crate) fn lanes_of(
-    alloc: Global,
-    bars: impl Iterator<Item = Times>,
-) -> Result<Lanes, AllocError> {
+pub(crate) fn lanes_of(alloc: Global, bars: &[(&Job, Times)]) -> Result<Lanes, AllocError> {
     let mut lane_of = Vec::new(alloc);
     // When the last bar of each lane ends.
     let mut ends: Vec<u64> = Vec::new(alloc);
-    for bar in bars {
+    for (_, bar) in bars {
         let free = ends.iter().position(|end| *end <= bar.begun);
         let lane = free.unwrap_or(ends.len());
         match ends.get_mut(lane) {

@@ -10,6 +10,7 @@ use crate::spent::{Spent, spent_of};
 use crate::table::table_text;
 use note_text::Note;
 use std::alloc::{AllocError, Global};
+use std::io;
 use std::io::Write;
 use std::rt::HostRuntime;
 use wdl_base::NoMemory;
@@ -122,9 +123,14 @@ fn write_html<'a>(
     }
 }
 
+fn send<O: Write>(out: &mut O, text: &str) -> io::Result<()> {
+    out.write_all(text.as_bytes())?;
+    out.flush()
+}
+
 /// Writes a text to standard output.
 fn write_out<O: Write>(out: &mut O, text: &str) -> Result<(), Stop<'static>> {
-    match out.write_all(text.as_bytes()).and_then(|()| out.flush()) {
+    match send(out, text) {
         Ok(()) => Ok(()),
         Err(e) => Err(Stop::Write("standard output", WriteFault::from(e))),
     }

@@ -13,7 +13,7 @@ td.bad { color: #b0200c; font-weight: 600; }
 .name { position: sticky; left: 0; width: max-content; margin: 0.4em 0 0.1em; font-size: 0.9em; }
 svg { display: block; }
 .key { display: inline-block; vertical-align: -1px; }
-rect { fill: #3b78b0; }
+rect { fill: #3b78b0; stroke: #fff; stroke-width: 0.5px; }
 rect.bad { fill: #d9480f; }
 rect:hover { fill: #111; }
 line { stroke: #e4e4e4; }

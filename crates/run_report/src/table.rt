@@ -44,9 +44,22 @@ pub(crate) fn remark_of(alloc: Global, all: &Spent) -> Result<Option<String>, Al
     Ok(Some(remark))
 }
 
+/// Returns the head of the columns as a line.
+fn heads(alloc: Global) -> Result<Cells, AllocError> {
+    let [task, count, failed, total, median, longest] = HEADS;
+    Ok([
+        String::from_str(alloc, task)?,
+        String::from_str(alloc, count)?,
+        String::from_str(alloc, failed)?,
+        String::from_str(alloc, total)?,
+        String::from_str(alloc, median)?,
+        String::from_str(alloc, longest)?,
+    ])
+}
+
 /// Returns the widths of the columns, in characters.
 fn widths_of(lines: &[Cells]) -> [usize; 6] {
-    let mut widths = HEADS.map(|head| head.len());
+    let mut widths = [0; 6];
     for cells in lines {
         for (width, cell) in widths.iter_mut().zip(cells.iter()) {
             *width = (*width).max(cell.as_str().chars().count());
@@ -64,12 +77,9 @@ fn push_blanks(text: &mut String, width: usize, cell: &str) -> Result<(), AllocE
 }
 
 /// Appends a line: the name to the left of its column, and the numbers to the right of theirs.
-fn push_line<'a>(
-    text: &mut String,
-    widths: &[usize; 6],
-    cells: impl Iterator<Item = &'a str>,
-) -> Result<(), AllocError> {
-    for (at, (cell, width)) in cells.zip(widths.iter()).enumerate() {
+fn push_line(text: &mut String, widths: &[usize; 6], cells: &Cells) -> Result<(), AllocError> {
+    for (at, (cell, width)) in cells.iter().zip(widths.iter()).enumerate() {
+        let cell = cell.as_str();
         if at == 0 {
             text.push_str(cell)?;
             push_blanks(text, *width, cell)?;
@@ -79,7 +89,8 @@ fn push_line<'a>(
             text.push_str(cell)?;
         }
     }
-    text.push('\n')
+    text.push('\n')?;
+    Ok(())
 }
 
 /// Returns the table of tasks as text: a head, a line for each task, the line of all jobs, and a
@@ -90,17 +101,26 @@ pub(crate) fn table_text(
     all: &Spent,
 ) -> Result<String, AllocError> {
     let mut lines = Vec::new(alloc);
+    lines.push(heads(alloc)?)?;
     for group in groups {
         lines.push(cells_of(alloc, group.task, &group.spent)?)?;
     }
     lines.push(cells_of(alloc, "total", all)?)?;
-    let widths = widths_of(lines.as_slice());
+    table_of(alloc, lines.as_slice(), remark_of(alloc, all)?)
+}
+
+/// Returns lines as text, in columns, with a remark behind them.
+fn table_of(
+    alloc: Global,
+    lines: &[Cells],
+    remark: Option<String>,
+) -> Result<String, AllocError> {
+    let widths = widths_of(lines);
     let mut text = String::new(alloc);
-    push_line(&mut text, &widths, HEADS.iter().copied())?;
-    for cells in &lines {
-        push_line(&mut text, &widths, cells.iter().map(String::as_str))?;
+    for cells in lines {
+        push_line(&mut text, &widths, cells)?;
     }
-    if let Some(remark) = remark_of(alloc, all)? {
+    if let Some(remark) = remark {
         text.push_str(remark.as_str())?;
         text.push('\n')?;
     }

@@ -59,7 +59,7 @@ fn band_of<'a>(alloc: Global, group: &Group<'a>) -> Result<Band<'a>, AllocError>
             bars.push((*job, times))?;
         }
     }
-    let lanes = lanes_of(alloc, bars.iter().map(|bar| bar.1))?;
+    let lanes = lanes_of(alloc, bars.as_slice())?;
     Ok(Band {
         task: group.task,
         bars,
@@ -139,7 +139,7 @@ fn push_lines(
         let line = format!(in alloc; "<line x1=\"{at}\" x2=\"{at}\" y1=\"0\" y2=\"{height}\"/>")?;
         page.push_str(line.as_str())?;
     }
-    page.push('\n')
+    page.push_str("\n")
 }
 
 /// Appends the times at the marks of the axis.

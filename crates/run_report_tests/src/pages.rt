@@ -43,13 +43,17 @@ fn a_page_has_the_table_and_a_bar_for_each_job(rt: HostRuntime) -> Result<(), Fa
     Ok(fs::remove_dir_all(&rt, "pages")?)
 }
 
-/// Whether a page is written where that text stands.
+/// Whether a page is written where that text stands. It is not where the status is 6.
 fn overwrites(rt: &HostRuntime, text: &str, force: &str) -> Result<bool, Want> {
     fs::write(rt, "files/p", text)?;
     let arguments = format!(in rt.alloc(); "--html files/p {force}files/j")?;
     let status = run(rt, arguments.as_str())?.status;
-    let is_changed = fs::read(rt, "files/p")? != text.as_bytes();
-    Ok(status == if is_changed { 0 } else { 6 } && is_changed)
+    let stays = fs::read(rt, "files/p")?.as_slice() == text.as_bytes();
+    match (status, stays) {
+        (0, false) => Ok(true),
+        (6, true) => Ok(false),
+        _ => Err(Want),
+    }
 }
 
 #[test]

@@ -43,7 +43,7 @@ fn shows(rt: &HostRuntime, path: &str, table: &str) -> Result<bool, Want> {
     let before = fs::read(rt, path)?;
     let given = run(rt, path)?;
     let is_same = fs::read(rt, path)?.as_slice() == before.as_slice();
-    Ok(is_same && given.status == 0 && given.err.is_empty() && given.out == table.as_bytes())
+    Ok(is_same && given.status == 0 && given.err.is_empty() && given.out.as_slice() == table.as_bytes())
 }
 
 #[test]
@@ -61,7 +61,7 @@ fn a_table_tells_what_each_task_took(rt: HostRuntime) -> Result<(), Fail> {
 /// Whether a call ends with a status, writes nothing but a line, and the line has that text.
 fn refuses(rt: &HostRuntime, arguments: &str, status: u8, line: &str) -> Result<bool, Want> {
     let given = run(rt, arguments)?;
-    Ok(given.status == status && given.out.is_empty() && given.err == line.as_bytes())
+    Ok(given.status == status && given.out.is_empty() && given.err.as_slice() == line.as_bytes())
 }
 
 #[test]

@@ -1,4 +1,5 @@
-//! The program `wdl`: it makes the real objects and calls `workflow`, which does the rest.
+//! The program `wdl`: it makes the real objects and calls `workflow`, which does the rest, but for the
+//! command `report`.
 #![tactic(auto)]
 
 ghost use Rattle.std.specs.Prelude.{◌≡◌, ◌<◌, None};
@@ -15,6 +16,7 @@ use job_launcher::{Launching, Notes, ShellLauncher};
 use keeper_sql::SqlKeeper;
 use report_text::{Status, no_memory_line, number_of};
 use run_notes::RunNotes;
+use run_report::{is_report, report};
 use run_watch::Watch;
 use std::alloc::Global;
 use std::marker::Brand;
@@ -85,6 +87,10 @@ fn main(rt: HostRuntime) -> ExitCode {
         words,
         notes: asked,
     } = words;
+    if is_report(words.as_slice()) {
+        let number = report(&rt, words.as_slice(), &mut rt.stdout(), &mut rt.stderr());
+        return ExitCode::from(number);
+    }
     let stream = rt.stderr();
     let is_read = shows_notes(&rt, &stream, asked);
     let files = RecallingShelf::new(alloc, FileShelf::new(&rt), runner_of(&shell));
