@@ -17,7 +17,7 @@ const REMOVE: &str = "DELETE FROM times WHERE place = ?1 AND attempt = ?2";
 const FIRST: &str = ".wdl-job";
 
 /// When a job began and ended, in seconds since 1970.
-#[derive(Clone, Copy, Debug)]
+#[derive(Clone, Copy)]
 struct Times {
     begun: f64,
     ended: f64,

@@ -82,9 +82,6 @@ pub(crate) fn open_copy(rt: &HostRuntime, path: &str) -> Result<Copied, ReadFaul
     }
     match Connection::open_files(rt.alloc(), files, Options::new(0)) {
         Ok(copy) => Ok(copy),
-        Err((error, left)) => {
-            drop(left);
-            Err(ReadFault::from(error))
-        }
+        Err((error, _)) => Err(ReadFault::from(error)),
     }
 }

@@ -4,7 +4,7 @@ use std::alloc::{AllocError, Global};
 use std::cmp::Reverse;
 
 /// The jobs of a task.
-#[derive(Debug, Drop)]
+#[derive(Drop)]
 pub(crate) struct Group<'a> {
     pub(crate) task: &'a str,
     /// In the order in which they began, and before them those without times.

@@ -2,7 +2,7 @@ use crate::job::{Job, Times};
 use std::alloc::{AllocError, Global};
 
 /// The lanes of bars that stand below each other where they overlap in time.
-#[derive(Debug, Drop)]
+#[derive(Drop)]
 pub(crate) struct Lanes {
     /// The number of the lane of each bar, from 0.
     pub(crate) lane_of: Vec<usize>,

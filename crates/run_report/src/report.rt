@@ -129,7 +129,7 @@ fn send<O: Write>(out: &mut O, text: &str) -> io::Result<()> {
 }
 
 /// Writes a text to standard output.
-fn write_out<O: Write>(out: &mut O, text: &str) -> Result<(), Stop<'static>> {
+fn write_out<'a, O: Write>(out: &mut O, text: &str) -> Result<(), Stop<'a>> {
     match send(out, text) {
         Ok(()) => Ok(()),
         Err(e) => Err(Stop::Write("standard output", WriteFault::from(e))),

@@ -21,7 +21,7 @@ const LEGEND: &str = "<h2>Timeline</h2>\n<p class=\"note\">\
 failed. Point at a bar to see its job.</p>\n";
 
 /// The bars of a task.
-#[derive(Debug, Drop)]
+#[derive(Drop)]
 struct Band<'a> {
     task: &'a str,
     /// The jobs with times, in the order in which they began.
