@@ -1,6 +1,4 @@
 //! The times of a job are kept with its row: they begin with the first file of its directory.
-ghost use Rattle.std.specs.Prelude.{◌≡◌, None, OnOk, IsSome};
-
 use crate::tests::TABLE;
 use crate::want::Want;
 use keeper_sql::{Database, SqlKeeper};
