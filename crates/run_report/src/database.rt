@@ -3,12 +3,11 @@ use os::RangeLock;
 use sqlite::{Connection, FileStore, Files, Options};
 use sqlite_disk::{Disk, Memory};
 use std::alloc::Global;
-use std::fs;
 use std::fs::File;
-use std::io;
 use std::io::{ErrorKind, Read};
 use std::os::fd::AsRawFd;
 use std::rt::HostRuntime;
+use std::{fs, io};
 
 /// Where SQLite locks a file: its pending, reserved and shared bytes.
 const LOCK_START: u64 = 1 << 30;

@@ -11,7 +11,8 @@ use std::alloc::{AllocError, Global};
 /// What each page begins with, and no other file.
 pub(crate) const MARK: &str = "<!DOCTYPE html>\n<!-- wdl report -->\n";
 
-const NOTE: &str = "<p class=\"note\">Each attempt of a job is counted, and has a bar. Failed means \
+const NOTE: &str =
+    "<p class=\"note\">Each attempt of a job is counted, and has a bar. Failed means \
 that the status is not 0, also where a task takes that status for a success. A task is named by the \
 last call of the place. A job ends when its row is written. Times are hours, minutes and \
 seconds.</p>\n";

@@ -11,8 +11,7 @@ use std::rt::HostRuntime;
 /// How many tables there are, or how many of a name.
 const TABLES: &str = "SELECT count(*) FROM sqlite_schema WHERE type = 'table'";
 
-const TABLES_OF: &str =
-    "SELECT count(*) FROM sqlite_schema WHERE type = 'table' AND name = ?1";
+const TABLES_OF: &str = "SELECT count(*) FROM sqlite_schema WHERE type = 'table' AND name = ?1";
 
 /// The rows in the order of the bytes of the place and then of the attempt.
 const ENTRIES: &str = "SELECT place, attempt, body FROM entry ORDER BY place, attempt";
@@ -47,10 +46,7 @@ fn job_in(alloc: Global, row: &Row) -> Result<Job, ReadFault> {
 }
 
 /// Returns the jobs of the rows that a query gives.
-fn jobs_in(
-    alloc: Global,
-    mut rows: Rows<'_, FileStore<Memory>>,
-) -> Result<Vec<Job>, ReadFault> {
+fn jobs_in(alloc: Global, mut rows: Rows<'_, FileStore<Memory>>) -> Result<Vec<Job>, ReadFault> {
     let mut jobs = Vec::new(alloc);
     for _ in 0..u64::MAX {
         let Some(row) = rows.next()? else {

@@ -110,11 +110,7 @@ pub(crate) fn table_text(
 }
 
 /// Returns lines as text, in columns, with a remark behind them.
-fn table_of(
-    alloc: Global,
-    lines: &[Cells],
-    remark: Option<String>,
-) -> Result<String, AllocError> {
+fn table_of(alloc: Global, lines: &[Cells], remark: Option<String>) -> Result<String, AllocError> {
     let widths = widths_of(lines);
     let mut text = String::new(alloc);
     for cells in lines {

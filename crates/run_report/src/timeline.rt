@@ -32,10 +32,7 @@ struct Band<'a> {
 impl Band<'_> {
     /// Returns how many bars a lane has, if all are as full.
     fn fullness(&self) -> usize {
-        self.bars
-            .len()
-            .checked_div(self.lanes.count)
-            .unwrap_or(0)
+        self.bars.len().checked_div(self.lanes.count).unwrap_or(0)
     }
 
     /// Returns what bands are ordered by: when the first job began.
