@@ -43,7 +43,12 @@ fn shows(rt: &HostRuntime, path: &str, table: &str) -> Result<bool, Want> {
     let before = fs::read(rt, path)?;
     let given = run(rt, path)?;
     let is_same = fs::read(rt, path)?.as_slice() == before.as_slice();
-    Ok(is_same && given.status == 0 && given.err.is_empty() && given.out.as_slice() == table.as_bytes())
+    Ok(
+        is_same
+            && given.status == 0
+            && given.err.is_empty()
+            && given.out.as_slice() == table.as_bytes(),
+    )
 }
 
 #[test]
