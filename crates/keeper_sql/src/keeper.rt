@@ -21,6 +21,9 @@ use wdl_value::{Entry, Text};
 /// the files that were there when a row was put. It does not tell its rows. A row that was put is on
 /// the disk with its stamps, and no other process can open the file until the keeper is dropped.
 ///
+/// For people it also has the table `times (place, attempt, begun, ended)`, which tells in seconds
+/// since 1970 when the job of a row began and ended. No run reads it.
+///
 /// It counts each refusal of the database for another cause than memory, and each row that is no
 /// row of a journal, is of another place or attempt than its body, or is out of order. A file that
 /// is no journal, or that another process has open, is such a fault; its tables are left as they

@@ -10,6 +10,7 @@ mod putting;
 mod reason;
 mod rows;
 mod stamps;
+mod times;
 mod trouble;
 
 pub use database::Database;

@@ -23,18 +23,29 @@ const STAMP: &str = "CREATE TABLE IF NOT EXISTS stamp (place TEXT NOT NULL, \
 const KEPT_STAMP: &str = "CREATE TABLE stamp (place TEXT NOT NULL, \
     attempt INTEGER NOT NULL, stamps TEXT NOT NULL, PRIMARY KEY (place, attempt)) STRICT";
 
+/// The table of the times at which jobs began and ended, which journals of earlier versions lack.
+const TIMES: &str = "CREATE TABLE IF NOT EXISTS times (place TEXT NOT NULL, \
+    attempt INTEGER NOT NULL, begun REAL NOT NULL, ended REAL NOT NULL, \
+    PRIMARY KEY (place, attempt)) STRICT";
+
+/// The same, as sqlite3 keeps it.
+const KEPT_TIMES: &str = "CREATE TABLE times (place TEXT NOT NULL, \
+    attempt INTEGER NOT NULL, begun REAL NOT NULL, ended REAL NOT NULL, \
+    PRIMARY KEY (place, attempt)) STRICT";
+
 /// How many objects the file has beside the tables of a journal, whose texts are the values, and
 /// their indexes.
 const FOREIGN: &str = "SELECT count(*) FROM sqlite_schema \
-    WHERE name NOT IN ('sqlite_autoindex_entry_1', 'sqlite_autoindex_stamp_1') \
-    AND coalesce(sql, '') NOT IN (?1, ?2, ?3, ?4)";
+    WHERE name NOT IN ('sqlite_autoindex_entry_1', 'sqlite_autoindex_stamp_1', \
+    'sqlite_autoindex_times_1') \
+    AND coalesce(sql, '') NOT IN (?1, ?2, ?3, ?4, ?5, ?6)";
 
 /// How many rows are of version 1.
 const OLD: &str = "SELECT count(*) FROM entry WHERE body LIKE '%\"v\":1}'";
 
 /// Refuses a file that holds anything but the tables of a journal.
 fn refuse_foreign(database: &mut Database) -> Result<(), Trouble> {
-    let foreign = params![ENTRY, KEPT_ENTRY, STAMP, KEPT_STAMP];
+    let foreign = params![ENTRY, KEPT_ENTRY, STAMP, KEPT_STAMP, TIMES, KEPT_TIMES];
     if database.number(FOREIGN, foreign)? == 0 {
         Ok(())
     } else {
@@ -56,6 +67,7 @@ fn prepare(alloc: Global, database: &mut Database) -> Result<(), Trouble> {
     refuse_foreign(database)?;
     database.execute(ENTRY, &[])?;
     database.execute(STAMP, &[])?;
+    database.execute(TIMES, &[])?;
     let rows = read(alloc, database)?;
     if database.number(OLD, &[])? > 0 {
         renew(alloc, database, rows.as_slice())?;

@@ -35,7 +35,7 @@ fn push_files(
 ) -> Result<(), Trouble> {
     for file in files {
         if !file.name.is(CUT_NAME) {
-            let path = path_below(alloc, dir, file.name.as_str())?;
+            let path = path_below(alloc, dir.as_str(), file.name.as_str())?;
             push_stamp(rt, alloc, path.as_str(), stamps)?;
         }
     }
@@ -50,7 +50,7 @@ fn push_streams(
     stamps: &mut String,
 ) -> Result<(), Trouble> {
     for name in STREAMS {
-        let path = path_below(alloc, dir, name)?;
+        let path = path_below(alloc, dir.as_str(), name)?;
         push_stamp(rt, alloc, path.as_str(), stamps)?;
     }
     Ok(())
@@ -73,8 +73,8 @@ fn push_inputs(
     Ok(())
 }
 
-fn path_below(alloc: Global, dir: &Text, name: &str) -> Result<String, Trouble> {
-    let dir = dir.as_str();
+/// Returns the path of a name below the directory of a job.
+pub(crate) fn path_below(alloc: Global, dir: &str, name: &str) -> Result<String, Trouble> {
     Ok(format!(in alloc; "{dir}/{name}")?)
 }
 
@@ -92,7 +92,7 @@ fn stamps_now(rt: &HostRuntime, alloc: Global, entry: &Entry) -> Result<String, 
 /// Whether each file of an answer is there.
 fn are_there(rt: &HostRuntime, alloc: Global, dir: &Text, files: &[Seen]) -> Result<bool, Trouble> {
     for file in files {
-        let path = path_below(alloc, dir, file.name.as_str())?;
+        let path = path_below(alloc, dir.as_str(), file.name.as_str())?;
         let found = stamp_of(rt, path.as_str());
         if !file.name.is(CUT_NAME) && !matches!(found, Stamp::File { .. }) {
             return Ok(false);

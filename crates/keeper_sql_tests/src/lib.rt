@@ -7,4 +7,6 @@ mod stamps;
 #[cfg(test)]
 mod tests;
 #[cfg(test)]
+mod times;
+#[cfg(test)]
 mod want;

@@ -1,4 +1,5 @@
-//! The program `wdl`: it makes the real objects and calls `workflow`, which does the rest.
+//! The program `wdl`: it makes the real objects and calls `workflow`, which does the rest, but for the
+//! command `report`.
 #![tactic(auto)]
 
 ghost use Rattle.std.specs.Prelude.{◌≡◌, ◌<◌, None};
@@ -15,6 +16,7 @@ use job_launcher::{Launching, Notes, ShellLauncher};
 use keeper_sql::{KeeperNotes, SqlKeeper};
 use report_text::{Status, no_memory_line, number_of};
 use run_notes::RunNotes;
+use run_report::{is_report, report};
 use run_watch::Watch;
 use settings_shelf::SettingsShelf;
 use std::alloc::Global;
@@ -83,6 +85,10 @@ fn main(rt: HostRuntime) -> ExitCode {
         let _ = err.write(no_memory_line().as_bytes());
         return ExitCode::from(number_of(&Status::NoMemory));
     };
+    if is_report(line.words()) {
+        let number = report(&rt, line.words(), &mut rt.stdout(), &mut rt.stderr());
+        return ExitCode::from(number);
+    }
     let asked = line.notes;
     let stream = rt.stderr();
     let is_read = shows_notes(&rt, &stream, asked);
