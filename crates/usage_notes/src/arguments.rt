@@ -21,6 +21,9 @@ struct Arguments<'a> {
     workers: Option<&'a str>,
     root: Option<&'a str>,
     journal: Option<&'a str>,
+    outputs: Option<&'a str>,
+    /// `--force`.
+    force: Option<&'a str>,
 }
 
 /// Whether a text is a number within limits, in decimal digits alone.
@@ -43,9 +46,10 @@ fn is_root(text: &str) -> bool {
 /// Whether an option takes a value.
 fn takes(setting: Setting, value: &str) -> bool {
     match setting {
-        Setting::Inputs | Setting::Journal => !value.is_empty(),
+        Setting::Inputs | Setting::Journal | Setting::Outputs => !value.is_empty(),
         Setting::Workers => is_number(value, 1, 64),
         Setting::Root => is_root(value),
+        Setting::Force => false,
     }
 }
 
@@ -73,6 +77,8 @@ impl<'a> Arguments<'a> {
             workers: None,
             root: None,
             journal: None,
+            outputs: None,
+            force: None,
         }
     }
 
@@ -83,6 +89,8 @@ impl<'a> Arguments<'a> {
             Setting::Workers => self.workers.replace(value),
             Setting::Root => self.root.replace(value),
             Setting::Journal => self.journal.replace(value),
+            Setting::Outputs => self.outputs.replace(value),
+            Setting::Force => self.force.replace(value),
         }
     }
 
@@ -98,10 +106,24 @@ impl<'a> Arguments<'a> {
         }
     }
 
+    /// Reads `--force`, which takes no value.
+    fn force(&mut self, word: &'a str) -> Option<Slip<'a>> {
+        if let Some((_, value)) = word.split_once('=') {
+            return Some(Slip::BadValue(Setting::Force, value));
+        }
+        match self.replace(Setting::Force, word) {
+            Some(_) => Some(Slip::Repeated(Setting::Force)),
+            None => None,
+        }
+    }
+
     /// Reads an option with a long name.
     fn setting(&mut self, word: &'a str, setting: Setting) -> Option<Slip<'a>> {
         if !setting.is_of(self.command) {
             return Some(Slip::OtherOption(setting));
+        }
+        if setting == Setting::Force {
+            return self.force(word);
         }
         match word.split_once('=') {
             Some((_, value)) => self.value(setting, value),
@@ -185,6 +207,9 @@ impl<'a> Arguments<'a> {
     fn end(&self) -> Slip<'a> {
         if let Some(setting) = self.waiting {
             return Slip::NoValue(setting, None);
+        }
+        if self.force.is_some() && self.outputs.is_none() {
+            return Slip::ForceAlone;
         }
         match (self.operand, self.command) {
             (None, Command::Load) => Slip::NoNumber,

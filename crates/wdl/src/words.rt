@@ -1,4 +1,5 @@
 //! The words of the command line.
+use output_files::other_arguments;
 use std::env;
 use std::env::Env;
 use std::io::ErrorKind;
@@ -8,6 +9,8 @@ use wdl_value::NoMemory;
 #[derive(Drop)]
 pub(crate) struct CommandLine {
     /// All but `--notes`.
+    pub given: Vec<String>,
+    /// Those without `--outputs` and `--force`, where a folder is named as it should be.
     pub words: Vec<String>,
     /// Whether notes are asked for, by `--notes` in front of any `--`.
     pub notes: bool,
@@ -15,7 +18,7 @@ pub(crate) struct CommandLine {
 
 /// Returns the words. Where they are no text there are none, which has no reading.
 pub(crate) fn words<R: Env + AllocGlobal>(rt: &R) -> Result<CommandLine, NoMemory> {
-    let mut words = Vec::new(rt.alloc());
+    let mut given = Vec::new(rt.alloc());
     let mut notes = false;
     let mut plain = false;
     match env::args(rt) {
@@ -25,12 +28,17 @@ pub(crate) fn words<R: Env + AllocGlobal>(rt: &R) -> Result<CommandLine, NoMemor
                 if word.as_str() == "--notes" && !plain {
                     notes = true;
                 } else {
-                    words.push(word)?;
+                    given.push(word)?;
                 }
             }
         }
         Err(e) if e.kind() == ErrorKind::OutOfMemory => return Err(NoMemory),
         Err(_) => {}
     }
-    Ok(CommandLine { words, notes })
+    let words = other_arguments(rt.alloc(), given.as_slice())?;
+    Ok(CommandLine {
+        given,
+        words,
+        notes,
+    })
 }
