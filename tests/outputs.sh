@@ -219,7 +219,7 @@ fi
 echo "a run that is killed while it publishes"
 cat >many.wdl <<'END'
 version 1.1
-task t { input { Int i } command <<< head -c 1000000 /dev/zero | tr '\0' '~{i % 10}' >file >>> output { File file = "file" } }
+task t { input { Int i } command <<< head -c 400000 /dev/zero | tr '\0' '~{i % 10}' >file >>> output { File file = "file" } }
 workflow w { scatter (i in range(24)) { call t { input: i } } output { Array[File] files = t.file } }
 END
 set -- run --root "$work_path/many" --journal many.db many.wdl
@@ -249,6 +249,7 @@ for round in 1 2 3 4 5 6; do
   same "round $round: with --force it goes on" "0 24" "$? $(ls "$target/w.files" | grep -c .)"
   same "round $round: all files are whole" yes "$(whole "$target")"
   same "round $round: the last output" "\"$target/w.files/23-file\"]}" "$(sed 's/.*,//' out)"
+  rm -rf "$target"
 done
 [ "$killed" -gt 0 ] && pass || fail "no run was killed"
 

@@ -1,9 +1,7 @@
 //! The arguments of `run` that say where the files of the outputs go.
 
+use std::alloc::Global;
 use wdl_base::NoMemory;
-
-/// The option that names the folder.
-const OUTPUTS: &str = "--outputs";
 
 /// Where the files of the outputs go.
 #[derive(Clone, Copy, Debug, PartialEq, Eq)]
@@ -52,11 +50,11 @@ fn asks_page(word: &str) -> bool {
 
 /// Returns the value that stands in one argument with the option.
 fn value_in(word: &str) -> Option<&str> {
-    word.strip_prefix(OUTPUTS)?.strip_prefix('=')
+    word.strip_prefix("--outputs=")
 }
 
 impl<'a> Reader<'a> {
-    const fn new() -> Reader<'a> {
+    fn new() -> Reader<'a> {
         Reader {
             next: Next::Any,
             plain: false,
@@ -94,7 +92,7 @@ impl<'a> Reader<'a> {
             return true;
         }
         match word {
-            OUTPUTS => self.next = Next::Folder,
+            "--outputs" => self.next = Next::Folder,
             "--force" => self.force(),
             _ => {
                 self.plain = word == "--";
@@ -150,24 +148,22 @@ fn push_others(words: &[String], others: &mut Vec<String>) -> Result<(), NoMemor
 
 /// Returns the arguments without those about the folder. Where there is no choice of one, it returns
 /// all of them, of which those about a folder are not valid.
-pub fn other_arguments(
-    alloc: std::alloc::Global,
-    words: &[String],
-) -> Result<Vec<String>, NoMemory> {
+pub fn other_arguments(alloc: Global, words: &[String]) -> Result<Vec<String>, NoMemory> {
     let mut others = Vec::new(alloc);
-    let (kept, rest) = match (choice_of(words), words) {
-        (Some(_), [first, rest @ ..]) => (first, rest),
-        _ => return copies(alloc, words),
-    };
-    others.push(kept.clone()?)?;
-    push_others(rest, &mut others)?;
+    match (choice_of(words), words) {
+        (Some(_), [first, rest @ ..]) => {
+            others.push(first.clone()?)?;
+            push_others(rest, &mut others)?;
+        }
+        _ => push_all(words, &mut others)?,
+    }
     Ok(others)
 }
 
-fn copies(alloc: std::alloc::Global, words: &[String]) -> Result<Vec<String>, NoMemory> {
-    let mut all = Vec::new(alloc);
+/// Appends all of the arguments.
+fn push_all(words: &[String], others: &mut Vec<String>) -> Result<(), NoMemory> {
     for word in words {
-        all.push(word.clone()?)?;
+        others.push(word.clone()?)?;
     }
-    Ok(all)
+    Ok(())
 }

@@ -66,6 +66,52 @@ fn base_name(path: &str) -> &str {
     }
 }
 
+/// Returns the folder of a step below another one.
+fn below(alloc: Global, folder: &str, step: &str) -> Result<String, NoMemory> {
+    Ok(format!(in alloc; "{folder}/{step}")?)
+}
+
+/// The folders for the key and the value of a row.
+#[derive(Drop)]
+struct RowFolders {
+    key: String,
+    value: String,
+}
+
+/// Returns the folders for a row whose key is a file: `key` and `value` in one of the row's number.
+fn numbered(alloc: Global, folder: &str, row: usize) -> Result<RowFolders, NoMemory> {
+    Ok(RowFolders {
+        key: format!(in alloc; "{folder}/{row}/key")?,
+        value: format!(in alloc; "{folder}/{row}/value")?,
+    })
+}
+
+/// Returns the folders for the row of a key. A key that is no file needs none.
+fn row_folders(
+    alloc: Global,
+    folder: &str,
+    key: &Value,
+    row: usize,
+) -> Result<RowFolders, NoMemory> {
+    if let Value::File(_) = key {
+        return numbered(alloc, folder, row);
+    }
+    let text = text_of(alloc, key)?;
+    let step = key_folder(alloc, text.as_str(), row)?;
+    Ok(RowFolders {
+        key: String::new(alloc),
+        value: below(alloc, folder, step.as_str())?,
+    })
+}
+
+/// Returns a pair of values.
+fn pair_of(alloc: Global, left: Value, right: Value) -> Result<Value, NoMemory> {
+    Ok(Value::Pair(
+        Boxed::new(alloc, left)?,
+        Boxed::new(alloc, right)?,
+    ))
+}
+
 /// The files that have their paths.
 #[derive(Drop)]
 struct Planner {
@@ -79,10 +125,8 @@ impl Planner {
         let path = spot.path(self.alloc, base_name(source.as_str()))?;
         let target = Text::new(self.alloc, path.as_str())?;
         let value = Value::File(target.copy(self.alloc)?);
-        self.files.push(OutputFile {
-            source: source.copy(self.alloc)?,
-            target,
-        })?;
+        let source = source.copy(self.alloc)?;
+        self.files.push(OutputFile { source, target })?;
         Ok(value)
     }
 
@@ -95,7 +139,14 @@ impl Planner {
             }
             Value::File(source) => self.file(source, spot),
             Value::List(items) => self.list(items.as_slice(), spot),
-            Value::Pair(left, right) => self.pair(left.get(), right.get(), spot),
+            Value::Pair(left, right) => {
+                let folder = spot.inside(self.alloc)?;
+                let left_folder = below(self.alloc, folder.as_str(), "left")?;
+                let right_folder = below(self.alloc, folder.as_str(), "right")?;
+                let left = self.value(left.get(), Spot::of(left_folder.as_str()))?;
+                let right = self.value(right.get(), Spot::of(right_folder.as_str()))?;
+                Ok(pair_of(self.alloc, left, right)?)
+            }
             Value::Map(rows) => self.map(rows.as_slice(), spot),
             Value::Struct { name, fields } => self.fields(name, fields.as_slice(), spot),
         }
@@ -105,71 +156,25 @@ impl Planner {
     fn list(&mut self, items: &[Value], spot: Spot<'_>) -> Result<Value, PublishFault> {
         let folder = spot.inside(self.alloc)?;
         let mut planned = Items::new(self.alloc);
-        for (index, item) in items.iter().enumerate() {
+        for item in items {
             let spot = Spot {
                 folder: folder.as_str(),
-                index: Some(index),
+                index: Some(planned.len()),
             };
             planned.push(self.value(item, spot)?)?;
         }
         Ok(Value::List(planned))
     }
 
-    /// Plans a value in the folder of a step below another folder.
-    #[cycle(planning)]
-    fn below(&mut self, value: &Value, folder: &str, step: &str) -> Result<Value, PublishFault> {
-        let folder = format!(in self.alloc; "{folder}/{step}")?;
-        self.value(value, Spot::of(folder.as_str()))
-    }
-
-    #[cycle(planning)]
-    fn pair(&mut self, left: &Value, right: &Value, spot: Spot<'_>) -> Result<Value, PublishFault> {
-        let folder = spot.inside(self.alloc)?;
-        let left = self.below(left, folder.as_str(), "left")?;
-        let right = self.below(right, folder.as_str(), "right")?;
-        Ok(Value::Pair(
-            Boxed::new(self.alloc, left)?,
-            Boxed::new(self.alloc, right)?,
-        ))
-    }
-
-    /// Plans a row whose key is a file: in a folder of the row's number stand `key` and `value`.
-    #[cycle(planning)]
-    fn numbered_row(
-        &mut self,
-        row: &MapRow<Value>,
-        folder: &str,
-        number: usize,
-    ) -> Result<MapRow<Value>, PublishFault> {
-        let folder = format!(in self.alloc; "{folder}/{number}")?;
-        let key = self.below(&row.key, folder.as_str(), "key")?;
-        let value = self.below(&row.value, folder.as_str(), "value")?;
-        Ok(MapRow { key, value })
-    }
-
-    #[cycle(planning)]
-    fn row(
-        &mut self,
-        row: &MapRow<Value>,
-        folder: &str,
-        number: usize,
-    ) -> Result<MapRow<Value>, PublishFault> {
-        if let Value::File(_) = &row.key {
-            return self.numbered_row(row, folder, number);
-        }
-        let text = text_of(self.alloc, &row.key)?;
-        let step = key_folder(self.alloc, text.as_str(), number)?;
-        let key = row.key.copy(self.alloc)?;
-        let value = self.below(&row.value, folder, step.as_str())?;
-        Ok(MapRow { key, value })
-    }
-
     #[cycle(planning)]
     fn map(&mut self, rows: &[MapRow<Value>], spot: Spot<'_>) -> Result<Value, PublishFault> {
         let folder = spot.inside(self.alloc)?;
         let mut planned = Items::new(self.alloc);
-        for (number, row) in rows.iter().enumerate() {
-            planned.push(self.row(row, folder.as_str(), number)?)?;
+        for row in rows {
+            let folders = row_folders(self.alloc, folder.as_str(), &row.key, planned.len())?;
+            let key = self.value(&row.key, Spot::of(folders.key.as_str()))?;
+            let value = self.value(&row.value, Spot::of(folders.value.as_str()))?;
+            planned.push(MapRow { key, value })?;
         }
         Ok(Value::Map(planned))
     }
@@ -184,7 +189,8 @@ impl Planner {
         let folder = spot.inside(self.alloc)?;
         let mut planned = Items::new(self.alloc);
         for field in fields {
-            let value = self.below(&field.value, folder.as_str(), field.name.as_str())?;
+            let step = below(self.alloc, folder.as_str(), field.name.as_str())?;
+            let value = self.value(&field.value, Spot::of(step.as_str()))?;
             let name = field.name.copy(self.alloc)?;
             planned.push(Field { name, value })?;
         }

@@ -14,7 +14,8 @@ fn words_of(alloc: Global, line: &str) -> Result<Vec<String>, Fail> {
 /// The other arguments, and behind a bar the folder, with `!` where files may be replaced.
 fn told(alloc: Global, line: &str) -> Result<String, Fail> {
     let words = words_of(alloc, line)?;
-    let mut told = other_arguments(alloc, words.as_slice())?.join(alloc, " ")?;
+    let others = other_arguments(alloc, words.as_slice())?;
+    let mut told = others.as_slice().join(alloc, " ")?;
     if let Some(choice) = choice_of(words.as_slice()) {
         told.push('|')?;
         told.push_str(choice.folder)?;
@@ -36,6 +37,8 @@ fn takes_the_folder_out_of_the_arguments_of_run(rt: HostRuntime) -> Result<(), F
         ("run --outputs o -- --force", "run -- --force|o"),
         ("run --outputs=--force a.wdl", "run a.wdl|--force"),
         ("run --outputs=a=b a.wdl", "run a.wdl|a=b"),
+        // `run` refuses what is left.
+        ("run --outputs a --force=yes", "run --force=yes|a"),
     ] {
         assert_eq!(rt; told(rt.alloc(), line)?.as_str(), want, "{line}");
     }
@@ -53,7 +56,7 @@ fn leaves_arguments_that_are_not_valid(rt: HostRuntime) -> Result<(), Fail> {
         "run --outputs a --outputs b a.wdl",
         "run --outputs a --force --force a.wdl",
         "run --force a.wdl",
-        "run --force=yes --outputs a --force= a.wdl --force",
+        "run --force=yes a.wdl",
         "check --outputs a a.wdl",
         "--outputs a run a.wdl",
         "run --inputs --outputs a a.wdl",
@@ -62,14 +65,7 @@ fn leaves_arguments_that_are_not_valid(rt: HostRuntime) -> Result<(), Fail> {
         "run --outputs a -V",
         "run -- --outputs a",
     ] {
-        // The last argument but one of these is unknown to `run`, which refuses it.
-        let want = match line {
-            "run --force=yes --outputs a --force= a.wdl --force" => {
-                "run --force=yes --force= a.wdl|a!"
-            }
-            _ => line,
-        };
-        assert_eq!(rt; told(rt.alloc(), line)?.as_str(), want, "{line}");
+        assert_eq!(rt; told(rt.alloc(), line)?.as_str(), line);
     }
     Ok(())
 }

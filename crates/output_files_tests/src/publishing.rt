@@ -81,7 +81,10 @@ fn overwrites_nothing_unless_it_may(rt: HostRuntime) -> Result<(), Fail> {
     fs::create_dir_all(&rt, "taken/out/w.b")?;
     fs::write(&rt, "taken/out/w.b/0-b", "mine")?;
     let published = publish(&rt, alloc, "taken/out", files.as_slice(), false);
-    assert_eq!(rt; told(alloc, &published)?.as_str(), "taken taken/out/w.b/0-b 0");
+    assert_eq!(rt;
+        told(alloc, &published)?.as_str(),
+        "taken taken/out/w.b/0-b 0"
+    );
     assert!(rt; !fs::exists(&rt, "taken/out/w.a")?);
     assert!(rt; fs::read_to_string(&rt, "taken/out/w.b/0-b")?.as_str() == "mine");
     for _ in 0..2 {
@@ -91,7 +94,10 @@ fn overwrites_nothing_unless_it_may(rt: HostRuntime) -> Result<(), Fail> {
         assert!(rt; !fs::exists(&rt, "taken/out/.wdl-part-0")?);
     }
     let published = publish(&rt, alloc, "taken/out", files.as_slice(), false);
-    assert_eq!(rt; told(alloc, &published)?.as_str(), "taken taken/out/w.a/a 1");
+    assert_eq!(rt;
+        told(alloc, &published)?.as_str(),
+        "taken taken/out/w.a/a 1"
+    );
     rt.remove_dir_all(alloc, "taken")?;
     Ok(())
 }
@@ -137,7 +143,8 @@ fn refuses_what_is_no_file_and_where_a_folder_is(rt: HostRuntime) -> Result<(), 
     assert_eq!(rt; told(alloc, &published)?.as_str(), "taken none/out/w.a/a 0");
     fs::write(&rt, "none/file", "")?;
     files.push(output_file(alloc, "none/job/a", "none/file/w.a/a")?)?;
-    let published = publish(&rt, alloc, "none/out", &files.as_slice()[1..], false);
+    let rest = files.as_slice().get(1..).ok_or("files")?;
+    let published = publish(&rt, alloc, "none/out", rest, false);
     assert_eq!(rt;
         told(alloc, &published)?.as_str(),
         "failed none/file/w.a/a not a directory"

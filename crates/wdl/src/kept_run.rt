@@ -85,7 +85,10 @@ impl<P: Watch> Watch for KeepingWatch<P> {
     fn end(&mut self, alloc: Global, core: &Core, root: &Text) {
         self.watch.end(alloc, core, root);
         if self.keeps {
-            self.kept = kept_of(alloc, core, root).ok().flatten();
+            self.kept = match kept_of(alloc, core, root) {
+                Ok(kept) => kept,
+                Err(_) => None,
+            };
         }
     }
 }
