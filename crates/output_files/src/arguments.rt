@@ -146,8 +146,8 @@ fn push_others(words: &[String], others: &mut Vec<String>) -> Result<(), NoMemor
     Ok(())
 }
 
-/// Returns the arguments without those about the folder. Where there is no choice of one, it returns
-/// all of them, of which those about a folder are not valid.
+/// Returns the arguments without those about the folder. Where there is no choice of one, it
+/// returns all of them, of which those about a folder are not valid.
 pub fn other_arguments(alloc: Global, words: &[String]) -> Result<Vec<String>, NoMemory> {
     let mut others = Vec::new(alloc);
     match (choice_of(words), words) {

@@ -57,6 +57,7 @@ fn push_advice(note: &mut Note, fault: &PublishFault, run: Run<'_>) -> Result<()
     note.push("; run the same command again with ")?;
     note.push(match fault {
         PublishFault::Taken { .. } => "`--force`, which replaces files, or with another folder",
+        PublishFault::Missing { .. } => "the file in its place, or without `--outputs`",
         _ => "another folder",
     })?;
     note.push(if run.has_journal {

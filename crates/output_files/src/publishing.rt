@@ -46,8 +46,8 @@ fn check_targets<R: Files>(
     }
 }
 
-/// Fails where an output is no regular file. Nothing else is opened: a named pipe would wait for its
-/// writer.
+/// Fails where an output is no regular file. Nothing else is opened: a named pipe would wait for
+/// its writer.
 fn check_sources<R: Files>(
     rt: &R,
     alloc: Global,
@@ -123,12 +123,12 @@ fn give_names<R: Files>(
     Ok(())
 }
 
-/// Links each file to the path that it gets below a folder, or copies it where links fail. The folder
-/// and those below it are made.
+/// Links each file to the path that it gets below a folder, or copies it where links fail. The
+/// folder and those below it are made.
 ///
-/// All paths are looked at before the first is made. Where something stands at one, nothing is done,
-/// unless `force`, which replaces files, and never a folder. The files are gathered in a hidden
-/// folder first, so a path has a whole file at each time.
+/// All paths are looked at before the first is made. Where something stands at one, nothing is
+/// done, unless `force`, which replaces files, and never a folder. The files are gathered in a
+/// hidden folder first, so a path has a whole file at each time.
 pub fn publish<R: Files + AllocGlobal>(
     rt: &R,
     alloc: Global,

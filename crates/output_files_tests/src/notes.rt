@@ -35,5 +35,11 @@ the run succeeded, and its files are below `/r`; run the same command again with
 runs all jobs, since it had no `--journal`
 "
     );
+    let missing = PublishFault::Missing {
+        path: String::from_str(alloc, "/gone")?,
+    };
+    let note = fault_note(alloc, &missing, run)?;
+    assert!(rt; note.as_str().starts_with("`--outputs`: `/gone`: no such file\n"));
+    assert!(rt; note.as_str().contains("again with the file in its place, or without `--outputs`: "));
     Ok(())
 }

@@ -128,9 +128,7 @@ pub(crate) fn setting_elsewhere(name: &str) -> Option<Setting> {
 /// Returns the names of the options of a command, without their dashes.
 pub(crate) fn names_of(command: Command) -> &'static [&'static str] {
     match command {
-        Command::Run => &[
-            "inputs", "workers", "root", "journal", "outputs", "force",
-        ],
+        Command::Run => &["inputs", "workers", "root", "journal", "outputs", "force"],
         Command::Cwl => &["inputs"],
         _ => &[],
     }

@@ -89,8 +89,8 @@ pub(crate) fn note_stream<R: Env + AllocGlobal, W: IsTerminal + Drop>(
     }
 }
 
-/// Returns the stream of what a command writes: the given one, or where it is held back one that takes
-/// everything and keeps nothing.
+/// Returns the stream of what a command writes: the given one, or where it is held back one that
+/// takes everything and keeps nothing.
 pub(crate) fn out_stream<W: Drop>(stream: W, is_held: bool) -> Either<W, io::Sink> {
     if is_held {
         Either::Right(io::sink())
