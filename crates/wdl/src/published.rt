@@ -14,9 +14,7 @@ use workflow_stages::{tell, write_all};
 
 /// Whether the arguments name a journal.
 fn names_journal(words: &[String]) -> bool {
-    words
-        .iter()
-        .any(|word| word.as_str() == "--journal" || word.starts_with("--journal="))
+    words.iter().any(|word| word.as_str() == "--journal" || word.starts_with("--journal="))
 }
 
 /// Publishes the files of a run's outputs, and returns these as JSON, with a newline.
