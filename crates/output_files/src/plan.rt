@@ -106,10 +106,7 @@ fn row_folders(
 
 /// Returns a pair of values.
 fn pair_of(alloc: Global, left: Value, right: Value) -> Result<Value, NoMemory> {
-    Ok(Value::Pair(
-        Boxed::new(alloc, left)?,
-        Boxed::new(alloc, right)?,
-    ))
+    Ok(Value::Pair(Boxed::new(alloc, left)?, Boxed::new(alloc, right)?))
 }
 
 /// The files that have their paths.
