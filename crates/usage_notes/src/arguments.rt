@@ -25,6 +25,9 @@ struct Arguments<'a, R> {
     workers: Option<&'a str>,
     root: Option<&'a str>,
     journal: Option<&'a str>,
+    outputs: Option<&'a str>,
+    /// `--force`.
+    force: Option<&'a str>,
 }
 
 /// Whether a text is a number within limits, in decimal digits alone.
@@ -47,11 +50,12 @@ fn is_root(text: &str) -> bool {
 /// Whether an option takes a value.
 fn takes<R: Files>(rt: &R, setting: Setting, value: &str) -> bool {
     match setting {
-        Setting::Inputs | Setting::Journal => !value.is_empty(),
+        Setting::Inputs | Setting::Journal | Setting::Outputs => !value.is_empty(),
         Setting::Input => is_setting(value),
         Setting::RelativeTo => is_folder(rt, value),
         Setting::Workers => is_number(value, 1, 64),
         Setting::Root => is_root(value),
+        Setting::Force => false,
     }
 }
 
@@ -81,6 +85,8 @@ impl<'a, R: Files> Arguments<'a, R> {
             workers: None,
             root: None,
             journal: None,
+            outputs: None,
+            force: None,
         }
     }
 
@@ -93,6 +99,8 @@ impl<'a, R: Files> Arguments<'a, R> {
             Setting::Workers => self.workers.replace(value),
             Setting::Root => self.root.replace(value),
             Setting::Journal => self.journal.replace(value),
+            Setting::Outputs => self.outputs.replace(value),
+            Setting::Force => self.force.replace(value),
         }
     }
 
@@ -108,10 +116,24 @@ impl<'a, R: Files> Arguments<'a, R> {
         }
     }
 
+    /// Reads `--force`, which takes no value.
+    fn force(&mut self, word: &'a str) -> Option<Slip<'a>> {
+        if let Some((_, value)) = word.split_once('=') {
+            return Some(Slip::BadValue(Setting::Force, value));
+        }
+        match self.replace(Setting::Force, word) {
+            Some(_) => Some(Slip::Repeated(Setting::Force)),
+            None => None,
+        }
+    }
+
     /// Reads an option with a long name.
     fn setting(&mut self, word: &'a str, setting: Setting) -> Option<Slip<'a>> {
         if !setting.is_of(self.command) {
             return Some(Slip::OtherOption(setting));
+        }
+        if setting == Setting::Force {
+            return self.force(word);
         }
         match word.split_once('=') {
             Some((_, value)) => self.value(setting, value),
@@ -195,6 +217,9 @@ impl<'a, R: Files> Arguments<'a, R> {
     fn end(&self) -> Slip<'a> {
         if let Some(setting) = self.waiting {
             return Slip::NoValue(setting, None);
+        }
+        if self.force.is_some() && self.outputs.is_none() {
+            return Slip::ForceAlone;
         }
         match (self.operand, self.command) {
             (None, Command::Load) => Slip::NoNumber,

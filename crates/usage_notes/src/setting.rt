@@ -5,7 +5,7 @@ use wdl_words::Command;
 /// The names of the commands, in the order of the help.
 pub(crate) const COMMANDS: &str = "run, check, inputs, cwl, bundle, explain, load, help, version";
 
-/// An option with a value.
+/// An option. All but `--force` have a value.
 #[derive(Clone, Copy, Debug, PartialEq, Eq)]
 pub(crate) enum Setting {
     Inputs,
@@ -14,6 +14,8 @@ pub(crate) enum Setting {
     Workers,
     Root,
     Journal,
+    Outputs,
+    Force,
 }
 
 /// Returns the name of a command.
@@ -75,6 +77,8 @@ impl Setting {
             Setting::Workers => "--workers",
             Setting::Root => "--root",
             Setting::Journal => "--journal",
+            Setting::Outputs => "--outputs",
+            Setting::Force => "--force",
         }
     }
 
@@ -84,7 +88,8 @@ impl Setting {
             Setting::Inputs | Setting::Journal => "a file",
             Setting::Input => "NAME=VALUE",
             Setting::Workers => "a number from 1 to 64",
-            Setting::Root | Setting::RelativeTo => "a folder",
+            Setting::Root | Setting::RelativeTo | Setting::Outputs => "a folder",
+            Setting::Force => "no value",
         }
     }
 
@@ -110,6 +115,8 @@ pub(crate) fn setting_named(name: &str) -> Option<Setting> {
         "workers" => Some(Setting::Workers),
         "root" => Some(Setting::Root),
         "journal" => Some(Setting::Journal),
+        "outputs" => Some(Setting::Outputs),
+        "force" => Some(Setting::Force),
         _ => None,
     }
 }
@@ -120,7 +127,9 @@ pub(crate) fn setting_elsewhere(name: &str) -> Option<Setting> {
         "i" | "json" => Some(Setting::Inputs),
         "w" | "j" | "n" | "t" | "p" | "c" => Some(Setting::Workers),
         "jobs" | "threads" | "cores" | "cpus" | "parallel" | "processes" => Some(Setting::Workers),
-        "r" | "d" | "o" | "dir" | "directory" | "workdir" | "output" | "out" => Some(Setting::Root),
+        "r" | "d" | "dir" | "directory" | "workdir" => Some(Setting::Root),
+        "o" | "output" | "out" | "outdir" | "output-dir" | "publish" => Some(Setting::Outputs),
+        "f" | "overwrite" | "replace" => Some(Setting::Force),
         "resume" | "restart" | "cache" | "db" | "database" => Some(Setting::Journal),
         _ => None,
     }
@@ -136,6 +145,8 @@ pub(crate) fn names_of(command: Command) -> &'static [&'static str] {
             "workers",
             "root",
             "journal",
+            "outputs",
+            "force",
         ],
         Command::Cwl => &["inputs", "input", "relative-to"],
         _ => &[],
@@ -145,7 +156,9 @@ pub(crate) fn names_of(command: Command) -> &'static [&'static str] {
 /// Returns the names of the options of a command as a list.
 pub(crate) fn options_of(command: Command) -> &'static str {
     match command {
-        Command::Run => "--inputs, --input, --relative-to, --workers, --root, --journal",
+        Command::Run => {
+            "--inputs, --input, --relative-to, --workers, --root, --journal, --outputs, --force"
+        }
         Command::Cwl => "--inputs, --input, --relative-to",
         _ => "",
     }

@@ -17,6 +17,8 @@ pub(crate) enum Slip<'a> {
     NoValue(Setting, Option<&'a str>),
     /// A value that the option does not take.
     BadValue(Setting, &'a str),
+    /// `--force` without `--outputs`.
+    ForceAlone,
     /// A number of calls that `load` does not take.
     BadNumber(&'a str),
     /// A document without a name.

@@ -166,6 +166,9 @@ pub(crate) fn push_slip(
         }
         Slip::NoValue(setting, found) => push_no_value(note, setting, found),
         Slip::BadValue(setting, value) => push_bad_value(note, setting, value),
+        Slip::ForceAlone => note.push(
+            "`--force`: expected with `--outputs DIR`, whose files it replaces",
+        ),
         Slip::BadNumber(found) => push_bad_number(note, found),
         Slip::EmptyName => {
             note.push_all(&[

@@ -89,6 +89,16 @@ pub(crate) fn note_stream<R: Env + AllocGlobal, W: IsTerminal + Drop>(
     }
 }
 
+/// Returns the stream of what a command writes: the given one, or where it is held back one that
+/// takes everything and keeps nothing.
+pub(crate) fn out_stream<W: Drop>(stream: W, is_held: bool) -> Either<W, io::Sink> {
+    if is_held {
+        Either::Right(io::sink())
+    } else {
+        Either::Left(stream)
+    }
+}
+
 /// Returns how the lines of a run look: on a terminal the counts stay on one line below the others.
 pub(crate) fn style_of<W: IsTerminal>(stream: &W) -> Style {
     if stream.is_terminal() {

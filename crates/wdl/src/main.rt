@@ -5,15 +5,20 @@
 ghost use Rattle.std.specs.Prelude.{◌≡◌, ◌<◌, None};
 
 mod environment;
+mod kept_run;
+mod published;
 mod words;
 
 use command_notes::{RecallingShelf, Runner};
 use environment::{
-    clear_of, folder, note_stream, outer_mark, runner_of, shell, shows_notes, style_of,
+    clear_of, folder, note_stream, out_stream, outer_mark, runner_of, shell, shows_notes, style_of,
 };
 use file_notes::SeeingShelf;
 use job_launcher::{Launching, Notes, ShellLauncher};
 use keeper_sql::{KeeperNotes, SqlKeeper};
+use kept_run::KeepingWatch;
+use output_files::choice_of;
+use published::publish_outputs;
 use report_text::{Status, no_memory_line, number_of};
 use run_notes::RunNotes;
 use run_report::{is_report, report};
@@ -90,16 +95,18 @@ fn main(rt: HostRuntime) -> ExitCode {
         return ExitCode::from(number);
     }
     let asked = line.notes;
+    let choice = choice_of(line.typed.as_slice());
     let stream = rt.stderr();
     let is_read = shows_notes(&rt, &stream, asked);
     let inputs = SettingsShelf::new(alloc, FileShelf::new(&rt), line.settings());
     let files = RecallingShelf::new(alloc, inputs, runner_of(&shell));
     let mut shelf = SeeingShelf::new(files, &rt, folder(&rt), is_read);
-    let mut out = StreamSink::new(rt.stdout());
+    let mut out = StreamSink::new(out_stream(rt.stdout(), choice.is_some()));
     let style = style_of(&stream);
     let mut notes = StreamSink::new(note_stream(&rt, stream, asked));
     let mut lines = StreamSink::new(note_stream(&rt, rt.stderr(), asked));
-    let mut progress = RunNotes::new(alloc, &mut lines, &rt, style);
+    let tale = RunNotes::new(alloc, &mut lines, &rt, style);
+    let mut progress = KeepingWatch::new(tale, choice.is_some());
     let own = Launching {
         process: process::id(rt.process()),
         mark,
@@ -122,6 +129,16 @@ fn main(rt: HostRuntime) -> ExitCode {
         &mut keeper,
         Blank::new(1),
     );
+    let number = match choice {
+        Some(choice) if number == 0 => {
+            let kept = progress.into_kept();
+            let mut out = StreamSink::new(rt.stdout());
+            publish_outputs(
+                &rt, alloc, choice, line.words(), &kept, &mut out, &mut err, &mut notes,
+            )
+        }
+        _ => number,
+    };
     launcher.release();
     ExitCode::from(number)
 }

@@ -1,6 +1,7 @@
 //! The words of the command line.
 use crate::environment::folder;
 use input_settings::{SetLine, Settings, set_line};
+use output_files::other_arguments;
 use std::env;
 use std::env::Env;
 use std::fs::Files;
@@ -12,6 +13,8 @@ use wdl_value::NoMemory;
 pub(crate) struct CommandLine {
     /// All but `--notes`.
     pub typed: Vec<String>,
+    /// Those without `--outputs` and `--force`, where a folder is named as it should be.
+    other: Vec<String>,
     /// Whether notes are asked for, by `--notes` in front of any `--`.
     pub notes: bool,
     /// The words without the options that set inputs, and what these set.
@@ -23,7 +26,7 @@ impl CommandLine {
     pub(crate) fn words(&self) -> &[String] {
         match &self.set {
             Some(set) => set.words.as_slice(),
-            None => self.typed.as_slice(),
+            None => self.other.as_slice(),
         }
     }
 
@@ -67,6 +70,12 @@ pub(crate) fn command_line<R: Env + Files + AllocGlobal>(rt: &R) -> Result<Comma
         Some(here) => Some(here.as_str()),
         None => None,
     };
-    let set = set_line(rt, rt.alloc(), typed.as_slice(), here)?;
-    Ok(CommandLine { typed, notes, set })
+    let other = other_arguments(rt.alloc(), typed.as_slice())?;
+    let set = set_line(rt, rt.alloc(), other.as_slice(), here)?;
+    Ok(CommandLine {
+        typed,
+        other,
+        notes,
+        set,
+    })
 }
