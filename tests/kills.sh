@@ -86,16 +86,18 @@ left() {
     { echo "${each#/proc/} $(sed 's/.*) \(.\).*/\1/' "$each/stat") $(cat "$each/wchan") $(tr '\0\n' '  ' <"$each/cmdline" | tail -c 60);"; } 2>/dev/null
   done
 }
-# free: waits until there is none, at most some ten seconds: the guard of a run kills what is left after five. What is there after half of them is in the file
-# `stuck`.
+# free: waits until none is found twice, since one that was begun as the run ended shows late; at most some ten seconds: the guard of a run kills what is left
+# after five. What is there after half of them is in the file `stuck`.
 free() {
-  tries=180
-  while [ "$(jobs)" ] && [ "$tries" -gt 0 ]; do
+  tries=180 none=
+  while [ "$tries" -gt 0 ]; do
+    if [ "$(jobs)" ]; then none=; elif [ "$none" ]; then return; else none=yes; fi
     sleep 0.05
     tries=$((tries - 1))
     [ "$tries" != 90 ] || left >stuck
   done
-  [ -z "$(jobs)" ]
+  left >stuck
+  return 1
 }
 # kept: the names of the jobs with a row that is a success, in order. The rows are read from a copy, since sqlite3 changes what it opens.
 kept() {

@@ -451,7 +451,7 @@ again "of two of them the second is past what is kept of all" '1 failed leave b:
   task long '' 'head -c 65535 /dev/zero | tr "\\0" a' 'String s = read_string(stdout())'
   cat <<'END'
 workflow w {
-  input { Int n = 63 String tail = "" Int more = 0 }
+  input { Int n = 62 String tail = "" Int more = 32758 }
   call long
   scatter (i in range(n)) { String s = long.s }
   scatter (i in range(more)) { String t = "x" }
@@ -462,13 +462,14 @@ END
 } >written.wdl
 # with INPUTS: the file of these inputs.
 with() { echo "$1" >inputs.json; }
-again "written files of 4,194,304 bytes" '0 {"w.r":4194304}: long take' written.wdl
-again "and again" '0 {"w.r":4194304}: ' written.wdl
-with '{"w.more":1}'
+# The names of the two files, `.written-0` and `.written-1`, count too.
+again "written files of 4,194,304 bytes" '0 {"w.r":4194284}: long take' written.wdl
+again "and again" '0 {"w.r":4194284}: ' written.wdl
+with '{"w.more":32759}'
 again "longer ones" '1 failed take command: 510 TooLarge: ' --inputs inputs.json written.wdl
-with '{"w.n":1,"w.tail":"x"}'
+with '{"w.n":1,"w.tail":"x","w.more":0}'
 again "a text of 65,536 bytes" '0 {"w.r":131073}: take' --inputs inputs.json written.wdl
-with '{"w.n":1,"w.tail":"xx"}'
+with '{"w.n":1,"w.tail":"xx","w.more":0}'
 again "a longer one" '1 failed take command: 510 TooLarge: ' --inputs inputs.json written.wdl
 
 conclude

@@ -193,14 +193,14 @@ if has setsid; then
     ended "$signal to its group"
   done
 else skip "signals to a group" "setsid is not installed"; fi
-if has script; then
+if has script && heard HUP; then
   rm -rf "$root"
-  script -qec "'$program' run --inputs minute.json --root $root long.wdl" /dev/null >/dev/null 2>&1 </dev/null &
+  $as_by_default script -qec "'$program' run --inputs minute.json --root $root long.wdl" /dev/null >/dev/null 2>&1 </dev/null &
   run=$!
   there "$root/long/begun"
   kill -KILL "$run"
   ended "the end of its terminal"
-else skip "the end of a terminal" "script is not installed"; fi
+else skip "the end of a terminal" "script is not installed, or SIGHUP is ignored here"; fi
 rm -rf "$root"
 cat >outer.wdl <<END_OF_FILE
 version 1.1
@@ -216,6 +216,31 @@ run=$!
 there "$root/inner/long/begun"
 kill -KILL "$run"
 ended "KILL, with a run in a job"
+# A command that was begun and is not there yet as its run ends.
+cat >next.wdl <<'END_OF_FILE'
+version 1.1
+task say {
+  input { Int seconds }
+  command <<< sleep ~{seconds}; echo ~{seconds} >>>
+  output { Int told = read_int(stdout()) }
+}
+workflow w {
+  call say { input: seconds = 2 }
+  call say as late { input: seconds = say.told + 60 }
+}
+END_OF_FILE
+if has strace && strace -f -o "$work/trace" -e inject=execve:delay_enter=1000 true >/dev/null 2>&1; then
+  rm -rf "$root" trace
+  "$program" run --root "$root" next.wdl >/dev/null 2>&1 &
+  run=$!
+  there "$root/say/_stdout"
+  strace -f -o trace -p "$run" -e trace=execve,close_range -e inject=execve:delay_enter=500000 >/dev/null 2>&1 &
+  tries=0
+  while ! grep -q execve trace 2>/dev/null && [ "$tries" -lt 1000 ]; do sleep 0.01; tries=$((tries + 1)); done
+  kill -KILL "$run"
+  ended "KILL, while a command is begun"
+  [ "$tries" -lt 1000 ] && pass || fail "the command that was to be begun"
+else skip "a command that is begun as its run ends" "strace is not installed, or may not be used"; fi
 begin "$work/other" short.json
 kill -KILL "$(guard_of "$work/other")"
 wait "$run"

@@ -17,9 +17,11 @@ pub const SESSION: &str = "setsid";
 /// What the guard of the mark `$1` does. Its input ends when the run has ended. Then it ends the
 /// processes that have the mark: by TERM, and after five seconds by KILL, so that the next run,
 /// which waits for ten, finds none of them. One that was started while the others were looked for
-/// gets it a second later. A line on the input releases the guard; it then removes the folder `$2`,
-/// where there is one, and gives way to other processes where the line says `later`.
-const SCRIPT: &str = "mark=$1 old=$2 told=
+/// gets it a second later: a process that was begun as the run ended shows the mark only once it is
+/// the job's, so the guard ends where it has found none twice. A line on the input releases it; it
+/// then removes the folder `$2`, where there is one, and gives way to other processes where the line
+/// says `later`.
+const SCRIPT: &str = "mark=$1 old=$2 told= none=
 trap '' HUP INT QUIT TERM
 left() { grep -lsF \"$mark\" /proc/[0-9]*/environ; }
 end() {
@@ -39,7 +41,7 @@ if read -r how; then
 fi
 for signal in TERM TERM TERM TERM TERM KILL KILL KILL KILL KILL; do
   end \"$signal\"
-  [ \"$(left)\" ] || exit
+  if [ \"$(left)\" ]; then none=; elif [ \"$none\" ]; then exit; else none=1; fi
   sleep 1
 done
 ";
