@@ -1,9 +1,12 @@
 //! Sentences on scope and types.
 
 use crate::call_sentence::{input_missing, input_unknown, unknown_task};
-use crate::name_sentence::{duplicate, not_a_value, unknown_function, unknown_name, unknown_type};
+use crate::duplicate_sentence::duplicate;
+use crate::literal_sentence::members_differ;
+use crate::member_sentence::no_member;
+use crate::name_sentence::{not_a_value, unknown_function, unknown_name, unknown_type};
 use crate::value_sentence::{
-    bad_arguments, bad_operands, expected, members_differ, no_coercion, no_member,
+    bad_arguments, bad_operands, expected, no_array, no_coercion, no_condition,
 };
 use fault_places::{Note, Scene};
 use std::alloc::Global;
@@ -70,8 +73,8 @@ fn sentence_on(alloc: Global, note: &mut Note, scene: &Scene, code: u16) -> Resu
         322 => unknown_task(alloc, note, scene),
         323 => input_missing(alloc, note, scene),
         324 => input_unknown(alloc, note, scene),
-        325 => expected(note, scene, "a Boolean as the condition of `if`"),
-        326 => expected(note, scene, "an array to scatter over"),
+        325 => no_condition(alloc, note, scene),
+        326 => no_array(alloc, note, scene),
         329 => unknown_type(alloc, note, scene),
         309 | 311 | 312 | 320 | 330 => of_words(note, scene, code),
         _ => note.push(fixed(code)),

@@ -2,20 +2,28 @@
 //! source.
 #![tactic(auto)]
 
+mod bad_name;
 mod call_sentence;
 mod check_sentence;
 mod document;
+mod duplicate_sentence;
 mod expected_sentence;
 mod front_sentence;
 mod function;
+mod habit_sentence;
 mod import_sentence;
+mod items;
 mod later;
 mod listed;
+mod literal_sentence;
+mod member_sentence;
 mod name_sentence;
 mod near;
+mod nesting;
 mod open_sentence;
 mod operand_sentence;
 mod operation;
+mod optional_hint;
 mod place;
 mod subset_sentence;
 mod text_sentence;

@@ -185,6 +185,28 @@ pub fn imported<'a>(library: &'a Library, doc: &Doc, namespace: &str) -> Option<
     None
 }
 
+/// The name of the first import of a document that has a task or a workflow of that name.
+pub fn namespace_with<'a>(library: &'a Library, doc: &'a Doc, name: &str) -> Option<&'a str> {
+    for link in doc.imports.as_slice() {
+        if let Some(other) = library.docs.as_slice().get(link.doc as usize) {
+            if part_named(&other.document, name).is_some() {
+                return Some(link.namespace.as_str());
+            }
+        }
+    }
+    None
+}
+
+/// The first workflow of a document.
+pub fn first_workflow(document: &Document) -> Option<&Workflow> {
+    for section in document.sections.as_slice() {
+        if let Section::Workflow(workflow) = section {
+            return Some(workflow);
+        }
+    }
+    None
+}
+
 /// What a call is of: a task of the same document, or a task or a workflow of an imported one.
 pub fn callee<'a>(library: &'a Library, doc: &'a Doc, target: &CallTarget) -> Option<Part<'a>> {
     let first = target.first.name.as_str();
