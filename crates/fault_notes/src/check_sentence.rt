@@ -1,6 +1,7 @@
 //! Sentences on scope and types.
 
 use crate::call_sentence::{input_missing, input_unknown, unknown_task};
+use crate::circle_sentence::depends_on_itself;
 use crate::duplicate_sentence::duplicate;
 use crate::literal_sentence::members_differ;
 use crate::member_sentence::no_member;
@@ -29,10 +30,6 @@ fn behind_words(code: u16) -> &'static str {
         312 => {
             "can be called as the whole value of a private declaration of a task, or of a \
              placeholder of its command, alone"
-        }
-        320 => {
-            "depends on itself, or on others that depend on it; a block depends on all that its \
-             body does"
         }
         330 => "holds itself, or structs hold one another on more than 32 levels",
         _ => "breaks a rule of the language",
@@ -69,6 +66,7 @@ fn sentence_on(alloc: Global, note: &mut Note, scene: &Scene, code: u16) -> Resu
         307 => not_a_value(alloc, note, scene),
         308 => expected(note, scene, PLACEHOLDER),
         310 => members_differ(alloc, note, scene),
+        320 => depends_on_itself(alloc, note, scene),
         321 => duplicate(note, scene),
         322 => unknown_task(alloc, note, scene),
         323 => input_missing(alloc, note, scene),
@@ -76,7 +74,7 @@ fn sentence_on(alloc: Global, note: &mut Note, scene: &Scene, code: u16) -> Resu
         325 => no_condition(alloc, note, scene),
         326 => no_array(alloc, note, scene),
         329 => unknown_type(alloc, note, scene),
-        309 | 311 | 312 | 320 | 330 => of_words(note, scene, code),
+        309 | 311 | 312 | 330 => of_words(note, scene, code),
         _ => note.push(fixed(code)),
     }
 }

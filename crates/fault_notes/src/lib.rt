@@ -5,6 +5,8 @@
 mod bad_name;
 mod call_sentence;
 mod check_sentence;
+mod circle;
+mod circle_sentence;
 mod document;
 mod duplicate_sentence;
 mod expected_sentence;

@@ -1,8 +1,8 @@
 //! The tasks and workflows of a library, as they are written.
 
 use wdl_ast::{
-    CallTarget, Declaration, Document, Ident, InputDeclaration, Section, TaskElement, TaskSection,
-    Workflow, WorkflowElement,
+    CallTarget, Declaration, Document, Ident, InputDeclaration, Section, Statement, TaskElement,
+    TaskSection, Workflow, WorkflowElement,
 };
 use wdl_library::{Doc, Library};
 use wdl_value::{Name, NoMemory};
@@ -80,6 +80,19 @@ impl<'a> Part<'a> {
             }
         }
         None
+    }
+
+    /// Appends the statements of a workflow that stand in no block.
+    pub fn push_statements(self, statements: &mut Vec<&'a Statement>) -> Result<(), NoMemory> {
+        let Part::Workflow(workflow) = self else {
+            return Ok(());
+        };
+        for element in workflow.elements.as_slice() {
+            if let WorkflowElement::Statement(statement) = element {
+                statements.push(statement)?;
+            }
+        }
+        Ok(())
     }
 
     /// Appends the names of its inputs.
