@@ -2,14 +2,17 @@
 //! source.
 #![tactic(auto)]
 
+mod assignment;
 mod bad_name;
 mod call_sentence;
 mod check_sentence;
+mod choice;
 mod circle;
 mod circle_sentence;
 mod document;
 mod duplicate_sentence;
 mod expected_sentence;
+mod foreign_comment;
 mod front_sentence;
 mod function;
 mod habit_sentence;
@@ -32,5 +35,6 @@ mod text_sentence;
 mod unclosed;
 mod value_sentence;
 mod value_type;
+mod word_operator;
 
 pub use document::document_note;

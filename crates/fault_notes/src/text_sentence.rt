@@ -2,8 +2,9 @@
 
 use crate::bad_name::bad_name;
 use crate::expected_sentence::expectation;
+use crate::foreign_comment::foreign_comment;
 use crate::front_sentence::{PARTS, word_in_front};
-use crate::habit_sentence::{foreign, foreign_comment};
+use crate::habit_sentence::foreign;
 use crate::later::later_version;
 use crate::near::did_you_mean;
 use crate::open_sentence::{cut_command, no_value, open_bracket, open_placeholder};
