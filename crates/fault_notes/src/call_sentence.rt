@@ -43,7 +43,7 @@ fn namespaces(alloc: Global, note: &mut Note, scene: &Scene) -> Result<(), NoMem
         names.push(link.namespace.as_str())?;
     }
     if names.is_empty() {
-        return note.push(": this document imports none");
+        return Ok(());
     }
     note.push("; the imports have the names ")?;
     list(note, names.as_slice())

@@ -1,14 +1,14 @@
 //! Sentences on scope and types.
 
 use crate::call_sentence::{input_missing, input_unknown, unknown_task};
-use crate::circle_sentence::depends_on_itself;
+use crate::circle_hint::circle_hint;
 use crate::duplicate_sentence::duplicate;
+use crate::literal_hint::literal_hint;
 use crate::literal_sentence::members_differ;
 use crate::member_sentence::no_member;
 use crate::name_sentence::{not_a_value, unknown_function, unknown_name, unknown_type};
-use crate::value_sentence::{
-    bad_arguments, bad_operands, expected, no_array, no_coercion, no_condition,
-};
+use crate::optional_hint::{array_hint, condition_hint, value_hint};
+use crate::value_sentence::{bad_arguments, bad_operands, expected, no_coercion};
 use fault_places::{Note, Scene};
 use std::alloc::Global;
 use wdl_library::Library;
@@ -30,6 +30,10 @@ fn behind_words(code: u16) -> &'static str {
         312 => {
             "can be called as the whole value of a private declaration of a task, or of a \
              placeholder of its command, alone"
+        }
+        320 => {
+            "depends on itself, or on others that depend on it; a block depends on all that its \
+             body does"
         }
         330 => "holds itself, or structs hold one another on more than 32 levels",
         _ => "breaks a rule of the language",
@@ -66,15 +70,14 @@ fn sentence_on(alloc: Global, note: &mut Note, scene: &Scene, code: u16) -> Resu
         307 => not_a_value(alloc, note, scene),
         308 => expected(note, scene, PLACEHOLDER),
         310 => members_differ(alloc, note, scene),
-        320 => depends_on_itself(alloc, note, scene),
         321 => duplicate(note, scene),
         322 => unknown_task(alloc, note, scene),
         323 => input_missing(alloc, note, scene),
         324 => input_unknown(alloc, note, scene),
-        325 => no_condition(alloc, note, scene),
-        326 => no_array(alloc, note, scene),
+        325 => expected(note, scene, "a Boolean as the condition of `if`"),
+        326 => expected(note, scene, "an array to scatter over"),
         329 => unknown_type(alloc, note, scene),
-        309 | 311 | 312 | 330 => of_words(note, scene, code),
+        309 | 311 | 312 | 320 | 330 => of_words(note, scene, code),
         _ => note.push(fixed(code)),
     }
 }
@@ -94,4 +97,32 @@ pub fn check_sentence(
         }
     }
     note.push(fixed(code))
+}
+
+fn hint_on(alloc: Global, note: &mut Note, scene: &Scene, code: u16) -> Result<(), NoMemory> {
+    match code {
+        303 => value_hint(alloc, note, scene),
+        310 => literal_hint(alloc, note, scene),
+        320 => circle_hint(alloc, note, scene),
+        325 => condition_hint(alloc, note, scene),
+        326 => array_hint(alloc, note, scene),
+        _ => Ok(()),
+    }
+}
+
+/// Appends what helps with a fault of a code of 301 to 330, as far as the library tells it.
+pub fn check_hint(
+    alloc: Global,
+    note: &mut Note,
+    code: u16,
+    bytes: &[u8],
+    span: Span,
+    library: Option<&Library>,
+) -> Result<(), NoMemory> {
+    if let Some(library) = library {
+        if let Some(scene) = Scene::new(alloc, library, bytes, span)? {
+            return hint_on(alloc, note, &scene, code);
+        }
+    }
+    Ok(())
 }

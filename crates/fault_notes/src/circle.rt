@@ -59,13 +59,11 @@ fn extend<'a>(
             continue;
         }
         if let Some(name) = needed_name(one, other) {
-            steps.push(
-                Step {
-                    member,
-                    before,
-                    name,
-                },
-            )?;
+            steps.push(Step {
+                member,
+                before,
+                name,
+            })?;
             if member == to {
                 return Ok(true);
             }
@@ -75,19 +73,13 @@ fn extend<'a>(
 }
 
 /// The steps from a member to itself, among others; none where it does not need itself.
-fn steps_round<'a>(
-    alloc: Global,
-    all: &'a [Uses],
-    from: usize,
-) -> Result<Vec<Step<'a>>, NoMemory> {
+fn steps_round<'a>(alloc: Global, all: &'a [Uses], from: usize) -> Result<Vec<Step<'a>>, NoMemory> {
     let mut steps = Vec::new(alloc);
-    steps.push(
-        Step {
-            member: from,
-            before: 0,
-            name: "",
-        },
-    )?;
+    steps.push(Step {
+        member: from,
+        before: 0,
+        name: "",
+    })?;
     for turn in 0..all.len() {
         if extend(all, &mut steps, turn, from)? {
             return Ok(steps);

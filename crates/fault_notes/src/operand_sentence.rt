@@ -65,6 +65,7 @@ fn is_of(note: &mut Note, text: &str, ty: &str) -> Result<(), NoMemory> {
 fn optional(note: &mut Note, text: &str, ty: &str) -> Result<(), NoMemory> {
     note.push("; ")?;
     is_of(note, text, ty)?;
+    note.push(": ")?;
     select_first(note, text, ty)
 }
 

@@ -1,6 +1,9 @@
-//! What is written in place of a value that may be missing.
+//! Hints on what is written in place of a value that may be missing.
 
-use fault_places::Note;
+use crate::value_sentence::wanted_at;
+use crate::value_type::push_type_of;
+use fault_places::{Note, Scene, type_text};
+use std::alloc::Global;
 use wdl_value::NoMemory;
 
 /// The most bytes of a value that a hint repeats.
@@ -33,20 +36,52 @@ pub fn repeated(text: &str) -> &str {
 
 /// Appends how a value of that optional type gets one that is there.
 pub fn select_first(note: &mut Note, text: &str, ty: &str) -> Result<(), NoMemory> {
-    note.push_all(&[
-        ": write `select_first([",
-        repeated(text),
-        stand_in(ty),
-        "])`",
-    ])
+    note.push_all(&["write `select_first([", repeated(text), stand_in(ty), "])`"])
 }
 
 /// Appends how a condition asks for a value of that optional type.
-pub fn condition(note: &mut Note, text: &str, ty: &str) -> Result<(), NoMemory> {
+fn condition(note: &mut Note, text: &str, ty: &str) -> Result<(), NoMemory> {
     let text = repeated(text);
     if ty == "Boolean?" {
         select_first(note, text, ty)?;
         return note.push_all(&[", or `defined(", text, ")`"]);
     }
-    note.push_all(&[": write `defined(", text, ")`"])
+    note.push_all(&["write `defined(", text, ")`"])
+}
+
+/// 325.
+pub fn condition_hint(alloc: Global, note: &mut Note, scene: &Scene) -> Result<(), NoMemory> {
+    let mut ty = Note::new(alloc);
+    push_type_of(&mut ty, scene, scene.text())?;
+    if ty.as_str().ends_with('?') {
+        return condition(note, scene.text(), ty.as_str());
+    }
+    Ok(())
+}
+
+/// 326.
+pub fn array_hint(alloc: Global, note: &mut Note, scene: &Scene) -> Result<(), NoMemory> {
+    let mut ty = Note::new(alloc);
+    push_type_of(&mut ty, scene, scene.text())?;
+    let ty = ty.as_str();
+    if ty.starts_with("Array[") && ty.ends_with('?') {
+        return select_first(note, scene.text(), ty);
+    }
+    Ok(())
+}
+
+/// 303, where the value would do if it were not optional.
+pub fn value_hint(alloc: Global, note: &mut Note, scene: &Scene) -> Result<(), NoMemory> {
+    let Some(wanted) = wanted_at(scene) else {
+        return Ok(());
+    };
+    let mut required = Note::new(alloc);
+    type_text(&mut required, wanted.ty)?;
+    let mut ty = Note::new(alloc);
+    push_type_of(&mut ty, scene, scene.text())?;
+    let ty = ty.as_str();
+    match ty.strip_suffix('?') {
+        Some(present) if present == required.as_str() => select_first(note, scene.text(), ty),
+        _ => Ok(()),
+    }
 }

@@ -1,9 +1,7 @@
 //! Sentences on values and their types.
 
 use crate::function::usage_of;
-use crate::literal_sentence::items_differ;
 use crate::operand_sentence::operands_differ;
-use crate::optional_hint::{condition, select_first};
 use crate::value_type::push_type_of;
 use fault_places::{Entry, Note, Scene, type_text};
 use std::alloc::Global;
@@ -30,34 +28,11 @@ pub fn expected(note: &mut Note, scene: &Scene, wanted: &str) -> Result<(), NoMe
     found(note, scene)
 }
 
-/// 325.
-pub fn no_condition(alloc: Global, note: &mut Note, scene: &Scene) -> Result<(), NoMemory> {
-    expected(note, scene, "a Boolean as the condition of `if`")?;
-    let mut ty = Note::new(alloc);
-    push_type_of(&mut ty, scene, scene.text())?;
-    if ty.as_str().ends_with('?') {
-        return condition(note, scene.text(), ty.as_str());
-    }
-    Ok(())
-}
-
-/// 326.
-pub fn no_array(alloc: Global, note: &mut Note, scene: &Scene) -> Result<(), NoMemory> {
-    expected(note, scene, "an array to scatter over")?;
-    let mut ty = Note::new(alloc);
-    push_type_of(&mut ty, scene, scene.text())?;
-    let ty = ty.as_str();
-    if ty.starts_with("Array[") && ty.ends_with('?') {
-        return select_first(note, scene.text(), ty);
-    }
-    Ok(())
-}
-
 /// What a value is for: a name, and its type.
 #[derive(Clone, Copy)]
-struct Wanted<'a> {
-    name: &'a Ident,
-    ty: &'a TypeTree,
+pub struct Wanted<'a> {
+    pub name: &'a Ident,
+    pub ty: &'a TypeTree,
 }
 
 /// Whether a fault stands directly behind this `=`.
@@ -120,7 +95,7 @@ fn wanted_by<'a>(scene: &Scene<'a>, entry: Entry<'a>) -> Option<Wanted<'a>> {
 }
 
 /// What the value at a fault is for.
-fn wanted_at<'a>(scene: &Scene<'a>) -> Option<Wanted<'a>> {
+pub fn wanted_at<'a>(scene: &Scene<'a>) -> Option<Wanted<'a>> {
     for entry in &scene.entries {
         if let Some(wanted) = wanted_by(scene, *entry) {
             return Some(wanted);
@@ -173,31 +148,6 @@ fn no_numbers(
     Ok(())
 }
 
-/// Appends what helps where a value may be missing, and the types of the items of a list that is
-/// written out.
-fn way_out(
-    alloc: Global,
-    note: &mut Note,
-    scene: &Scene,
-    wanted: Option<Wanted>,
-    found: &str,
-) -> Result<(), NoMemory> {
-    let text = scene.text();
-    if let (true, Some(list)) = (found.is_empty(), text.strip_prefix('[')) {
-        items_differ(alloc, note, scene, list)?;
-        return Ok(());
-    }
-    let (Some(present), Some(wanted)) = (found.strip_suffix('?'), wanted) else {
-        return Ok(());
-    };
-    let mut ty = Note::new(alloc);
-    type_text(&mut ty, wanted.ty)?;
-    if ty.as_str() == present {
-        return select_first(note, text, found);
-    }
-    Ok(())
-}
-
 /// 303.
 pub fn no_coercion(alloc: Global, note: &mut Note, scene: &Scene) -> Result<(), NoMemory> {
     let wanted = wanted_at(scene);
@@ -211,7 +161,7 @@ pub fn no_coercion(alloc: Global, note: &mut Note, scene: &Scene) -> Result<(), 
     if scene.words.starts_with("read_") {
         return no_numbers(alloc, note, wanted, ty.as_str());
     }
-    way_out(alloc, note, scene, wanted, ty.as_str())
+    Ok(())
 }
 
 /// 304.

@@ -1,4 +1,4 @@
-//! The sentence on names that depend on one another.
+//! The hint on names that depend on one another.
 
 use crate::circle::{names_round, uses_of};
 use crate::listed::list;
@@ -117,33 +117,12 @@ fn in_workflow(alloc: Global, note: &mut Note, scene: &Scene) -> Result<bool, No
     circle_in(alloc, note, members.as_slice(), scene.span)
 }
 
-/// Whether there are blocks around a fault or beside it.
-fn has_blocks(scene: &Scene) -> bool {
-    for entry in &scene.entries {
-        if entry.braces().is_some() {
-            return true;
-        }
-    }
-    false
-}
-
-/// The names that depend on one another, in the list of the fault.
-fn circle(alloc: Global, note: &mut Note, scene: &Scene) -> Result<bool, NoMemory> {
-    Ok(in_inputs(alloc, note, scene)?
+/// 320: the names that depend on one another, in the list of the fault.
+pub fn circle_hint(alloc: Global, note: &mut Note, scene: &Scene) -> Result<(), NoMemory> {
+    let _ = in_inputs(alloc, note, scene)?
         || in_outputs(alloc, note, scene)?
         || in_declarations(alloc, note, scene)?
         || in_workflow(alloc, note, scene)?
-        || in_blocks(alloc, note, scene)?)
-}
-
-/// 320.
-pub fn depends_on_itself(alloc: Global, note: &mut Note, scene: &Scene) -> Result<(), NoMemory> {
-    if !circle(alloc, note, scene)? {
-        scene.quote(note)?;
-        note.push(" depends on itself, or on others that depend on it")?;
-    }
-    if has_blocks(scene) {
-        return note.push("; a block depends on all that its body does");
-    }
+        || in_blocks(alloc, note, scene)?;
     Ok(())
 }
