@@ -46,7 +46,9 @@ fn is_of_expression(words: &str) -> bool {
 
 /// What is said of the attributes of a section.
 fn attribute(place: &Place, section: &str) -> &'static str {
-    let begun = is_identifier(place.front.as_bytes()) && place.front_begins();
+    let begun = is_identifier(place.front.as_bytes())
+        && place.front_begins()
+        && !begins_section(place.front);
     match section {
         "runtime" | "meta" | "parameter_meta" if begun => ": expected `:` before it",
         "meta" | "parameter_meta" if is_of_expression(place.words) || is_name(place.words) => {

@@ -1,7 +1,8 @@
 //! Hints on literals: what one of a struct lacks, and which items of a list differ.
 
 use crate::items::split_item;
-use crate::listed::{it_has, list};
+use crate::listed::list;
+use crate::member_sentence::members;
 use crate::value_type::push_type_of;
 use fault_places::{Bracket, Brackets, Note, Scene, bytes_before, last_word, text_behind};
 use std::alloc::Global;
@@ -81,15 +82,6 @@ fn has_member(def: &StructDef, name: &str) -> bool {
     false
 }
 
-/// Appends the members of a struct.
-fn members(alloc: Global, note: &mut Note, def: &StructDef) -> Result<(), NoMemory> {
-    let mut names = Vec::new(alloc);
-    for member in def.members.as_slice() {
-        names.push(member.name.as_str())?;
-    }
-    it_has(note, names.as_slice())
-}
-
 /// A member of a struct literal that the struct does not have, or that is given twice.
 fn bad_member(alloc: Global, note: &mut Note, scene: &Scene) -> Result<(), NoMemory> {
     let name = name_around(alloc, scene)?;
@@ -99,7 +91,7 @@ fn bad_member(alloc: Global, note: &mut Note, scene: &Scene) -> Result<(), NoMem
     if has_member(def, scene.words) {
         return note.push_all(&["`", scene.words, "` is given twice"]);
     }
-    note.push_all(&["`", scene.words, "` is no member of struct `", name, "`; "])?;
+    note.push_all(&["`", scene.words, "` is no member of struct `", name, "`; it has "])?;
     members(alloc, note, def)
 }
 
