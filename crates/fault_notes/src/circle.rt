@@ -131,3 +131,14 @@ pub fn uses_of<M: Member>(alloc: Global, list: &[&M]) -> Result<Vec<Uses>, NoMem
     }
     Ok(all)
 }
+
+/// How many names the members of a list give and refer to.
+pub fn names_in(all: &[Uses]) -> usize {
+    let mut count: usize = 0;
+    for uses in all {
+        count = count
+            .saturating_add(uses.gives.len())
+            .saturating_add(uses.refers.len());
+    }
+    count
+}

@@ -1,6 +1,6 @@
 //! The hint on names that depend on one another.
 
-use crate::circle::{names_round, uses_of};
+use crate::circle::{names_in, names_round, uses_of};
 use crate::listed::list;
 use fault_places::{Entry, Note, Scene};
 use std::alloc::Global;
@@ -8,8 +8,11 @@ use wdl_ast::Statement;
 use wdl_check_order::Member;
 use wdl_value::{NoMemory, Span};
 
-/// The most members of a list in which a circle is looked for.
+/// The most members of a list in which a circle is looked for, and the most names of these: the time
+/// grows with the product of the names that are given and those that are referred to.
 const MOST_MEMBERS: usize = 256;
+
+const MOST_NAMES: usize = 4_096;
 
 /// The position of the member that stands at a span.
 fn position_of_member<M: Member>(members: &[&M], span: Span) -> Option<usize> {
@@ -36,6 +39,9 @@ fn circle_in<M: Member>(
         return Ok(false);
     }
     let all = uses_of(alloc, members)?;
+    if names_in(all.as_slice()) > MOST_NAMES {
+        return Ok(false);
+    }
     let names = names_round(alloc, all.as_slice(), at)?;
     list(note, names.as_slice())?;
     match names.len() {

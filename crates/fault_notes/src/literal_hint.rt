@@ -3,6 +3,7 @@
 use crate::items::split_item;
 use crate::listed::list;
 use crate::member_sentence::members;
+use crate::optional_hint::repeated;
 use crate::value_type::push_type_of;
 use fault_places::{Bracket, Brackets, Note, Scene, bytes_before, last_word, text_behind};
 use std::alloc::Global;
@@ -103,13 +104,13 @@ fn two_items(
     other: &str,
     other_type: &str,
 ) -> Result<(), NoMemory> {
-    note.push_all(&["`", first, "` is `", first_type, "` and `"])?;
-    note.push_all(&[other, "` is `", other_type, "`"])
+    note.push_all(&["`", repeated(first), "` is `", first_type, "` and `"])?;
+    note.push_all(&[repeated(other), "` is `", other_type, "`"])
 }
 
 /// The first item of a list whose opening bracket stands before the text, and the first one that has
 /// another type, as far as types are known.
-pub fn items_differ(
+fn items_differ(
     alloc: Global,
     note: &mut Note,
     scene: &Scene,
