@@ -8,8 +8,8 @@ use wdl_ast::Statement;
 use wdl_check_order::Member;
 use wdl_value::{NoMemory, Span};
 
-/// The most members of a list in which a circle is looked for, and the most names of these: the time
-/// grows with the product of the names that are given and those that are referred to.
+/// The most members of a list in which a circle is looked for, and the most names of these: the
+/// time grows with the product of the names that are given and those that are referred to.
 const MOST_MEMBERS: usize = 256;
 
 const MOST_NAMES: usize = 4_096;

@@ -75,8 +75,8 @@ fn tell(
 ///
 /// `code` is one of 101 to 330, 601 to 613 or 620 to 622; `bytes` are those of the document, and
 /// `span` is the part of it in which the rule of the code is broken. For the codes from 301 on the
-/// sentence names what the library has: with no library it says less. For 206 the library is that of
-/// the imported document.
+/// sentence names what the library has: with no library it says less. For 206 the library is that
+/// of the imported document.
 ///
 /// It begins with `PATH:LINE:COLUMN: error CODE WORD: `, where line and column are those of
 /// `fault_places::position_of`. Nothing is promised of what follows.

@@ -108,8 +108,8 @@ fn two_items(
     note.push_all(&[repeated(other), "` is `", other_type, "`"])
 }
 
-/// The first item of a list whose opening bracket stands before the text, and the first one that has
-/// another type, as far as types are known.
+/// The first item of a list whose opening bracket stands before the text, and the first one that
+/// has another type, as far as types are known.
 fn items_differ(
     alloc: Global,
     note: &mut Note,
