@@ -92,7 +92,13 @@ fn bad_member(alloc: Global, note: &mut Note, scene: &Scene) -> Result<(), NoMem
     if has_member(def, scene.words) {
         return note.push_all(&["`", scene.words, "` is given twice"]);
     }
-    note.push_all(&["`", scene.words, "` is no member of struct `", name, "`; it has "])?;
+    note.push_all(&[
+        "`",
+        scene.words,
+        "` is no member of struct `",
+        name,
+        "`; it has ",
+    ])?;
     members(alloc, note, def)
 }
 
@@ -110,12 +116,7 @@ fn two_items(
 
 /// The first item of a list whose opening bracket stands before the text, and the first one that
 /// has another type, as far as types are known.
-fn items_differ(
-    alloc: Global,
-    note: &mut Note,
-    scene: &Scene,
-    list: &str,
-) -> Result<(), NoMemory> {
+fn items_differ(alloc: Global, note: &mut Note, scene: &Scene, list: &str) -> Result<(), NoMemory> {
     let (first, behind) = split_item(list);
     let mut first_type = Note::new(alloc);
     push_type_of(&mut first_type, scene, first)?;
