@@ -14,14 +14,17 @@ shift
 # Writes the files of each case below `work`, and its title and its texts.
 cases='
 function start(name) {
+  close(to)
+  close(folder ".texts")
   folder = work "/" (++cases)
   system("mkdir \"" folder "\"")
   print name >(folder ".title")
+  close(folder ".title")
   to = folder "/main.wdl"
 }
 /^#/ || /^$/ { next }
 /^== / { start(FILENAME ": " substr($0, 4)); next }
-/^file / { to = folder "/" substr($0, 6); next }
+/^file / { close(to); to = folder "/" substr($0, 6); next }
 /^[|]/ { line = substr($0, 3); gsub(/@bom@/, "\357\273\277", line); print line >to; next }
 /^= / { print substr($0, 3) >(folder ".texts"); next }
 { print FILENAME ":" FNR ": malformed" >(work "/malformed") }

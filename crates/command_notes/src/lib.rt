@@ -2,6 +2,7 @@
 #![tactic(auto)]
 
 mod recalling_shelf;
+mod renamed_library;
 
 pub use lint_notes::Runner;
 pub use recalling_shelf::RecallingShelf;

@@ -1,5 +1,6 @@
 ghost use Rattle.std.specs.Prelude.{◌≡◌};
 
+use crate::renamed_library::renamed_library;
 use code_notes::code_text;
 use fault_notes::document_note;
 use input_notes::{inputs_note, inputs_warning};
@@ -11,6 +12,9 @@ use wdl_port::{PathFile, ReadFault, Shelf};
 use wdl_typed::Checked;
 use wdl_value::{Env, Span, Text};
 use workflow_stages::Explain;
+
+/// The code of an alias of a struct that the imported document does not have.
+const ALIAS_UNKNOWN: u16 = 206;
 
 /// A shelf that keeps a copy of each file that it read, where there is memory for it, for the notes
 /// that quote it.
@@ -42,6 +46,21 @@ impl<F> RecallingShelf<F> {
             }
         }
         None
+    }
+
+    /// Copies of the files that were read, if there is memory for them.
+    fn copies(&self, alloc: Global) -> Option<Items<PathFile>> {
+        let mut files = Items::new(alloc);
+        for file in self.read.as_slice() {
+            let copy = copy_of(alloc, file.path.as_str(), file.bytes.as_slice())?;
+            files.push(copy).ok()?;
+        }
+        Some(files)
+    }
+
+    /// The library of the document whose struct an import of the one at a path renames.
+    fn renamed(&self, alloc: Global, path: &Text, span: Span) -> Option<Library> {
+        renamed_library(alloc, self.copies(alloc)?, path, span)
     }
 }
 
@@ -78,6 +97,10 @@ impl<F> Explain for RecallingShelf<F> {
         library: Option<&Library>,
     ) -> Option<String> {
         let bytes = self.recall(path.as_str())?;
+        if code == ALIAS_UNKNOWN {
+            let renamed = self.renamed(alloc, path, span);
+            return document_note(alloc, path.as_str(), bytes, code, span, renamed.as_ref()).ok();
+        }
         document_note(alloc, path.as_str(), bytes, code, span, library).ok()
     }
 

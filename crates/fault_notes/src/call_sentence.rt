@@ -1,7 +1,7 @@
 //! Sentences on calls.
 
 use crate::listed::{it_has, list};
-use fault_places::{Entry, Note, Part, Scene, imported, part_named, push_parts};
+use fault_places::{Entry, Note, Part, Scene, imported, namespace_with, part_named, push_parts};
 use std::alloc::Global;
 use wdl_ast::{Call, Document, InputDeclaration};
 use wdl_value::NoMemory;
@@ -36,6 +36,19 @@ fn parts(
     it_has(note, names.as_slice())
 }
 
+/// Appends the names of the imports of a document.
+fn namespaces(alloc: Global, note: &mut Note, scene: &Scene) -> Result<(), NoMemory> {
+    let mut names = Vec::new(alloc);
+    for link in scene.doc.imports.as_slice() {
+        names.push(link.namespace.as_str())?;
+    }
+    if names.is_empty() {
+        return Ok(());
+    }
+    note.push("; the imports have the names ")?;
+    list(note, names.as_slice())
+}
+
 /// A task or a workflow of another document that is not there.
 fn unknown_member(
     alloc: Global,
@@ -45,7 +58,8 @@ fn unknown_member(
     name: &str,
 ) -> Result<(), NoMemory> {
     let Some(other) = imported(scene.library, scene.doc, namespace) else {
-        return note.push_all(&["no import has the name `", namespace, "`"]);
+        note.push_all(&["no import has the name `", namespace, "`"])?;
+        return namespaces(alloc, note, scene);
     };
     let path = other.path.as_str();
     note.push_all(&[
@@ -71,7 +85,11 @@ pub fn unknown_task(alloc: Global, note: &mut Note, scene: &Scene) -> Result<(),
             "` is the workflow of this document: only that of an imported one can be called",
         ]);
     }
-    note.push_all(&["this document has no task `", name, "`; "])?;
+    note.push_all(&["this document has no task `", name, "`"])?;
+    if let Some(namespace) = namespace_with(scene.library, scene.doc, name) {
+        return note.push_all(&[": write `", namespace, ".", name, "`"]);
+    }
+    note.push("; ")?;
     parts(alloc, note, &scene.doc.document, false)
 }
 

@@ -1,10 +1,14 @@
 //! Sentences on scope and types.
 
 use crate::call_sentence::{input_missing, input_unknown, unknown_task};
-use crate::name_sentence::{duplicate, not_a_value, unknown_function, unknown_name, unknown_type};
-use crate::value_sentence::{
-    bad_arguments, bad_operands, expected, members_differ, no_coercion, no_member,
-};
+use crate::circle_hint::circle_hint;
+use crate::duplicate_sentence::duplicate;
+use crate::literal_hint::literal_hint;
+use crate::literal_sentence::members_differ;
+use crate::member_sentence::no_member;
+use crate::name_sentence::{not_a_value, unknown_function, unknown_name, unknown_type};
+use crate::optional_hint::{array_hint, condition_hint, value_hint};
+use crate::value_sentence::{bad_arguments, bad_operands, expected, no_coercion};
 use fault_places::{Note, Scene};
 use std::alloc::Global;
 use wdl_library::Library;
@@ -93,4 +97,32 @@ pub fn check_sentence(
         }
     }
     note.push(fixed(code))
+}
+
+fn hint_on(alloc: Global, note: &mut Note, scene: &Scene, code: u16) -> Result<(), NoMemory> {
+    match code {
+        303 => value_hint(alloc, note, scene),
+        310 => literal_hint(alloc, note, scene),
+        320 => circle_hint(alloc, note, scene),
+        325 => condition_hint(alloc, note, scene),
+        326 => array_hint(alloc, note, scene),
+        _ => Ok(()),
+    }
+}
+
+/// Appends what helps with a fault of a code of 301 to 330, as far as the library tells it.
+pub fn check_hint(
+    alloc: Global,
+    note: &mut Note,
+    code: u16,
+    bytes: &[u8],
+    span: Span,
+    library: Option<&Library>,
+) -> Result<(), NoMemory> {
+    if let Some(library) = library {
+        if let Some(scene) = Scene::new(alloc, library, bytes, span)? {
+            return hint_on(alloc, note, &scene, code);
+        }
+    }
+    Ok(())
 }

@@ -36,24 +36,49 @@ fn behind_word(place: &Place) -> &'static str {
     }
 }
 
+/// Whether a text can only go on with an expression.
+fn is_of_expression(words: &str) -> bool {
+    matches!(
+        words,
+        "+" | "-" | "*" | "/" | "%" | "(" | "." | "[" | "&&" | "||" | "==" | "!=" | "<" | ">"
+    )
+}
+
+/// What is said of the attributes of a section.
+fn attribute(place: &Place, section: &str) -> &'static str {
+    let begun = is_identifier(place.front.as_bytes())
+        && place.front_begins()
+        && !begins_section(place.front);
+    match section {
+        "runtime" | "meta" | "parameter_meta" if begun => ": expected `:` before it",
+        "meta" | "parameter_meta" if is_of_expression(place.words) || is_name(place.words) => {
+            ": a value in `meta` is a literal, and no expression"
+        }
+        _ => "",
+    }
+}
+
 /// What a section or a call takes in place of a mark.
 fn other_mark(place: &Place) -> &'static str {
     let head = before_brace(place);
     let section = last_word(head);
     match place.words {
+        "." if section == "output" && place.front_begins() => {
+            ": an output has a type, a name and `=`, as `File x = t.o`"
+        }
         "=" if matches!(section, "runtime" | "meta" | "parameter_meta") => ": expected `:`",
         "," if matches!(section, "input" | "output") => {
             ": declarations stand without commas between them"
         }
         ":" if calls(head) => ": expected `=`",
-        _ => "",
+        _ => attribute(place, section),
     }
 }
 
 /// What the body of a task lacks or does not hold.
 fn in_task(place: &Place, body: &str) -> &'static str {
     match place.words {
-        "call" | "scatter" => ": it stands in a workflow, and this is a task",
+        "call" | "scatter" | "if" => ": it stands in a workflow, and this is a task",
         "input" | "output" | "command" | "runtime" | "meta" | "parameter_meta" => {
             ": this task has such a section already"
         }
@@ -73,6 +98,18 @@ fn in_workflow(place: &Place) -> &'static str {
     }
 }
 
+/// What the body of a struct does not hold.
+fn in_struct(place: &Place) -> &'static str {
+    match place.words {
+        "=" => ": a member of a struct has no value",
+        "," => ": the members of a struct stand without commas between them",
+        "input" | "output" | "command" | "runtime" | "meta" | "parameter_meta" => {
+            ": a struct has members alone, and no sections"
+        }
+        _ => "",
+    }
+}
+
 /// What the body of a task, a workflow or a struct does not hold.
 fn other_body(place: &Place) -> &'static str {
     let head = before_brace(place);
@@ -80,7 +117,7 @@ fn other_body(place: &Place) -> &'static str {
     match last_word(before_word(head)) {
         "task" => in_task(place, str::from_utf8(body).unwrap_or("")),
         "workflow" => in_workflow(place),
-        "struct" if place.words == "=" => ": a member of a struct has no value",
+        "struct" => in_struct(place),
         _ => "",
     }
 }
@@ -108,6 +145,36 @@ fn around(place: &Place) -> &'static str {
     }
 }
 
+/// What is said of the options of a placeholder.
+fn in_placeholder(place: &Place) -> &'static str {
+    let inside = match place.brackets.last() {
+        Some(opening) if opening.bracket == Bracket::Placeholder => {
+            place.before.get((opening.at as usize).saturating_add(2)..)
+        }
+        _ => None,
+    };
+    let code = str::from_utf8(inside.unwrap_or(&[])).unwrap_or("").trim();
+    let Some((option, value)) = code.split_once('=') else {
+        return "";
+    };
+    match (option.trim(), value.trim()) {
+        ("sep" | "default" | "true" | "false", "") => ": expected a text in quotes",
+        ("true", text) if is_quoted(text) => ": expected `false=` too, as `false=\"\"`",
+        ("false", text) if is_quoted(text) => ": expected `true=` too, as `true=\"\"`",
+        _ => "",
+    }
+}
+
+/// Whether a text is one string.
+fn is_quoted(text: &str) -> bool {
+    let inside = match text.as_bytes() {
+        [b'"', inside @ .., b'"'] => inside,
+        [b'\'', inside @ .., b'\''] => inside,
+        _ => return false,
+    };
+    !inside.contains(&b'"') && !inside.contains(&b'\'')
+}
+
 /// What is said of a type behind its name.
 fn late_type(place: &Place) -> &'static str {
     let declares = is_name(place.front) && place.front_begins();
@@ -123,6 +190,10 @@ pub fn expectation(place: &Place) -> &'static str {
         return ": expected a value before it";
     }
     let said = behind_word(place);
+    if !said.is_empty() {
+        return said;
+    }
+    let said = in_placeholder(place);
     if !said.is_empty() {
         return said;
     }

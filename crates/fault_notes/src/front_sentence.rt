@@ -67,6 +67,15 @@ fn may_be_section(place: &Place) -> bool {
         && place.is_in(Bracket::Brace)
 }
 
+/// What is said of a statement of other languages.
+fn foreign_statement(word: &str) -> &'static str {
+    match word {
+        "for" | "foreach" => "; did you mean `scatter`?",
+        "elif" | "elsif" | "elseif" => ": write a second `if (..)`",
+        _ => "",
+    }
+}
+
 /// The sentence on the word in front of a place, and its span.
 pub fn word_in_front(
     alloc: Global,
@@ -77,12 +86,9 @@ pub fn word_in_front(
         return no_section(alloc, note, place);
     }
     if place.words == "(" && place.front_begins() {
-        if matches!(place.front, "for" | "foreach") {
-            note.push_all(&[
-                "`",
-                place.front,
-                "` is no statement; did you mean `scatter`?",
-            ])?;
+        let said = foreign_statement(place.front);
+        if !said.is_empty() {
+            note.push_all(&["`", place.front, "` is no statement", said])?;
             return Ok(Some(place.front_span()));
         }
         return no_statement(alloc, note, place.front, &BLOCKS, place.front_span());

@@ -1,6 +1,9 @@
 //! Sentences on imports.
 
+use crate::listed::it_has;
 use fault_places::{Note, words_at};
+use std::alloc::Global;
+use wdl_library::Library;
 use wdl_value::{NoMemory, Span};
 
 /// The sentences that say the same of each import.
@@ -24,12 +27,42 @@ fn fixed(code: u16) -> &'static str {
     }
 }
 
-/// Appends the sentence on a code of 201 to 207.
+/// Appends the structs that the first document of a library sees.
+fn structs(alloc: Global, note: &mut Note, library: &Library) -> Result<(), NoMemory> {
+    let Some(doc) = library.docs.as_slice().first() else {
+        return Ok(());
+    };
+    let mut names = Vec::new(alloc);
+    for seen in doc.structs.as_slice() {
+        names.push(seen.name.as_str())?;
+    }
+    note.push("; ")?;
+    it_has(note, names.as_slice())
+}
+
+/// A struct that an imported document, the first of the library, does not have.
+fn unknown_struct(
+    alloc: Global,
+    note: &mut Note,
+    words: &str,
+    imported: Option<&Library>,
+) -> Result<(), NoMemory> {
+    note.push_all(&["`", words, "` is no struct of the imported document"])?;
+    match imported {
+        Some(library) => structs(alloc, note, library),
+        None => Ok(()),
+    }
+}
+
+/// Appends the sentence on a code of 201 to 207. For 206 the library is that of the imported
+/// document.
 pub fn import_sentence(
+    alloc: Global,
     note: &mut Note,
     code: u16,
     bytes: &[u8],
     span: Span,
+    library: Option<&Library>,
 ) -> Result<(), NoMemory> {
     let words = words_at(bytes, span);
     match code {
@@ -41,7 +74,7 @@ pub fn import_sentence(
             words,
             " as Other` behind its import",
         ]),
-        206 => note.push_all(&["`", words, "` is no struct of the imported document"]),
+        206 => unknown_struct(alloc, note, words, library),
         _ => note.push(fixed(code)),
     }
 }

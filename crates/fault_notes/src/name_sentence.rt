@@ -2,10 +2,11 @@
 
 use crate::later::{is_later_function, of_1_2};
 use crate::listed::{it_has, list};
-use crate::near::{TYPES, did_you_mean, foreign_type, near_function, nearest};
-use fault_places::{Entry, Note, Part, Scene, part_named, position_of};
+use crate::near::{TYPES, did_you_mean, foreign_type, foreign_value, near_function, nearest};
+use fault_places::{Entry, Note, Part, Scene, part_named, text_behind};
 use std::alloc::Global;
-use wdl_value::{NoMemory, Span, is_identifier};
+use wdl_ast::Call;
+use wdl_value::{NoMemory, is_identifier};
 
 /// A name that is declared, and cannot be seen where it is used.
 fn hidden(note: &mut Note, scene: &Scene, entry: Entry) -> Result<(), NoMemory> {
@@ -38,6 +39,47 @@ fn no_output(
     outputs(alloc, note, part)
 }
 
+/// What a call of the task or workflow with that name is named; none where each is named by that.
+fn alias_of<'a>(scene: &Scene<'a>, name: &str) -> Option<&'a str> {
+    for entry in &scene.entries {
+        if let Entry::Call(call) = entry {
+            if let Some(renaming) = &call.alias {
+                if target_name(call) == name {
+                    return Some(renaming.name.name.as_str());
+                }
+            }
+        }
+    }
+    None
+}
+
+/// The name of the task or workflow that is called.
+fn target_name(call: &Call) -> &str {
+    match &call.target.second {
+        Some(member) => member.name.name.as_str(),
+        None => call.target.first.name.as_str(),
+    }
+}
+
+/// The name of a task or workflow, whose call has another.
+fn other_name(note: &mut Note, scene: &Scene, name: &str, alias: &str) -> Result<(), NoMemory> {
+    note.push_all(&["the call of `", name, "` has the name `", alias, "`"])?;
+    let behind = text_behind(scene.bytes, scene.span).strip_prefix('.');
+    let (output, _) = behind
+        .unwrap_or("")
+        .split_once(ends_name)
+        .unwrap_or(("", ""));
+    if output.is_empty() {
+        return Ok(());
+    }
+    note.push_all(&[": write `", alias, ".", output, "`"])
+}
+
+/// Whether a character ends a name.
+fn ends_name(c: char) -> bool {
+    !c.is_ascii_alphanumeric() && c != '_'
+}
+
 /// 301.
 pub fn unknown_name(alloc: Global, note: &mut Note, scene: &Scene) -> Result<(), NoMemory> {
     let name = scene.words;
@@ -49,6 +91,9 @@ pub fn unknown_name(alloc: Global, note: &mut Note, scene: &Scene) -> Result<(),
     if let Some(entry) = scene.entry_named(name) {
         return hidden(note, scene, entry);
     }
+    if let Some(alias) = alias_of(scene, name) {
+        return other_name(note, scene, name, alias);
+    }
     if part_named(&scene.doc.document, name).is_some() {
         return note.push_all(&[
             "`",
@@ -57,6 +102,9 @@ pub fn unknown_name(alloc: Global, note: &mut Note, scene: &Scene) -> Result<(),
         ]);
     }
     note.push_all(&["the name `", name, "` is not known here"])?;
+    if let Some(own) = foreign_value(name) {
+        return note.push_all(&["; did you mean `", own, "`?"]);
+    }
     near_entry(alloc, note, scene, name)
 }
 
@@ -79,6 +127,9 @@ pub fn unknown_function(alloc: Global, note: &mut Note, scene: &Scene) -> Result
         return of_1_2(note, name, "");
     }
     note.push_all(&["`", name, "` is no function that this language has"])?;
+    if name == "not" {
+        return note.push(": write `!`");
+    }
     near_function(alloc, note, name)
 }
 
@@ -90,33 +141,6 @@ pub fn not_a_value(alloc: Global, note: &mut Note, scene: &Scene) -> Result<(), 
         Some(part) => {
             note.push(": ")?;
             outputs(alloc, note, part)
-        }
-        None => Ok(()),
-    }
-}
-
-/// Where a name of the task or workflow around a fault stands first.
-fn first_entry(scene: &Scene) -> Option<Span> {
-    let entry = scene.entry_named(scene.words)?;
-    Some(entry.name()?.span)
-}
-
-/// Where a task or workflow of the name at a fault stands first.
-fn first_part(scene: &Scene) -> Option<Span> {
-    let part = part_named(&scene.doc.document, scene.words)?;
-    Some(part.ident().span)
-}
-
-/// 321.
-pub fn duplicate(note: &mut Note, scene: &Scene) -> Result<(), NoMemory> {
-    let earlier = |span: &Span| span.start < scene.span.start;
-    let first = first_entry(scene).filter(earlier);
-    note.push_all(&["the name `", scene.words, "` is given twice"])?;
-    match first.or(first_part(scene).filter(earlier)) {
-        Some(first) => {
-            note.push("; it stands in line ")?;
-            note.push_number(position_of(scene.bytes, first.start).line)?;
-            note.push(" too")
         }
         None => Ok(()),
     }

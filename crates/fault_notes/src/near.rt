@@ -92,6 +92,16 @@ pub fn near_function(alloc: Global, note: &mut Note, word: &str) -> Result<(), N
     did_you_mean(alloc, note, word, &FUNCTIONS)
 }
 
+/// The value of this language for the name of one in others.
+pub fn foreign_value(word: &str) -> Option<&'static str> {
+    match word {
+        "True" | "TRUE" => Some("true"),
+        "False" | "FALSE" => Some("false"),
+        "null" | "Null" | "NULL" | "nil" | "none" | "NONE" | "undefined" => Some("None"),
+        _ => None,
+    }
+}
+
 /// The type of this language for the name of one in others.
 pub fn foreign_type(word: &str) -> Option<&'static str> {
     match word {

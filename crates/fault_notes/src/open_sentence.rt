@@ -3,7 +3,9 @@
 use crate::expected_sentence::before_brace;
 use crate::later::calls;
 use crate::place::{Place, has_newline};
-use fault_places::{Bracket, Brackets, Note, Opening, bytes_before, last_word, position_of};
+use fault_places::{
+    Bracket, Brackets, Note, Opening, before_word, bytes_before, last_word, position_of,
+};
 use std::alloc::Global;
 use wdl_value::{NoMemory, Span, is_reserved};
 
@@ -68,7 +70,7 @@ fn closes_another(place: &Place) -> bool {
 }
 
 /// Whether code can end an operand.
-fn ends_operand(code: &[u8]) -> bool {
+pub fn ends_operand(code: &[u8]) -> bool {
     match code.last() {
         Some(byte) => {
             byte.is_ascii_alphanumeric() || matches!(byte, b'_' | b')' | b']' | b'"' | b'\'')
@@ -129,11 +131,6 @@ fn open_brace(
     note.push(" is not closed")
 }
 
-/// The word before a brace.
-fn word_before<'a>(place: &Place<'a>, opening: Opening) -> &'a str {
-    last_word(bytes_before(place.bytes, opening.at))
-}
-
 /// A section or a statement begins where a bracket is open.
 fn at_section(
     note: &mut Note,
@@ -189,30 +186,32 @@ fn in_call(note: &mut Note, place: &Place, opening: Opening) -> Result<Option<Sp
     to_close(note, place, place.words, opening, "`,` or ")
 }
 
-/// Whether the line before a place is a type and a name.
-fn declares(place: &Place) -> bool {
-    let line = match place.before.iter().rposition(|byte| *byte == b'\n') {
-        Some(newline) => &place.before[newline + 1..],
-        None => place.before,
-    };
-    let line = str::from_utf8(line).unwrap_or("").trim();
-    let (word, _) = line.split_once(ends_word).unwrap_or((line, ""));
-    begins_type(word) && word != line && !is_reserved(place.front) && !line.contains('=')
+/// The word with which code begins.
+pub fn first_word(code: &str) -> &str {
+    let (word, _) = code.split_once(ends_word).unwrap_or((code, ""));
+    word
 }
 
-/// Whether a character ends the word with which a type begins.
+/// Whether the statement before a place is a type and a name.
+pub fn declares(place: &Place) -> bool {
+    let code = place.statement();
+    let word = first_word(code);
+    begins_type(word) && word != code && !is_reserved(place.front) && !code.contains('=')
+}
+
+/// Whether a character ends a word.
 fn ends_word(c: char) -> bool {
     !c.is_ascii_alphanumeric()
 }
 
 /// A declaration without a value, where it needs one.
 pub fn no_value(note: &mut Note, place: &Place) -> Result<Option<Span>, NoMemory> {
-    let section = match place.brackets.last() {
-        Some(opening) if opening.bracket == Bracket::Brace => word_before(place, opening),
-        _ => return Ok(None),
-    };
-    let front = place.front;
-    if section == "input" || place.words == "=" || front.is_empty() || !declares(place) {
+    if !place.is_in(Bracket::Brace) || place.words == "=" || place.front.is_empty() {
+        return Ok(None);
+    }
+    let head = before_brace(place);
+    let section = last_word(head);
+    if section == "input" || last_word(before_word(head)) == "struct" || !declares(place) {
         return Ok(None);
     }
     note.push_all(&["`", place.front, "` has no value: expected `=`"])?;

@@ -1,6 +1,7 @@
 //! Sentences on operators and their operands.
 
 use crate::operation::{Operation, operation_of};
+use crate::optional_hint::{repeated, select_first};
 use crate::value_type::push_type_of;
 use fault_places::{Note, Scene};
 use std::alloc::Global;
@@ -13,6 +14,10 @@ const MOST_QUOTED: usize = 60;
 const TEXTS: &str = "a String or File and a Boolean, Int, String or File";
 
 const SUM: &str = "Int and Int, or a String or File and a Boolean, Int, String or File";
+
+/// What is said of a second `+`, which is read as the sign of the operand behind it.
+const NO_DOUBLE_PLUS: &str =
+    ": there is no operator `++`; texts are joined by `+`, and arrays by `flatten([.., ..])`";
 
 /// Whether a type is String or File, perhaps optional.
 fn is_text(ty: &str) -> bool {
@@ -29,16 +34,6 @@ fn taken(operator: &str, left: &str, right: &str) -> &'static str {
         "<" | "<=" | ">" | ">=" => "two Booleans, two Ints or two Strings",
         "&&" | "||" => "Boolean and Boolean",
         _ => "two values with a type in common",
-    }
-}
-
-/// A value that can stand in for one of an optional type, behind a comma.
-fn stand_in(ty: &str) -> &'static str {
-    match ty {
-        "Int?" => ", 0",
-        "String?" => ", \"\"",
-        "Boolean?" => ", false",
-        _ => ", ..",
     }
 }
 
@@ -70,9 +65,8 @@ fn is_of(note: &mut Note, text: &str, ty: &str) -> Result<(), NoMemory> {
 fn optional(note: &mut Note, text: &str, ty: &str) -> Result<(), NoMemory> {
     note.push("; ")?;
     is_of(note, text, ty)?;
-    note.push_all(&[": write `select_first([", text])?;
-    note.push(stand_in(ty))?;
-    note.push("])`")
+    note.push(": ")?;
+    select_first(note, text, ty)
 }
 
 /// Appends the types of both operands, as far as they are known.
@@ -86,6 +80,22 @@ fn both(note: &mut Note, operation: Operation, left: &str, right: &str) -> Resul
         is_of(note, operation.right, right)?;
     }
     Ok(())
+}
+
+/// Whether an operand is an array.
+fn is_array(text: &str, ty: &str) -> bool {
+    ty.starts_with("Array[") || text.starts_with('[')
+}
+
+/// Appends how arrays are joined.
+fn joined_arrays(note: &mut Note, left: &str, right: &str) -> Result<(), NoMemory> {
+    note.push_all(&[
+        "; arrays are joined by `flatten([",
+        repeated(left),
+        ", ",
+        repeated(right),
+        "])`",
+    ])
 }
 
 /// Appends what operands of these types have to do with the fault.
@@ -104,7 +114,12 @@ fn operands(
     if right.ends_with('?') {
         return optional(note, operation.right, right);
     }
-    both(note, operation, left, right)
+    both(note, operation, left, right)?;
+    let arrays = is_array(operation.left, left) && is_array(operation.right, right);
+    if arrays && operation.operator == "+" {
+        return joined_arrays(note, operation.left, operation.right);
+    }
+    Ok(())
 }
 
 /// An operator between two operands.
@@ -175,6 +190,12 @@ pub fn operands_differ(alloc: Global, note: &mut Note, scene: &Scene) -> Result<
     }
     if let Some(operand) = text.strip_prefix('-') {
         return unary(alloc, note, scene, "`-` takes an Int", operand.trim());
+    }
+    if let Some(operand) = text.strip_prefix('+') {
+        if scene.before.ends_with('+') {
+            return note.push(NO_DOUBLE_PLUS);
+        }
+        return unary(alloc, note, scene, "`+` takes an Int", operand.trim());
     }
     if let Some(value) = text.strip_suffix(']') {
         return index(alloc, note, scene, value);

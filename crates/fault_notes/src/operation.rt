@@ -1,5 +1,7 @@
 //! The operation at the top of an expression, as it is written.
 
+use crate::nesting::Nesting;
+
 /// Two operands and the operator between them.
 #[derive(Clone, Copy)]
 pub struct Operation<'a> {
@@ -19,9 +21,7 @@ struct Seen {
 /// What is known of an expression up to some byte of it.
 #[derive(Clone, Copy)]
 struct Walk {
-    depth: usize,
-    quote: Option<u8>,
-    escaped: bool,
+    nesting: Nesting,
     /// Whether an operand ended before.
     behind_operand: bool,
     best: Option<Seen>,
@@ -53,18 +53,6 @@ fn ends_operand(byte: u8) -> bool {
 }
 
 impl Walk {
-    /// Takes a byte inside a string.
-    fn step_string(&mut self, byte: u8, quote: u8) {
-        if self.escaped {
-            self.escaped = false;
-        } else if byte == b'\\' {
-            self.escaped = true;
-        } else if byte == quote {
-            self.quote = None;
-            self.behind_operand = true;
-        }
-    }
-
     /// Keeps an operator that binds at most as tightly as those before.
     fn keep(&mut self, at: usize, operator: &'static str, level: u32) {
         let looser = match self.best {
@@ -80,19 +68,14 @@ impl Walk {
         }
     }
 
-    /// Takes a byte outside strings, with the text that begins with it.
-    fn step_code(&mut self, at: usize, byte: u8, text: &[u8]) {
-        match byte {
-            b'"' | b'\'' => self.quote = Some(byte),
-            b'(' | b'[' | b'{' => self.depth = self.depth.saturating_add(1),
-            b')' | b']' | b'}' => self.depth = self.depth.saturating_sub(1),
-            _ => {}
-        }
-        if self.depth == 0 && self.behind_operand {
+    /// Takes a byte, with the text that begins with it.
+    fn step(&mut self, at: usize, byte: u8, text: &[u8]) {
+        if self.behind_operand && self.nesting.is_outside() {
             if let Some((operator, level)) = operator_at(text) {
                 self.keep(at, operator, level);
             }
         }
+        self.nesting.step(byte);
         if !byte.is_ascii_whitespace() {
             self.behind_operand = ends_operand(byte);
         }
@@ -102,17 +85,12 @@ impl Walk {
 /// The operator that binds most loosely, the last of these.
 fn loosest(bytes: &[u8]) -> Option<Seen> {
     let mut walk = Walk {
-        depth: 0,
-        quote: None,
-        escaped: false,
+        nesting: Nesting::new(),
         behind_operand: false,
         best: None,
     };
     for (at, byte) in bytes.iter().enumerate() {
-        match walk.quote {
-            Some(quote) => walk.step_string(*byte, quote),
-            None => walk.step_code(at, *byte, bytes.get(at..).unwrap_or(&[])),
-        }
+        walk.step(at, *byte, bytes.get(at..).unwrap_or(&[]));
     }
     walk.best
 }

@@ -1,7 +1,7 @@
 //! A place of a document where the text is not as the grammar wants it.
 
 use fault_places::{
-    Bracket, Brackets, Note, Opening, before_word, bytes_before, last_word, position_of,
+    Bracket, Brackets, Note, Opening, before_word, bytes_before, last_line, last_word, position_of,
 };
 use std::alloc::Global;
 use wdl_value::{NoMemory, Span};
@@ -92,7 +92,38 @@ impl<'a> Place<'a> {
         }
     }
 
-    /// The innermost bracket, if it is of that kind.
+    /// What stands behind the place.
+    pub fn behind(&self) -> &'a [u8] {
+        self.bytes.get(self.span.end as usize..).unwrap_or(&[])
+    }
+
+    /// The code before the place, behind the last newline or brace of it.
+    pub fn statement(&self) -> &'a str {
+        let code = str::from_utf8(self.before).unwrap_or("");
+        match code.rsplit_once(begins_statement) {
+            Some((_, statement)) => statement.trim(),
+            None => code.trim(),
+        }
+    }
+
+    /// The bytes before the place in its line.
+    pub fn line_before(&self) -> &'a [u8] {
+        last_line(bytes_before(self.bytes, self.span.start))
+    }
+
+    /// Whether a `#` stands before a byte in its line, so that it may stand in a comment.
+    pub fn is_in_comment(&self, at: u32) -> bool {
+        last_line(bytes_before(self.bytes, at)).contains(&b'#')
+    }
+
+    /// Whether the place stands in no command and in no placeholder.
+    pub fn is_in_code(&self) -> bool {
+        self.brackets.placeholder().is_none()
+            && !self.is_in(Bracket::Fence)
+            && !self.is_in(Bracket::CommandBrace)
+    }
+
+    /// Whether the innermost bracket is of that kind.
     pub fn is_in(&self, bracket: Bracket) -> bool {
         match self.brackets.last() {
             Some(opening) => opening.bracket == bracket,
@@ -110,12 +141,23 @@ impl<'a> Place<'a> {
         }
     }
 
+    /// Appends the text at the place, and that it is not expected.
+    pub fn push_unexpected(&self, note: &mut Note) -> Result<(), NoMemory> {
+        note.push_quoted(self.words)?;
+        note.push(" is not expected here")
+    }
+
     /// Appends a bracket with its line: `` `{` of line 4 ``.
     pub fn push_opening(&self, note: &mut Note, opening: Opening) -> Result<(), NoMemory> {
         note.push_quoted(opening.bracket.opening())?;
         note.push(" of line ")?;
         note.push_number(position_of(self.bytes, opening.at).line)
     }
+}
+
+/// Whether a statement begins behind a character.
+fn begins_statement(c: char) -> bool {
+    matches!(c, '\n' | '{' | '}')
 }
 
 /// Whether the code before a word ends with a newline, a brace or nothing, so that the word begins

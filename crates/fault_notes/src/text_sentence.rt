@@ -1,7 +1,10 @@
 //! Sentences on tokens and grammar.
 
+use crate::bad_name::bad_name;
 use crate::expected_sentence::expectation;
+use crate::foreign_comment::foreign_comment;
 use crate::front_sentence::{PARTS, word_in_front};
+use crate::habit_sentence::foreign;
 use crate::later::later_version;
 use crate::near::did_you_mean;
 use crate::open_sentence::{cut_command, no_value, open_bracket, open_placeholder};
@@ -27,6 +30,8 @@ fn stray(note: &mut Note, words: &str) -> Result<(), NoMemory> {
              number has no leading zero",
         ]),
         [b';'] => note.push("`;` is no part of the language: a declaration ends without it"),
+        [b'&'] => note.push("`&` is no part of the language: write `&&`"),
+        [b'|'] => note.push("`|` is no part of the language: write `||`"),
         _ if words == BYTE_ORDER_MARK => {
             note.push("the file begins with a byte order mark: save it without one")
         }
@@ -47,8 +52,7 @@ fn too_long(note: &mut Note, words: &str, span: Span) -> Result<(), NoMemory> {
 
 /// A token that nothing else is said of.
 fn not_expected(alloc: Global, note: &mut Note, place: &Place) -> Result<(), NoMemory> {
-    note.push_quoted(place.words)?;
-    note.push(" is not expected here")?;
+    place.push_unexpected(note)?;
     let expected = expectation(place);
     if !expected.is_empty() {
         return note.push(expected);
@@ -74,6 +78,12 @@ fn unexpected(alloc: Global, note: &mut Note, place: &Place) -> Result<Span, NoM
         return Ok(shown);
     }
     if let Some(shown) = cut_command(note, place)? {
+        return Ok(shown);
+    }
+    if let Some(shown) = bad_name(note, place)? {
+        return Ok(shown);
+    }
+    if let Some(shown) = foreign(alloc, note, place)? {
         return Ok(shown);
     }
     let at_end = text_behind(place.bytes, place.span).is_empty();
@@ -166,9 +176,17 @@ fn fixed(code: u16) -> &'static str {
     }
 }
 
+/// Whether a text has its version behind its first line.
+fn has_later_header(bytes: &[u8]) -> bool {
+    str::from_utf8(bytes).unwrap_or("").contains("\nversion ")
+}
+
 /// What is said behind the sentence on a document of another version.
-fn other_version(words: &str) -> &'static str {
+fn other_version(bytes: &[u8], words: &str) -> &'static str {
     match words {
+        "task" | "workflow" | "import" | "struct" if has_later_header(bytes) => {
+            "; `version 1.1` stands before all else but comments"
+        }
         "1.0" => {
             "; most documents of version 1.0 need only that header (docs/MOVING.md, \"Versions\")"
         }
@@ -208,6 +226,9 @@ fn earlier_cause(
     if let Some(shown) = misspelt_command(alloc, note, place)? {
         return Ok(Some(shown));
     }
+    if let Some(shown) = foreign_comment(note, place)? {
+        return Ok(Some(shown));
+    }
     if code == 104 {
         let end = fence_end(place.bytes, place.span);
         let brackets = Brackets::open_before(alloc, place.bytes, end)?;
@@ -220,7 +241,13 @@ fn earlier_cause(
 }
 
 /// The sentence on a code that depends on its text alone.
-fn plain(note: &mut Note, code: u16, words: &str, span: Span) -> Result<(), NoMemory> {
+fn plain(
+    note: &mut Note,
+    code: u16,
+    bytes: &[u8],
+    words: &str,
+    span: Span,
+) -> Result<(), NoMemory> {
     match code {
         102 => stray(note, words),
         106 => note.push_all(&[
@@ -231,7 +258,7 @@ fn plain(note: &mut Note, code: u16, words: &str, span: Span) -> Result<(), NoMe
         107 => too_long(note, words, span),
         112 => {
             note.push(fixed(code))?;
-            note.push(other_version(words))
+            note.push(other_version(bytes, words))
         }
         120..=123 => left_out(note, words, code),
         _ => note.push(fixed(code)),
@@ -258,6 +285,6 @@ pub fn text_sentence(
             return Ok(shown);
         }
     }
-    plain(note, code, words, span)?;
+    plain(note, code, bytes, words, span)?;
     Ok(span)
 }

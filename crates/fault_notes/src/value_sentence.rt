@@ -1,13 +1,12 @@
 //! Sentences on values and their types.
 
 use crate::function::usage_of;
-use crate::listed::list;
 use crate::operand_sentence::operands_differ;
 use crate::value_type::push_type_of;
-use fault_places::{Declared, Entry, Note, Scene, text_behind, type_text};
+use fault_places::{Entry, Note, Scene, type_text};
 use std::alloc::Global;
 use wdl_ast::{Argument, Call, Declaration, Ident, InputDeclaration, TypeTree};
-use wdl_value::{NoMemory, Span, StructDef, is_identifier};
+use wdl_value::{NoMemory, Span};
 
 /// What stands at a fault: its text, and its type where a declaration says it.
 fn found(note: &mut Note, scene: &Scene) -> Result<(), NoMemory> {
@@ -31,9 +30,9 @@ pub fn expected(note: &mut Note, scene: &Scene, wanted: &str) -> Result<(), NoMe
 
 /// What a value is for: a name, and its type.
 #[derive(Clone, Copy)]
-struct Wanted<'a> {
-    name: &'a Ident,
-    ty: &'a TypeTree,
+pub struct Wanted<'a> {
+    pub name: &'a Ident,
+    pub ty: &'a TypeTree,
 }
 
 /// Whether a fault stands directly behind this `=`.
@@ -96,7 +95,7 @@ fn wanted_by<'a>(scene: &Scene<'a>, entry: Entry<'a>) -> Option<Wanted<'a>> {
 }
 
 /// What the value at a fault is for.
-fn wanted_at<'a>(scene: &Scene<'a>) -> Option<Wanted<'a>> {
+pub fn wanted_at<'a>(scene: &Scene<'a>) -> Option<Wanted<'a>> {
     for entry in &scene.entries {
         if let Some(wanted) = wanted_by(scene, *entry) {
             return Some(wanted);
@@ -183,112 +182,4 @@ pub fn bad_arguments(note: &mut Note, scene: &Scene) -> Result<(), NoMemory> {
     }
     note.push(": expected ")?;
     note.push_quoted(usage)
-}
-
-/// Whether a character belongs to a name or to `call.output`.
-fn is_of_name(c: char) -> bool {
-    c.is_ascii_alphanumeric() || c == '_' || c == '.'
-}
-
-/// The name or `call.output` before the dot that stands before a fault; empty where there is
-/// another expression.
-fn owner_of<'a>(scene: &Scene<'a>) -> &'a str {
-    let Some(owner) = scene.before.strip_suffix('.') else {
-        return "";
-    };
-    let others = owner.trim_end_matches(is_of_name);
-    owner.strip_prefix(others).unwrap_or("")
-}
-
-/// Appends the members of a struct.
-fn members(alloc: Global, note: &mut Note, def: &StructDef) -> Result<(), NoMemory> {
-    let mut names = Vec::new(alloc);
-    for member in def.members.as_slice() {
-        names.push(member.name.as_str())?;
-    }
-    list(note, names.as_slice())
-}
-
-/// A member that a value of that type does not have.
-fn no_member_of(alloc: Global, note: &mut Note, scene: &Scene, ty: &str) -> Result<(), NoMemory> {
-    let words = scene.words;
-    if let Some(def) = scene.struct_named(ty) {
-        note.push_all(&["`", words, "` is no member of struct `", ty, "`; it has "])?;
-        return members(alloc, note, def);
-    }
-    if ty.starts_with("Pair[") {
-        return note.push_all(&[
-            "`",
-            words,
-            "` is no member of a pair; it has `left` and `right`",
-        ]);
-    }
-    note.push_all(&["`", words, "`: a value of type `", ty, "` has no members"])
-}
-
-/// A member that a value of a declared type does not have.
-fn no_member_of_declared(
-    alloc: Global,
-    note: &mut Note,
-    scene: &Scene,
-    declared: Declared,
-) -> Result<(), NoMemory> {
-    let mut ty = Note::new(alloc);
-    scene.push_type(&mut ty, declared)?;
-    no_member_of(alloc, note, scene, ty.as_str())
-}
-
-/// 306.
-pub fn no_member(alloc: Global, note: &mut Note, scene: &Scene) -> Result<(), NoMemory> {
-    if let Some(declared) = scene.declared(owner_of(scene)) {
-        return no_member_of_declared(alloc, note, scene, declared);
-    }
-    note.push_all(&[
-        "`",
-        scene.words,
-        "` is no member of this value: a pair has `left` and `right`, and a struct its own",
-    ])
-}
-
-/// A struct literal with a member too few, a foreign one or one twice.
-fn bad_literal(alloc: Global, note: &mut Note, scene: &Scene) -> Result<(), NoMemory> {
-    let words = scene.words;
-    if let Some(def) = scene.struct_named(words) {
-        if text_behind(scene.bytes, scene.span).starts_with('{') {
-            note.push_all(&[
-                "this `",
-                words,
-                "` lacks a member that it requires; it has ",
-            ])?;
-            return members(alloc, note, def);
-        }
-    }
-    note.push_all(&[
-        "`",
-        words,
-        "` is no member of the struct, or is given twice",
-    ])
-}
-
-/// What has no common type in a literal or a choice; none where a struct literal is at fault.
-fn without_type(words: &str) -> Option<&'static str> {
-    if words.starts_with('[') {
-        Some("the items of this list")
-    } else if words.starts_with('{') {
-        Some("the keys or the values of this map")
-    } else if words.starts_with("if") && !is_identifier(words.as_bytes()) {
-        Some("the branches of this `if`")
-    } else {
-        None
-    }
-}
-
-/// 310.
-pub fn members_differ(alloc: Global, note: &mut Note, scene: &Scene) -> Result<(), NoMemory> {
-    let Some(what) = without_type(scene.words) else {
-        return bad_literal(alloc, note, scene);
-    };
-    note.push(what)?;
-    note.push(" have no common type: ")?;
-    scene.quote(note)
 }

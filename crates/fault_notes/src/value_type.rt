@@ -1,6 +1,7 @@
 //! The types of values, as far as their text and the declarations around them tell.
 
 use crate::function::result_of;
+use crate::items::split_item;
 use crate::operation::operation_of;
 use fault_places::{Declared, Note, Scene, type_text};
 use wdl_ast::{BaseType, TypeTree};
@@ -9,10 +10,15 @@ use wdl_value::{NoMemory, is_identifier};
 /// The most operators of a sum that are looked at.
 const MOST_TERMS: u32 = 16;
 
-/// The type of a value: one without parts, that of a declaration, or one as it is written.
+/// The most items of a list that are looked at.
+const MOST_ITEMS: u32 = 64;
+
+/// The type of a value: one without parts, an array of one without parts, that of a declaration, or
+/// one as it is written.
 #[derive(Clone, Copy)]
 pub enum Known<'a> {
     Fixed(&'static str),
+    List(&'static str),
     Declared(Declared<'a>),
     Written(&'a TypeTree),
 }
@@ -52,6 +58,42 @@ fn fixed_type(text: &str) -> Option<&'static str> {
     }
 }
 
+/// The type of an item without operators, where it has no parts.
+fn plain_type(item: &str) -> Option<&'static str> {
+    match operation_of(item) {
+        Some(_) => None,
+        None => fixed_type(item),
+    }
+}
+
+/// The type of all items of a list whose opening bracket stands before the text, where they have
+/// the same without parts.
+fn type_of_items(list: &str) -> Option<&'static str> {
+    let (first, behind) = split_item(list);
+    let ty = plain_type(first)?;
+    let mut rest = behind;
+    for _ in 0..MOST_ITEMS {
+        let Some(text) = rest else {
+            return Some(ty);
+        };
+        let (item, behind) = split_item(text);
+        if plain_type(item)? != ty {
+            return None;
+        }
+        rest = behind;
+    }
+    None
+}
+
+/// The type of a list that is written out.
+fn list_type<'a>(text: &str) -> Option<Known<'a>> {
+    let list = text.strip_prefix('[')?;
+    if text.contains("][") {
+        return None;
+    }
+    Some(Known::List(type_of_items(list)?))
+}
+
 /// The type of an item of a value with that type.
 fn item_type<'a>(tree: &'a TypeTree) -> Option<&'a TypeTree> {
     match &tree.base {
@@ -86,6 +128,9 @@ fn operand_type<'a>(scene: &Scene<'a>, text: &str) -> Option<Known<'a>> {
     if let Some(declared) = scene.declared(text) {
         return Some(Known::Declared(declared));
     }
+    if text.starts_with('[') {
+        return list_type(text);
+    }
     if !is_identifier(text.get(..1)?.as_bytes()) {
         return None;
     }
@@ -98,7 +143,7 @@ fn is_text(found: Option<Known>) -> bool {
         Some(Known::Fixed(fixed)) => return fixed == "String" || fixed == "File",
         Some(Known::Declared(declared)) => declared.tree(),
         Some(Known::Written(tree)) => tree,
-        None => return false,
+        Some(Known::List(_)) | None => return false,
     };
     matches!(tree.base, BaseType::Str(_) | BaseType::File(_))
 }
@@ -144,6 +189,7 @@ pub fn type_of<'a>(scene: &Scene<'a>, text: &str) -> Option<Known<'a>> {
 pub fn push_type(note: &mut Note, scene: &Scene, found: Known) -> Result<(), NoMemory> {
     match found {
         Known::Fixed(fixed) => note.push(fixed),
+        Known::List(item) => note.push_all(&["Array[", item, "]"]),
         Known::Declared(declared) => scene.push_type(note, declared),
         Known::Written(tree) => type_text(note, tree),
     }

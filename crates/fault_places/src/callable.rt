@@ -1,8 +1,8 @@
 //! The tasks and workflows of a library, as they are written.
 
 use wdl_ast::{
-    CallTarget, Declaration, Document, Ident, InputDeclaration, Section, TaskElement, TaskSection,
-    Workflow, WorkflowElement,
+    CallTarget, Declaration, Document, Ident, InputDeclaration, Section, Statement, TaskElement,
+    TaskSection, Workflow, WorkflowElement,
 };
 use wdl_library::{Doc, Library};
 use wdl_value::{Name, NoMemory};
@@ -80,6 +80,19 @@ impl<'a> Part<'a> {
             }
         }
         None
+    }
+
+    /// Appends the statements of a workflow that stand in no block.
+    pub fn push_statements(self, statements: &mut Vec<&'a Statement>) -> Result<(), NoMemory> {
+        let Part::Workflow(workflow) = self else {
+            return Ok(());
+        };
+        for element in workflow.elements.as_slice() {
+            if let WorkflowElement::Statement(statement) = element {
+                statements.push(statement)?;
+            }
+        }
+        Ok(())
     }
 
     /// Appends the names of its inputs.
@@ -180,6 +193,28 @@ pub fn imported<'a>(library: &'a Library, doc: &Doc, namespace: &str) -> Option<
     for link in doc.imports.as_slice() {
         if link.namespace.is(namespace) {
             return library.docs.as_slice().get(link.doc as usize);
+        }
+    }
+    None
+}
+
+/// The name of the first import of a document that has a task or a workflow of that name.
+pub fn namespace_with<'a>(library: &'a Library, doc: &'a Doc, name: &str) -> Option<&'a str> {
+    for link in doc.imports.as_slice() {
+        if let Some(other) = library.docs.as_slice().get(link.doc as usize) {
+            if part_named(&other.document, name).is_some() {
+                return Some(link.namespace.as_str());
+            }
+        }
+    }
+    None
+}
+
+/// The first workflow of a document.
+pub fn first_workflow(document: &Document) -> Option<&Workflow> {
+    for section in document.sections.as_slice() {
+        if let Section::Workflow(workflow) = section {
+            return Some(workflow);
         }
     }
     None

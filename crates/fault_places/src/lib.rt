@@ -17,7 +17,7 @@ mod source_line;
 mod written_type;
 
 pub use brackets::{Bracket, Brackets, Opening};
-pub use callable::{Part, imported, part_named, push_parts};
+pub use callable::{Part, first_workflow, imported, namespace_with, part_named, push_parts};
 pub use entry::Entry;
 pub use heading::head;
 pub use laws::columns_count_characters;
@@ -25,5 +25,5 @@ pub use note::Note;
 pub use position::{Position, bytes_before, position_of};
 pub use quoted::{before_word, last_word, text_behind, words_at};
 pub use scene::{Declared, Scene};
-pub use source_line::excerpt;
+pub use source_line::{excerpt, last_line};
 pub use written_type::type_text;

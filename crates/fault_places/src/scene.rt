@@ -23,6 +23,8 @@ pub struct Scene<'a> {
     pub span: Span,
     pub words: &'a str,
     pub before: &'a str,
+    /// The task or workflow around it.
+    pub part: Option<Part<'a>>,
     pub entries: Vec<Entry<'a>>,
 }
 
@@ -91,8 +93,9 @@ impl<'a> Scene<'a> {
         let Some(doc) = library.docs.as_slice().get(span.doc as usize) else {
             return Ok(None);
         };
+        let part = part_at(&doc.document, span.start);
         let mut entries = Vec::new(alloc);
-        if let Some(part) = part_at(&doc.document, span.start) {
+        if let Some(part) = part {
             push_part(&mut entries, part)?;
         }
         Ok(Some(Scene {
@@ -102,6 +105,7 @@ impl<'a> Scene<'a> {
             span,
             words: words_at(bytes, span),
             before: text_before(bytes, span),
+            part,
             entries,
         }))
     }

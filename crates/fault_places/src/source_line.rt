@@ -15,8 +15,8 @@ struct Pieces<'a> {
     behind: &'a [u8],
 }
 
-/// What stands behind the last newline.
-fn last_line(bytes: &[u8]) -> &[u8] {
+/// What stands behind the last newline of a text.
+pub fn last_line(bytes: &[u8]) -> &[u8] {
     match bytes.iter().rposition(|byte| *byte == b'\n') {
         Some(newline) => &bytes[newline + 1..],
         None => bytes,
