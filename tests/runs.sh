@@ -322,8 +322,8 @@ while [ "$kills" -lt 40 ]; do
   kills=$((kills + 1))
   case $((kills % 3)) in 0) workers=1 ;; 1) workers=4 ;; *) workers=64 ;; esac
   case $((kills % 4)) in 0) signal=KILL ;; 1) signal=TERM ;; 2) signal=HUP ;; *) signal=${default:+INT} ;; esac
-  # Every fifth root is new; the others have what the runs before left.
-  [ $((kills % 5)) != 0 ] || rm -rf "$root"
+  # Every fifth root is new, once nothing of the run before writes there; the others have what the runs before left.
+  [ $((kills % 5)) != 0 ] || { gone "$root" 5 >/dev/null && rm -rf "$root"; }
   $starter "$program" run --workers "$workers" --root "$root" steps.wdl >/dev/null 2>&1 </dev/null &
   run=$!
   # Up to 0.6 seconds.
