@@ -283,8 +283,10 @@ none_through jobs at r x is differs none = by_place (nat_lt at (length jobs)) re
     one (suc k) d h = absurd (omega (arith, h))
 
     by_place : (b : Bool) → nat_lt at (length jobs) ≡ b → All P (take (at + 1) jobs)
-    by_place true e = subst (All P) (sym (take_more jobs at x (ltb-true at (length jobs) e))) (All-append P (take at jobs) (slice_index_or jobs at x ∷ []) none one)
-    by_place false e = subst (All P) (take_all at jobs (ltb-false at (length jobs) e) ∙ sym (take_all (at + 1) jobs (omega (arith, ltb-false at (length jobs) e)))) none
+    by_place true e = subst (All P) (sym (take_more jobs at x (ltb-true at (length jobs) e)))
+        (All-append P (take at jobs) (slice_index_or jobs at x ∷ []) none one)
+    by_place false e = subst (All P) (take_all at jobs (ltb-false at (length jobs) e) ∙ sym
+        (take_all (at + 1) jobs (omega (arith, ltb-false at (length jobs) e)))) none
 
 pub moved_place : (jobs out : List TakenJob) (q r : Request) (at : Option ℕ) → jobs ≡ out → q ≡ r → IsPlaceOf jobs q at → IsPlaceOf out r at
 moved_place jobs out q r at e f h = subst (λ (x : Request). IsPlaceOf out x at) f (subst (λ (x : List TakenJob). IsPlaceOf x q at) e h)
@@ -460,7 +462,8 @@ module _ (s : Course) (log next : Log) (t fresh after : Turn) (at : ℕ) (e : En
         fed = ap (λ (o : Origin). core.fed_at o next.journal.items) (kept_origin s) ∙ ap (core.fed_at p) settles.journal ∙ stands_then.fed;
         out = omega (arith, x.counted, stands_then.counted, ap length settles.out, length-append log.journal.items (e ∷ []));
         left = without log.out.items next.out.items at e.request is_out settles.out;
-        gone = λ c. settled_gone p log.journal.items log.taken.items (remove log.out.items at) e stands_then (subst (λ (x : List TakenJob). Contains (requests x) e.request) settles.out c);
+        gone = λ c. settled_gone p log.journal.items log.taken.items (remove log.out.items at) e stands_then
+            (subst (λ (x : List TakenJob). Contains (requests x) e.request) settles.out c);
         origin = kept_origin s;
         after =
             same_state (plan_of (kept s)) (kept_origin s) settles.journal taken_next refl

@@ -176,7 +176,8 @@ unfolding AreWithout
 without out rest at r w e = (at, w.job, w.within, w.is, w.same, e)
 
 -- what has an entry is out no longer
-pub settled_gone : (o : Origin) (es : List Entry) (taken out : List TakenJob) (e : Entry) → Stands o (es ++ e ∷ []) taken out → Contains (requests out) e.request → ⊥
+pub settled_gone : (o : Origin) (es : List Entry) (taken out : List TakenJob) (e : Entry) → Stands o (es ++ e ∷ []) taken out
+    → Contains (requests out) e.request → ⊥
 settled_gone o es taken out e s c =
     let r = e.request in
     let q = requested out r c in
@@ -184,7 +185,8 @@ settled_gone o es taken out e s c =
     omega (
       arith,
       none_counted (es ++ e ∷ []) r (out_fresh out (es ++ e ∷ []) taken q.1.0 r s.once s.balances w),
-      counts (λ (x : Entry). is_job_at r.place r.attempt x.request) (es ++ e ∷ []) e (Contains-append_right es (e ∷ []) e (contains_first e [])) (job_at r r.place r.attempt refl refl),
+      counts (λ (x : Entry). is_job_at r.place r.attempt x.request) (es ++ e ∷ []) e (Contains-append_right es (e ∷ []) e (contains_first e []))
+          (job_at r r.place r.attempt refl refl),
     )
 
 balance_settled : (out : List TakenJob) (es : List Entry) (taken : List TakenJob) (at : ℕ) (e : Entry) → Balances out es taken → IsOut out at e.request → Balances (remove out at) (es ++ e ∷ []) taken

@@ -76,7 +76,8 @@ module _ (refuses : Request → Type 0) where
   abbrev after_entries : CoreState → List Entry → CoreState
   after_entries c es = record c { journal = es }
 
-  pub caused_later : (c : CoreState) (es more : List Entry) (s : Stop) → Caused refuses (after_entries c es) (Some s) → Caused refuses (after_entries c (es ++ more)) (Some s)
+  pub caused_later : (c : CoreState) (es more : List Entry) (s : Stop) → Caused refuses (after_entries c es) (Some s)
+      → Caused refuses (after_entries c (es ++ more)) (Some s)
   caused_later c es more Failed h = fault_stays c.origin es more h
   caused_later c es more TooMany h = too_many_stays c.origin es more h
   caused_later c es more (Launch p) (j, taken, at, refused, job) = (j, taken, at, refused, job_stays c.origin es more j.request job)
@@ -106,7 +107,8 @@ module _ (n : ℕ) (gives : Request → Answer → Type 0) (refuses : Request �
   taking_goes c j goes = other_step c.steps (Took j.request.place) refl ∙ goes
 
   -- a job that was taken, with so many put on the desk
-  taken_to : (c d : CoreState) (h : Held) (j : TakenJob) (put : ℕ) (hand : List Request) (run : IsRun n gives refuses lapses rows [] 0 c h None) → Takes c j d → length c.out < n
+  taken_to : (c d : CoreState) (h : Held) (j : TakenJob) (put : ℕ) (hand : List Request) (run : IsRun n gives refuses lapses rows [] 0 c h None)
+      → Takes c j d → length c.out < n
       → put + length hand ≡ h.put + 1
       → AreDue lapses rows (hand ++ run.aside) (c.taken ++ j ∷ []) (c.out ++ j ∷ []) → WereDue lapses rows (hand ++ run.aside) (c.taken ++ j ∷ []) c.journal
       → IsRun n gives refuses lapses rows hand 0 (taking c j) (held put h.collected) None
@@ -115,7 +117,8 @@ module _ (n : ℕ) (gives : Request → Answer → Type 0) (refuses : Request �
     greedy = greed.took c.origin n c.journal c.taken c.steps j run.stopped run.greedy (refl, t.busy, t.may, omega (arith, run.within, free));
     stopped = taking_goes c j run.stopped;
     caused =
-        subst (λ (es : List Entry). Caused refuses (after_entries refuses c es) None) (sym (greed.all_before (taking c j).steps c.journal (taking_goes c j run.stopped)))
+        subst (λ (es : List Entry). Caused refuses (after_entries refuses c es) None)
+        (sym (greed.all_before (taking c j).steps c.journal (taking_goes c j run.stopped)))
         (caused_still refuses c None run.stopped run.caused);
     given = all_given_more gives rows c.taken j c.journal run.given;
     within = omega (arith, run.within, length-append c.out (j ∷ []), length-append c.taken (j ∷ []));
@@ -131,7 +134,8 @@ module _ (n : ℕ) (gives : Request → Answer → Type 0) (refuses : Request �
   }
 
   -- a job that is put on the desk
-  pub run_put : (c d : CoreState) (h : Held) (j : TakenJob) → IsRun n gives refuses lapses rows [] 0 c h None → Takes c j d → length c.out < n → IsDue lapses rows j
+  pub run_put : (c d : CoreState) (h : Held) (j : TakenJob) → IsRun n gives refuses lapses rows [] 0 c h None → Takes c j d → length c.out < n
+      → IsDue lapses rows j
       → IsRun n gives refuses lapses rows [] 0 d (held (h.put + 1) h.collected) None
   run_put c d h j run t free due =
       subst (λ (x : CoreState). IsRun n gives refuses lapses rows [] 0 x (held (h.put + 1) h.collected) None) (sym t.after)
@@ -148,14 +152,6 @@ module _ (n : ℕ) (gives : Request → Answer → Type 0) (refuses : Request �
       (taken_to c d h j h.put (j.request ∷ []) run t free (omega arith)
       (due_taken lapses rows (j.request ∷ others) c.taken c.out j (due_wider lapses rows others j.request c.taken c.out run.waits) t.may.1 mine)
       (were_taken lapses rows (j.request ∷ others) c.taken c.journal j (were_wider lapses rows others j.request c.taken c.journal run.fresh) mine))
-
-  -- there is room on the desk
-  pub put_room : (c : CoreState) (h : Held) → IsRun n gives refuses lapses rows [] 0 c h None → length c.out < n → h.put < h.collected + n
-  put_room c h run free = omega (arith, run.put, run.few_aside, run.even, free)
-
-  pub put_few : (c d : CoreState) (h : Held) (j : TakenJob) → IsRun n gives refuses lapses rows [] 0 c h None → Takes c j d → h.put < 20000
-  put_few c d h j run t =
-      omega (arith, run.put, run.few_aside, launched_few c.journal, run.within, subst (λ (x : CoreState). length x.taken ≤ 20000) t.after t.few, length-append c.taken (j ∷ []))
 
   -- ---- an answer is settled
 
@@ -189,23 +185,28 @@ module _ (n : ℕ) (gives : Request → Answer → Type 0) (refuses : Request �
 
   module _ (c d : CoreState) (h : Held) (e : Entry) (t : Settles c e d) (given : IsGiven gives rows c.taken e) where
     -- the run goes on
-    goes_to : IsRun n gives refuses lapses rows (job_in_hand e.source e.request) (answer_in_hand e.source) c h None → (e.source ≡ Launched → Busy c.origin n c.journal c.taken)
-        → (has_stopped (then c e d).steps ≡ false) × greedy c.origin n (c.journal ++ e ∷ []) c.taken (then c e d).steps × (launched (c.journal ++ e ∷ []) + 0 ≡ h.collected)
+    goes_to : IsRun n gives refuses lapses rows (job_in_hand e.source e.request) (answer_in_hand e.source) c h None
+        → (e.source ≡ Launched → Busy c.origin n c.journal c.taken)
+        → (has_stopped (then c e d).steps ≡ false) × greedy c.origin n (c.journal ++ e ∷ []) c.taken (then c e d).steps ×
+        (launched (c.journal ++ e ∷ []) + 0 ≡ h.collected)
     goes_to run eager = (
       other_step c.steps (Settled e.request.place) refl ∙ run.stopped,
       greed.settled c.origin n c.journal c.taken c.steps e run.greedy t.was_out (λ l goes. eager l),
       omega (arith, run.even, launched_more c.journal e),
     )
 
-    on_to : IsRun n gives refuses lapses rows (job_in_hand e.source e.request) (answer_in_hand e.source) c h None → (e.source ≡ Launched → Busy c.origin n c.journal c.taken)
+    on_to : IsRun n gives refuses lapses rows (job_in_hand e.source e.request) (answer_in_hand e.source) c h None
+        → (e.source ≡ Launched → Busy c.origin n c.journal c.taken)
         → Caused refuses (then c e d) None → IsRun n gives refuses lapses rows [] 0 (then c e d) h None
     on_to run eager caused =
         let g = goes_to run eager in
         settled_to c d h e None None (then c e d).steps run t given g.1 g.0
-        (subst (λ (es : List Entry). Caused refuses (after_entries refuses (then c e d) es) None) (sym (greed.all_before (then c e d).steps (then c e d).journal g.0)) caused) refl g.2
+        (subst (λ (es : List Entry). Caused refuses (after_entries refuses (then c e d) es) None)
+        (sym (greed.all_before (then c e d).steps (then c e d).journal g.0)) caused) refl g.2
 
     -- the flow stops it
-    stop_to : (s : Stop) → IsRun n gives refuses lapses rows (job_in_hand e.source e.request) (answer_in_hand e.source) c h None → (e.source ≡ Launched → Busy c.origin n c.journal c.taken)
+    stop_to : (s : Stop) → IsRun n gives refuses lapses rows (job_in_hand e.source e.request) (answer_in_hand e.source) c h None
+        → (e.source ≡ Launched → Busy c.origin n c.journal c.taken)
         → Caused refuses (then c e d) (Some s) → most_aside (Some s) ≡ 0 → IsRun n gives refuses lapses rows [] 0 (stopped (then c e d)) h (Some s)
     stop_to s run eager caused same =
         let g = goes_to run eager in
@@ -213,7 +214,8 @@ module _ (n : ℕ) (gives : Request → Answer → Type 0) (refuses : Request �
         let ss = x.steps ++ Stopped ∷ [] in
         subst (λ (y : CoreState). IsRun n gives refuses lapses rows [] 0 y h (Some s)) (sym (stopped_is x g.0))
         (settled_to c d h e None (Some s) ss run t given (greed.stopped c.origin n x.journal c.taken x.steps g.0 g.1) (stop_step x.steps)
-        (subst (λ (es : List Entry). Caused refuses (after_entries refuses (record x { steps = ss }) es) (Some s)) (sym (greed.all_before_stop c.origin n x.journal c.taken x.steps g.0 g.1)) (moved x ss s caused)) same tt)
+        (subst (λ (es : List Entry). Caused refuses (after_entries refuses (record x { steps = ss }) es) (Some s))
+        (sym (greed.all_before_stop c.origin n x.journal c.taken x.steps g.0 g.1)) (moved x ss s caused)) same tt)
       where
         moved : (y : CoreState) (steps : List Step) (why : Stop) → Caused refuses y (Some why) → Caused refuses (record y { steps = steps }) (Some why)
         moved y steps Failed k = k
@@ -223,7 +225,8 @@ module _ (n : ℕ) (gives : Request → Answer → Type 0) (refuses : Request �
         moved y steps Keep k = tt
 
     -- it had stopped before
-    after_to : (s : Stop) → IsRun n gives refuses lapses rows (job_in_hand e.source e.request) (answer_in_hand e.source) c h (Some s) → IsRun n gives refuses lapses rows [] 0 (then c e d) h (Some s)
+    after_to : (s : Stop) → IsRun n gives refuses lapses rows (job_in_hand e.source e.request) (answer_in_hand e.source) c h (Some s)
+        → IsRun n gives refuses lapses rows [] 0 (then c e d) h (Some s)
     after_to s run =
         let x = then c e d in
         settled_to c d h e (Some s) (Some s) x.steps run t given
@@ -232,7 +235,8 @@ module _ (n : ℕ) (gives : Request → Answer → Type 0) (refuses : Request �
         (subst (λ (es : List Entry). Caused refuses (after_entries refuses x es) (Some s))
         (sym (greed.before_as_was c.origin n c.journal c.taken c.steps e e.request.place run.stopped run.greedy)) (moved s run.caused)) refl tt
       where
-        moved : (why : Stop) → Caused refuses (at_stop c) (Some why) → Caused refuses (after_entries refuses (then c e d) (before_stop c.steps c.journal)) (Some why)
+        moved : (why : Stop) → Caused refuses (at_stop c) (Some why)
+            → Caused refuses (after_entries refuses (then c e d) (before_stop c.steps c.journal)) (Some why)
         moved Failed k = k
         moved TooMany k = k
         moved (Launch p) k = k
@@ -251,7 +255,8 @@ module _ (n : ℕ) (gives : Request → Answer → Type 0) (refuses : Request �
     judged_to (Some s) next run eager m = subst (λ (x : Option Stop). IsRun n gives refuses lapses rows [] 0 (then c e d) h x) (sym m) (after_to s run)
 
   -- an answer that is settled
-  pub run_settled : (c d : CoreState) (h : Held) (e : Entry) (stop next : Option Stop) → IsRun n gives refuses lapses rows (job_in_hand e.source e.request) (answer_in_hand e.source) c h stop
+  pub run_settled : (c d : CoreState) (h : Held) (e : Entry) (stop next : Option Stop)
+      → IsRun n gives refuses lapses rows (job_in_hand e.source e.request) (answer_in_hand e.source) c h stop
       → Settles c e d → IsGiven gives rows c.taken e → (e.source ≡ Launched → stop ≡ None → Busy c.origin n c.journal c.taken)
       → Judges d stop next → IsRun n gives refuses lapses rows [] 0 (noted stop next d) h next
   run_settled c d h e stop next run t given eager m =
@@ -282,7 +287,8 @@ module _ (n : ℕ) (gives : Request → Answer → Type 0) (refuses : Request �
   }
 
   -- it stops now, and sets aside the job in hand
-  stops_now : (hand : List Request) (answers next : ℕ) (c : CoreState) (h : Held) (why : Stop) → IsRun n gives refuses lapses rows hand answers c h None → next ≤ answers
+  stops_now : (hand : List Request) (answers next : ℕ) (c : CoreState) (h : Held) (why : Stop) → IsRun n gives refuses lapses rows hand answers c h None
+      → next ≤ answers
       → length hand ≤ most_aside (Some why) → Caused refuses c (Some why) → IsRun n gives refuses lapses rows [] next (stopped c) h (Some why)
   stops_now hand answers next c h why run less few caused =
       subst (λ (x : CoreState). IsRun n gives refuses lapses rows [] next x h (Some why)) (sym (stopped_is c run.stopped)) (record {
@@ -313,18 +319,22 @@ module _ (n : ℕ) (gives : Request → Answer → Type 0) (refuses : Request �
       moved Keep k = tt
 
   -- a stop that is no fault of the flow
-  pub run_halted : (hand : List Request) (answers next : ℕ) (c : CoreState) (h : Held) (why : Stop) (stop : Option Stop) → IsRun n gives refuses lapses rows hand answers c h stop → next ≤ answers
-      → length hand ≤ most_aside (Some why) → (stop ≡ None) ⊎ (hand ≡ []) → Caused refuses c (Some why) → IsRun n gives refuses lapses rows [] next (noted stop (halted stop why) c) h (halted stop why)
+  pub run_halted : (hand : List Request) (answers next : ℕ) (c : CoreState) (h : Held) (why : Stop) (stop : Option Stop)
+      → IsRun n gives refuses lapses rows hand answers c h stop → next ≤ answers
+      → length hand ≤ most_aside (Some why) → (stop ≡ None) ⊎ (hand ≡ []) → Caused refuses c (Some why)
+      → IsRun n gives refuses lapses rows [] next (noted stop (halted stop why) c) h (halted stop why)
   run_halted hand answers next c h why None run less few alone caused = stops_now hand answers next c h why run less few caused
   run_halted hand answers next c h why (Some s) run less few (inl goes) caused = cc
   run_halted hand answers next c h why (Some s) run less few (inr none) caused =
       run_stays answers next c h s (subst (λ (rs : List Request). IsRun n gives refuses lapses rows rs answers c h (Some s)) none run) less
 
   -- an answer that wants memory to be settled
-  pub run_wanting : (c : CoreState) (h : Held) (e : Entry) (stop : Option Stop) → IsRun n gives refuses lapses rows (job_in_hand e.source e.request) (answer_in_hand e.source) c h stop
+  pub run_wanting : (c : CoreState) (h : Held) (e : Entry) (stop : Option Stop)
+      → IsRun n gives refuses lapses rows (job_in_hand e.source e.request) (answer_in_hand e.source) c h stop
       → (e.source ≡ Kept → stop ≡ None) → IsRun n gives refuses lapses rows [] 0 (noted stop (halted stop NoMemory) c) h (halted stop NoMemory)
   run_wanting c h e stop run goes =
-      run_halted (job_in_hand e.source e.request) (answer_in_hand e.source) 0 c h NoMemory stop run (omega arith) (omega (arith, one_in_hand e.source e.request)) (alone e.source goes) tt
+      run_halted (job_in_hand e.source e.request) (answer_in_hand e.source) 0 c h NoMemory stop run (omega arith)
+      (omega (arith, one_in_hand e.source e.request)) (alone e.source goes) tt
     where
       alone : (s : Source) → (s ≡ Kept → stop ≡ None) → (stop ≡ None) ⊎ (job_in_hand s e.request ≡ [])
       alone Launched f = inr refl
@@ -336,32 +346,9 @@ module _ (n : ℕ) (gives : Request → Answer → Type 0) (refuses : Request �
   run_unasked c h r keeping.Failed run = run_halted (r ∷ []) 0 0 c h Keep None run (omega arith) (omega arith) (inl refl) tt
   run_unasked c h r keeping.NoMemory run = run_halted (r ∷ []) 0 0 c h NoMemory None run (omega arith) (omega arith) (inl refl) tt
 
-  -- ---- an answer is collected
-
-  pub run_collected : (c : CoreState) (h : Held) (stop : Option Stop) → IsRun n gives refuses lapses rows [] 0 c h stop → IsRun n gives refuses lapses rows [] 1 c (held h.put (h.collected + 1)) stop
-  run_collected c h stop run = record {
-    fed = run.fed;
-    greedy = run.greedy;
-    stopped = run.stopped;
-    caused = run.caused;
-    given = run.given;
-    within = run.within;
-    few = run.few;
-    most = run.most;
-    aside = run.aside;
-    few_aside = run.few_aside;
-    put = run.put;
-    collected = omega (arith, run.collected);
-    even = more stop run.even;
-    waits = run.waits;
-    fresh = run.fresh;
-  } where
-    more : (s : Option Stop) → IfNone s (launched c.journal + 0 ≡ h.collected) → IfNone s (launched c.journal + 1 ≡ h.collected + 1)
-    more None e = omega (arith, e)
-    more (Some s) e = tt
-
   -- without a stop, with nothing out and nothing more to take, the flow is clean
-  pub run_clean : (c : CoreState) (h : Held) → IsRun n gives refuses lapses rows [] 0 c h None → Busy c.origin n c.journal c.taken → h.put ≡ h.collected → 0 < n → IsDone c
+  pub run_clean : (c : CoreState) (h : Held) → IsRun n gives refuses lapses rows [] 0 c h None → Busy c.origin n c.journal c.taken → h.put ≡ h.collected
+      → 0 < n → IsDone c
   run_clean c h run busy even some =
       let none : length c.out ≡ 0 = omega (arith, run.put, run.few_aside, run.even, even) in
       let caused = caused_still refuses c None run.stopped run.caused in
@@ -385,7 +372,8 @@ caused_bare f c plan (Some NoMemory) h = tt
 caused_bare f c plan (Some Keep) h = tt
 caused_bare f c plan (Some (Launch p)) h = h
 
-pub run_bare : (n : ℕ) (g : Request → Answer → Type 0) (f : Request → Type 0) (lapses : Entry → Bool) (rows : List Entry) (hand : List Request) (answers : ℕ) (c : CoreState) (h : Held) (stop : Option Stop) (plan : Option Plan)
+pub run_bare : (n : ℕ) (g : Request → Answer → Type 0) (f : Request → Type 0) (lapses : Entry → Bool) (rows : List Entry) (hand : List Request)
+    (answers : ℕ) (c : CoreState) (h : Held) (stop : Option Stop) (plan : Option Plan)
     → IsRun n g f lapses rows hand answers c h stop → IsRun n g f lapses rows hand answers (record c { plan = plan }) h stop
 run_bare n g f lapses rows hand answers c h stop plan run = record {
   fed = run.fed;
@@ -405,29 +393,6 @@ run_bare n g f lapses rows hand answers c h stop plan run = record {
   fresh = run.fresh;
 }
 
-done_bare : (c : CoreState) (plan : Option Plan) → IsDone c → IsDone (record c { plan = plan })
-done_bare c plan h = record { out = h.out; few = h.few; clean = h.clean }
-
--- what a run leaves says nothing of the plan
-pub ran_bare : (n : ℕ) (g : Request → Answer → Type 0) (f : Request → Type 0) (lapses : Entry → Bool) (rows : List Entry) (c : CoreState) (stop : Option Stop) (four : Counts) (plan : Option Plan)
-    → HasRun n g f lapses rows c stop four → HasRun n g f lapses rows (record c { plan = plan }) stop four
-ran_bare n g f lapses rows c stop four plan run = record {
-  fed = run.fed;
-  greedy = run.greedy;
-  stopped = run.stopped;
-  moment = caused_bare f (at_stop c) plan stop run.moment;
-  caused = caused_bare f c plan stop run.caused;
-  given = run.given;
-  aside = run.aside;
-  few_aside = run.few_aside;
-  counts = run.counts;
-  put = run.put;
-  least = run.least;
-  waits = run.waits;
-  fresh = run.fresh;
-  clean = λ none. done_bare c plan (run.clean none);
-}
-
 -- ---- from the beginning to the end
 
 given_tells : (g : Request → Answer → Type 0) (f : Request → Type 0) (k : Request → Answer → Type 0) (l : Request → Type 0) (rows : List Entry) (taken : List TakenJob)
@@ -445,8 +410,10 @@ caused_tells g f k l c t (Some Keep) h = h
 caused_tells g f k l c t (Some (Launch p)) (j, taken, at, refused, job) = (j, taken, at, t.refuses j.request refused, job)
 
 -- what the launcher's relations say of a whole run
-pub run_ended : (n : ℕ) (g : Request → Answer → Type 0) (f : Request → Type 0) (k : Request → Answer → Type 0) (l : Request → Type 0) (lapses other : Entry → Bool) (rows : List Entry) (c : CoreState) (h : Held) (stop : Option Stop) (four : Counts)
-    → IsRun n g f lapses rows [] 0 c h stop → Tells g f k l → other ≡ lapses → AllEqual four h.put → h.put ≡ h.collected → (stop ≡ None → IsDone c) → HasRun n k l other rows c stop four
+pub run_ended : (n : ℕ) (g : Request → Answer → Type 0) (f : Request → Type 0) (k : Request → Answer → Type 0) (l : Request → Type 0)
+    (lapses other : Entry → Bool) (rows : List Entry) (c : CoreState) (h : Held) (stop : Option Stop) (four : Counts)
+    → IsRun n g f lapses rows [] 0 c h stop → Tells g f k l → other ≡ lapses → AllEqual four h.put → h.put ≡ h.collected → (stop ≡ None → IsDone c)
+    → HasRun n k l other rows c stop four
 run_ended n g f k l lapses other rows c h stop four run t same all even done = record {
   fed = run.fed;
   greedy = run.greedy;
@@ -473,11 +440,13 @@ unfolding WereDue
 none_were lapses rows others taken e j at launched was same = absurd (none_within e at)
 
 -- a run begins, with a look at the flow over the empty journal
-pub run_started : (n : ℕ) (g : Request → Answer → Type 0) (f : Request → Type 0) (lapses : Entry → Bool) (rows : List Entry) (o : Origin) (plan : Option Plan) (stop : Option Stop) → Judges (started o plan) None stop
+pub run_started : (n : ℕ) (g : Request → Answer → Type 0) (f : Request → Type 0) (lapses : Entry → Bool) (rows : List Entry) (o : Origin)
+    (plan : Option Plan) (stop : Option Stop) → Judges (started o plan) None stop
     → IsRun n g f lapses rows [] 0 (noted None stop (started o plan)) (held 0 0) stop
 run_started n g f lapses rows o plan stop m = by_stop stop m
   where
-    begun : (ss : List Step) (s : Option Stop) → greedy o n [] [] ss → has_stopped ss ≡ is_some s → Caused f (at_stop (record (started o plan) { steps = ss })) s
+    begun : (ss : List Step) (s : Option Stop) → greedy o n [] [] ss → has_stopped ss ≡ is_some s
+        → Caused f (at_stop (record (started o plan) { steps = ss })) s
         → IfNone s (launched [] + 0 ≡ (held 0 0).collected) → IsRun n g f lapses rows [] 0 (record (started o plan) { steps = ss }) (held 0 0) s
     begun ss s well was caused even = record {
       fed = refl;
@@ -506,7 +475,8 @@ run_started n g f lapses rows o plan stop m = by_stop stop m
     by_stop (Some (Launch p)) h = absurd h
 
 -- a run for which there was no memory
-pub run_unstarted : (n : ℕ) (g : Request → Answer → Type 0) (f : Request → Type 0) (lapses : Entry → Bool) (rows : List Entry) (o : Origin) (plan : Option Plan) (four : Counts) → AllEqual four 0
+pub run_unstarted : (n : ℕ) (g : Request → Answer → Type 0) (f : Request → Type 0) (lapses : Entry → Bool) (rows : List Entry) (o : Origin)
+    (plan : Option Plan) (four : Counts) → AllEqual four 0
     → HasRun n g f lapses rows (stopped (started o plan)) (Some NoMemory) four
 run_unstarted n g f lapses rows o plan four zeros = record {
   fed = refl;

@@ -22,7 +22,8 @@ pub record IsDone (c : CoreState) : Type 0 where
 -- steps have a stop exactly where the run stopped; its cause held at that moment, and holds at the end. The four counts are
 -- equal: they are as many as the launched entries and the jobs that are out at the end, but for one that was set aside where the
 -- keeper failed or memory was wanting. Of no other job that was put on the desk there is a usable row that does not lapse.
-pub record HasRun (n : ℕ) (gives : Request → Answer → Type 0) (refuses : Request → Type 0) (lapses : Entry → Bool) (rows : List Entry) (c : CoreState) (stop : Option Stop) (four : Counts) : Type 0 where
+pub record HasRun (n : ℕ) (gives : Request → Answer → Type 0) (refuses : Request → Type 0) (lapses : Entry → Bool) (rows : List Entry) (c : CoreState)
+    (stop : Option Stop) (four : Counts) : Type 0 where
   pub fed : fed_at c.origin c.journal ≡ true
   pub greedy : greedy c.origin n c.journal c.taken c.steps
   pub stopped : has_stopped c.steps ≡ is_some stop

@@ -88,7 +88,8 @@ answer_in_hand s = cond (is_launched s) 1 0
 
 -- With these jobs and so many collected answers in the caller's hand. Those set aside were taken and are neither put on the desk
 -- nor settled, nor will be.
-pub record IsRun (n : ℕ) (gives : Request → Answer → Type 0) (refuses : Request → Type 0) (lapses : Entry → Bool) (rows : List Entry) (hand : List Request) (answers : ℕ) (c : CoreState) (h : Held) (stop : Option Stop) : Type 0 where
+pub record IsRun (n : ℕ) (gives : Request → Answer → Type 0) (refuses : Request → Type 0) (lapses : Entry → Bool) (rows : List Entry) (hand : List Request)
+    (answers : ℕ) (c : CoreState) (h : Held) (stop : Option Stop) : Type 0 where
   pub fed : fed_at c.origin c.journal ≡ true
   pub greedy : greedy c.origin n c.journal c.taken c.steps
   pub stopped : has_stopped c.steps ≡ is_some stop

@@ -20,7 +20,8 @@ settle-requires-clause-run g c =
     let p = g.P.Pact in
     let self = c.args.self.now in
     let e = c.args.answered in
-    subst (λ (s : Source). IsRun p.workers p.gives p.refuses p.lapses c.args.rows.now (job_in_hand s e.request) (answer_in_hand s) self.core self.shares self.stop) (sym c.requires.launched) c.requires.run
+    subst (λ (s : Source). IsRun p.workers p.gives p.refuses p.lapses c.args.rows.now (job_in_hand s e.request)
+    (answer_in_hand s) self.core self.shares self.stop) (sym c.requires.launched) c.requires.run
 
 pub settle-requires-in-Err-Failed-clause-run : goal.settle-requires-in-Err-Failed-clause-run
 settle-requires-in-Err-Failed-clause-run g c =
@@ -29,8 +30,10 @@ settle-requires-in-Err-Failed-clause-run g c =
     let e = c.args.answered in
     let last = halted self.stop Keep in
     rw (c.halt.ensures.noted, c.halt.ensures.halted)
-    (subst (λ (s : Source). IsRun p.workers p.gives p.refuses p.lapses c.args.rows.now (job_in_hand s e.request) (answer_in_hand s) (noted self.stop last self.core) self.shares last) (sym c.requires.launched)
-    (run_halted p.workers p.gives p.refuses p.lapses c.args.rows.now [] 1 1 self.core self.shares Keep self.stop c.requires.run (omega arith) (omega arith) (inr refl) tt))
+    (subst (λ (s : Source). IsRun p.workers p.gives p.refuses p.lapses c.args.rows.now (job_in_hand s e.request) (answer_in_hand s)
+    (noted self.stop last self.core) self.shares last) (sym c.requires.launched)
+    (run_halted p.workers p.gives p.refuses p.lapses c.args.rows.now [] 1 1 self.core self.shares Keep self.stop c.requires.run (omega arith) (omega arith)
+    (inr refl) tt))
 
 pub settle-requires-clause-goes_on : goal.settle-requires-clause-goes_on
 settle-requires-clause-goes_on g c = λ kept. absurd (launched_kept (sym c.requires.launched ∙ kept))
@@ -70,17 +73,20 @@ returns-in-Err-Failed-clause-holds g c =
     let settled = subst (λ (s : Option Stop). Settling c.args.answered c.halt.new.core s last.core last.stop) c.halt.ensures.halted c.settle-in-Err-Failed.ensures.settling in
     λ begin h. hold_failed g.P.Pact.gives c.args.rows.now begin self.core last.core self.stop last.stop (keeper_view (k.kept old) (k.path old) (k.faults old)) (keeper_view (k.kept new) (k.path new) (k.faults new)) c.args.answered h c.put.ensures.path c.put.ensures.cause.later c.in-Err-Failed.ensures.left
     (c.put.ensures.cause.failed (c.in-Err-Failed.is ∙ ap Err c.in-Err-Failed.field-0-is)) (subst (λ (e : Entry). IsPlace e.request.place) c.entry.ensures.entry c.see_place.ensures.place)
-    (settling_before c.args.answered self.core last.core stop last.stop self.stop stop (subst (λ (x : _). Settling c.args.answered x stop last.core last.stop) c.halt.ensures.noted settled))
+    (settling_before c.args.answered self.core last.core stop last.stop self.stop stop
+    (subst (λ (x : _). Settling c.args.answered x stop last.core last.stop) c.halt.ensures.noted settled))
 
 pub returns-in-Err-NoMemory-clause-run : goal.returns-in-Err-NoMemory-clause-run
 returns-in-Err-NoMemory-clause-run g c =
     let p = g.P.Pact in
     let self = c.args.self.now in
     rw (c.halt-in-Err-NoMemory.ensures.noted, c.halt-in-Err-NoMemory.ensures.halted)
-    (run_halted p.workers p.gives p.refuses p.lapses c.args.rows.now [] 1 0 self.core self.shares NoMemory self.stop c.requires.run (omega arith) (omega arith) (inr refl) tt)
+    (run_halted p.workers p.gives p.refuses p.lapses c.args.rows.now [] 1 0 self.core self.shares NoMemory self.stop c.requires.run (omega arith)
+    (omega arith) (inr refl) tt)
 
 pub returns-in-Err-NoMemory-clause-origin : goal.returns-in-Err-NoMemory-clause-origin
-returns-in-Err-NoMemory-clause-origin g c = let self = c.args.self.now in rw c.halt-in-Err-NoMemory.ensures.noted (noted_origin self.stop (halted self.stop NoMemory) self.core)
+returns-in-Err-NoMemory-clause-origin g c = let self = c.args.self.now in rw c.halt-in-Err-NoMemory.ensures.noted
+    (noted_origin self.stop (halted self.stop NoMemory) self.core)
 
 pub returns-in-Err-NoMemory-clause-holds : goal.returns-in-Err-NoMemory-clause-holds
 returns-in-Err-NoMemory-clause-holds g c =

@@ -14,7 +14,8 @@ returns-in_default-clause-run g c =
     let p = g.P.Pact in
     let self = c.args.self.now in
     rw (c.halt.ensures.noted, c.halt.ensures.halted)
-    (run_halted p.workers p.gives p.refuses p.lapses c.args.rows.now (c.args.job.request ∷ []) 0 0 self.core self.shares NoMemory self.stop c.requires.run (omega arith) (omega arith) (inl c.requires.goes_on) tt)
+    (run_halted p.workers p.gives p.refuses p.lapses c.args.rows.now (c.args.job.request ∷ []) 0 0 self.core self.shares NoMemory self.stop c.requires.run
+    (omega arith) (omega arith) (inl c.requires.goes_on) tt)
 
 pub returns-in_default-clause-origin : goal.returns-in_default-clause-origin
 returns-in_default-clause-origin g c = let self = c.args.self.now in rw c.halt.ensures.noted (noted_origin self.stop (halted self.stop NoMemory) self.core)
@@ -31,14 +32,16 @@ returns-in_default-clause-holds g c =
 pub returns-in_default-clause-paid : goal.returns-in_default-clause-paid
 returns-in_default-clause-paid g c =
     let self = c.args.self.now in
-    rw (c.halt.ensures.noted, c.halt.ensures.halted) (paid_halted self.core (noted self.stop (halted self.stop NoMemory) self.core) self.stop NoMemory c.args.steps.now c.args.steps.now)
+    rw (c.halt.ensures.noted, c.halt.ensures.halted)
+    (paid_halted self.core (noted self.stop (halted self.stop NoMemory) self.core) self.stop NoMemory c.args.steps.now c.args.steps.now)
 
 pub settle-requires-clause-run : goal.settle-requires-clause-run
 settle-requires-clause-run g c =
     let p = g.P.Pact in
     let self = c.args.self.now in
     let kept = c.in-Ok-kept.ensures.answered in
-    subst (λ (e : Entry). IsRun p.workers p.gives p.refuses p.lapses c.args.rows.now (job_in_hand e.source e.request) (answer_in_hand e.source) self.core self.shares self.stop) (sym kept.0) c.requires.run
+    subst (λ (e : Entry). IsRun p.workers p.gives p.refuses p.lapses c.args.rows.now (job_in_hand e.source e.request)
+    (answer_in_hand e.source) self.core self.shares self.stop) (sym kept.0) c.requires.run
 
 pub settle-requires-clause-eager : goal.settle-requires-clause-eager
 settle-requires-clause-eager g c = λ launched none. absurd (launched_kept (sym launched ∙ ap (λ (e : Entry). e.source) c.in-Ok-kept.ensures.answered.0))
@@ -64,5 +67,6 @@ returns-clause-holds g c =
     let self = c.args.self.now in
     let last = c.settle.new.self in
     let kept = c.in-Ok-kept.ensures.answered in
-    let same = sym c.in-Ok.ensures ∙ kept_row_is rows c.in-Ok.row c.args.job c.in-Ok-kept.answered (subst (Contains rows) (sym c.in-Ok.ensures) c.requires.row) c.requires.kept kept.1 kept.0 in
+    let same = sym c.in-Ok.ensures ∙ kept_row_is rows c.in-Ok.row c.args.job c.in-Ok-kept.answered
+    (subst (Contains rows) (sym c.in-Ok.ensures) c.requires.row) c.requires.kept kept.1 kept.0 in
     λ k there begin h. hold_kept gives rows begin self.core last.core self.stop last.stop k c.args.row.now c.in-Ok-kept.answered h c.requires.row there same c.settle.ensures.settling

@@ -38,9 +38,11 @@ returns-in-Err-NoMemory-clause-run g c =
     let e = c.args.answered in
     rw (c.halt.ensures.noted, c.halt.ensures.halted)
     (run_wanting p.workers p.gives p.refuses p.lapses c.args.rows.now core self.shares e self.stop
-    (subst (λ (x : CoreState). IsRun p.workers p.gives p.refuses p.lapses c.args.rows.now (job_in_hand e.source e.request) (answer_in_hand e.source) x self.shares self.stop)
+    (subst (λ (x : CoreState). IsRun p.workers p.gives p.refuses p.lapses c.args.rows.now (job_in_hand e.source e.request)
+    (answer_in_hand e.source) x self.shares self.stop)
     (sym (unsettled c.in-Err-NoMemory.field-0 _ self.core core c.in-Err-NoMemory.field-0-is c.in-Err-NoMemory.ensures.err))
-    (run_bare p.workers p.gives p.refuses p.lapses c.args.rows.now (job_in_hand e.source e.request) (answer_in_hand e.source) self.core self.shares self.stop core.plan c.requires.run)) c.requires.goes_on)
+    (run_bare p.workers p.gives p.refuses p.lapses c.args.rows.now (job_in_hand e.source e.request)
+    (answer_in_hand e.source) self.core self.shares self.stop core.plan c.requires.run)) c.requires.goes_on)
 
 pub returns-in-Err-NoMemory-clause-settling : goal.returns-in-Err-NoMemory-clause-settling
 returns-in-Err-NoMemory-clause-settling g c =
@@ -55,4 +57,5 @@ returns-in-Err-NoMemory-clause-settling g c =
 pub returns-in-Err-NoMemory-clause-paid : goal.returns-in-Err-NoMemory-clause-paid
 returns-in-Err-NoMemory-clause-paid g c =
     let self = c.args.self.now in
-    rw (c.halt.ensures.noted, c.halt.ensures.halted) (paid_halted self.core (noted self.stop (halted self.stop NoMemory) c.settle.new.self) self.stop NoMemory c.args.steps.now c.settle.new.steps)
+    rw (c.halt.ensures.noted, c.halt.ensures.halted)
+    (paid_halted self.core (noted self.stop (halted self.stop NoMemory) c.settle.new.self) self.stop NoMemory c.args.steps.now c.settle.new.steps)

@@ -29,7 +29,8 @@ returns-in_default-find-clause-run g c =
 pub returns-in_default-find-clause-holds : goal.returns-in_default-find-clause-holds
 returns-in_default-find-clause-holds g c =
     let self = c.args.self.now in
-    λ begin h. rw (c.begin.ensures.core, c.begin.ensures.stop) (hold_taken g.P.Pact.gives c.args.rows.now begin self.core c.take.new.self self.stop _ c.in-Some.job h c.in-Some.ensures.taken)
+    λ begin h. rw (c.begin.ensures.core, c.begin.ensures.stop)
+    (hold_taken g.P.Pact.gives c.args.rows.now begin self.core c.take.new.self self.stop _ c.in-Some.job h c.in-Some.ensures.taken)
 
 pub returns-in_default-find-clause-paid : goal.returns-in_default-find-clause-paid
 returns-in_default-find-clause-paid g c =
@@ -61,7 +62,8 @@ returns-in-Ok-true-clause-holds g c =
     let only = c.in-Some-find.ensures.found in
     let asked = c.stands.ensures in
     λ begin h.
-    let there = there_still gives rows begin self.core self.stop before c.in-Some.job row h only.given (usable_asks row c.in-Some.job only.serves) c.in-Some.ensures.taken.may.1 in
+    let there = there_still gives rows begin self.core self.stop before c.in-Some.job row h only.given
+    (usable_asks row c.in-Some.job only.serves) c.in-Some.ensures.taken.may.1 in
     c.reuse.ensures.holds after (λ told q. there told (sym asked.rows ∙ q)) begin
     (hold_asked gives rows begin self.core c.take.new.self self.stop before after c.in-Some.job h c.in-Some.ensures.taken asked.path asked.cause.later asked.rows)
 
@@ -94,7 +96,8 @@ returns-in-Ok-false-clause-holds g c =
 pub returns-in-Ok-false-clause-paid : goal.returns-in-Ok-false-clause-paid
 returns-in-Ok-false-clause-paid g c =
     let self = c.args.self.now in
-    rw (c.begin-in-Ok-false.ensures.core, c.begin-in-Ok-false.ensures.stop) (paid_taken self.core c.take.new.self c.in-Some.job self.stop c.args.steps.now c.in-Some.ensures.taken)
+    rw (c.begin-in-Ok-false.ensures.core, c.begin-in-Ok-false.ensures.stop)
+    (paid_taken self.core c.take.new.self c.in-Some.job self.stop c.args.steps.now c.in-Some.ensures.taken)
 
 pub returns-in-Err-clause-run : goal.returns-in-Err-clause-run
 returns-in-Err-clause-run g c =
@@ -115,7 +118,8 @@ returns-in-Err-clause-holds g c =
     let asked = c.stands.ensures in
     let rose = rose_asked (k.faults old) (k.faults new) c.stands.result c.in-Err.fault asked.cause c.in-Err.is in
     λ begin h. rw (c.halt.ensures.noted, c.halt.ensures.halted, c.stop_of.ensures)
-    (hold_unasked g.P.Pact.gives c.args.rows.now begin self.core c.take.new.self self.stop (stop_of c.in-Err.fault) (keeper_view (k.kept old) (k.path old) (k.faults old)) (keeper_view (k.kept new) (k.path new) (k.faults new))
+    (hold_unasked g.P.Pact.gives c.args.rows.now begin self.core c.take.new.self self.stop (stop_of c.in-Err.fault)
+    (keeper_view (k.kept old) (k.path old) (k.faults old)) (keeper_view (k.kept new) (k.path new) (k.faults new))
     c.in-Some.job h c.in-Some.ensures.taken asked.path asked.cause.later asked.rows rose)
 
 pub returns-in-Err-clause-paid : goal.returns-in-Err-clause-paid
