@@ -1,7 +1,8 @@
 -- The fields of a core, from one call to the next.
 use Rattle.std.proofs.Common.{zero, suc, false, ◌⊎◌, cond, not, ◌&&◌, ◌||◌, None, IfSome, IfNone, ◌≡◌, ℕ, Bool, ◌+◌, ◌<◌, ◌≤◌, true, List, [], ◌∷◌, ◌++◌, Contains, Option, Some, IsSome, is_some, length, length-append, nat_lt, remove, slice_index_or, take, vec_capacity, vec_len, deque_len, arith, sym, ap, ◌∙◌, subst, refl, All}
-use Rattle.std.proofs.lemmas.Bool.{false≢true, ltb-false, ltb-true}
-use Rattle.std.proofs.lemmas.List.{take_all, take_more}
+use Rattle.std.specs.VecDeque.{deque_capacity}
+use Rattle.std.proofs.lemmas.Bool.{false≢true, ltb-false, ltb-true, or_parts}
+use Rattle.std.proofs.lemmas.List.{same_from_push, take_all, take_more}
 use Rattle.std.proofs.lemmas.List.Elements.{All-append, All-contains}
 use Rattle.wdl_base.specs.declared.entry.Entry.{Entry}
 use Rattle.wdl_base.specs.declared.fault.Fault.{Fault}
@@ -20,7 +21,7 @@ use Rattle.ready_core.specs.Cores as core
 use Rattle.ready_core.specs.Cores.{CoreState, Origin, all_taken, flow_at, has_fault, idle_at, is_taken, met_after, requests}
 use Rattle.ready_core.specs.Courses.{IsAwaited, IsOnCourse, kept, origin_of, plan_of}
 use Rattle.ready_core.specs.Inside.{HasRoomFor, IsRun, Stands, state}
-use Rattle.ready_core.specs.Logs.{HasRoom, IsEmpty, IsPlaceOf, IsWider, Settles, Stops, Takes, spare}
+use Rattle.ready_core.specs.Logs.{HasRoom, IsEmpty, IsLast, IsPlaceOf, IsWider, Settles, Stops, Takes, spare}
 use Rattle.ready_core.specs.Rows.{TakenJob}
 use Rattle.ready_core.specs.Turns as turns
 use Rattle.ready_core.specs.Turns.{AreShared, IsFirst, IsFollowed, IsNext, IsRoomier, IsSight, IsTurn, is_closed}
@@ -28,8 +29,8 @@ use Rattle.ready_core.proofs.Counted.{requested}
 use Rattle.ready_core.proofs.Counting.{passes_at}
 use Rattle.ready_core.proofs.Paired.{paired_request}
 use Rattle.ready_core.proofs.Runs.{differ, grow}
-use Rattle.ready_core.proofs.Shared.{all_were_taken, may_take, shared_settled, shared_taken}
-use Rattle.ready_core.proofs.Standing.{IsOut, out_fresh, out_held, out_job, settled_gone, settled_stands, started_stands, taken_stands, was_out, without}
+use Rattle.ready_core.proofs.Shared.{all_were_taken, may_take, shared_back, shared_settled, shared_taken}
+use Rattle.ready_core.proofs.Standing.{IsOut, out_fresh, out_held, out_job, settled_gone, settled_stands, started_stands, taken_stands, untaken_stands, was_out, without}
 use Rattle.ready_core.proofs.Stops.{spare_other}
 use Rattle.ready_core.proofs.Turning.{fault_later, fault_met, few_before, no_fault_before, open_parts}
 
@@ -37,6 +38,14 @@ use Rattle.ready_core.proofs.Turning.{fault_later, fault_met, few_before, no_fau
 
 room_taken : (m n : ℕ) (a b : Log) (j : TakenJob) → HasRoom m m a → n + 1 ≡ m → Takes a j b → HasRoom n n b
 room_taken m n a b j h e t =
+    record {
+      taken = omega (arith, h.taken, e, t.taken_len, t.taken_room);
+      out = omega (arith, h.out, e, t.out_len, t.out_room);
+      steps = omega (arith, h.steps, e, t.steps_len, t.steps_room, spare_other a.steps.items b.steps.items (step.Took j.request.place) refl t.steps);
+    }
+
+room_back : (m n : ℕ) (a b : Log) (j : TakenJob) → HasRoom m m b → n ≡ m + 1 → Takes a j b → HasRoom n n a
+room_back m n a b j h e t =
     record {
       taken = omega (arith, h.taken, e, t.taken_len, t.taken_room);
       out = omega (arith, h.out, e, t.out_len, t.out_room);
@@ -132,6 +141,7 @@ module _ (s then_ : Course) (log wide : Log) (t roomy : Turn) (same : origin_of 
           turn = moved.2;
           met = moved.3;
           room = subst (λ n. HasRoom n n wide) (sym r.length) (room_wider (deque_len t.ready) log wide run.room w);
+          back = omega (arith, run.back, r.length, r.capacity, w.out_len);
           course = moved.4;
         }
 
@@ -158,6 +168,7 @@ run_started s none log t main on first empty wider room =
           (subst (λ (x : List TakenJob). IsTurn o.checked (flow_at o []) [] x t) (sym out) (turn_of o [] [] t first.sight first.ready));
       met = subst (λ (x : List Entry). is_some t.fault ≡ met_after (flow_at o) [] x) (sym journal) first.sight.shows;
       room = room;
+      back = omega (arith, t.ready.small.1, wider.out_len, empty.out_len);
       course = subst (IsOnCourse s t.many) (sym journal) on;
     }
 
@@ -215,8 +226,8 @@ module _ (s : Course) (log next : Log) (t after : Turn) (j : TakenJob) (r : IsRu
       (subst (Stands o log.journal.items (log.taken.items ++ j ∷ [])) (sym takes.out)
       (taken_stands o log.journal.items log.taken.items log.out.items j r.stands (open_parts before not_closed).1 may)))
 
-  pub run_taken : after.fault ≡ t.fault → after.many ≡ t.many → after.outcome ≡ t.outcome → deque_len after.ready + 1 ≡ deque_len t.ready → IsRun s next after
-  run_taken fault many outcome len =
+  pub run_taken : after.fault ≡ t.fault → after.many ≡ t.many → after.outcome ≡ t.outcome → deque_len after.ready + 1 ≡ deque_len t.ready → deque_capacity after.ready ≡ deque_capacity t.ready → IsRun s next after
+  run_taken fault many outcome len wide =
       record {
         main = r.main;
         stands = stands_next;
@@ -233,6 +244,7 @@ module _ (s : Course) (log next : Log) (t after : Turn) (j : TakenJob) (r : IsRu
             }));
         met = ap is_some fault ∙ r.met ∙ ap (met_after (flow_at o) []) (sym kept_journal);
         room = room_taken (deque_len t.ready) (deque_len after.ready) log next j r.room len takes;
+        back = omega (arith, r.back, len, wide, takes.out_len);
         course = subst (λ b. IsOnCourse s b next.journal.items) (sym many) (subst (IsOnCourse s t.many) (sym kept_journal) r.course);
       }
 
@@ -252,6 +264,88 @@ module _ (s : Course) (log next : Log) (t after : Turn) (j : TakenJob) (r : IsRu
         origin = refl;
         after = same_state (plan_of s) refl kept_journal takes.taken takes.out takes.steps;
       }
+
+-- ---- giving a job back
+
+pub is_last : (s : Course) (log : Log) (c d : CoreState) (j : TakenJob) → state s log ≡ d → core.Takes c j d → IsLast log j
+is_last s log c d j is t =
+    let e : state s log ≡ record c { taken = c.taken ++ j ∷ []; out = c.out ++ j ∷ []; steps = c.steps ++ step.Took j.request.place ∷ [] } = is ∙ t.after in
+    record {
+      taken = c.taken;
+      out = c.out;
+      steps = c.steps;
+      is_taken = ap (λ (x : CoreState). x.taken) e;
+      is_out = ap (λ (x : CoreState). x.out) e;
+      is_step = ap (λ (x : CoreState). x.steps) e;
+    }
+
+open_if : (f : Flowing) (taken : List TakenJob) → core.idle f taken ≡ false → is_closed f ≡ false
+open_if f taken h =
+    let p = or_parts (has_fault f) (too_many f || all_taken f taken) h in
+    ap (λ b. b || too_many f) p.0 ∙ (or_parts (too_many f) (all_taken f taken) p.1).0
+
+-- The flow of a job that was taken last is open.
+pub still_open : (s : Course) (log : Log) (c d : CoreState) (j : TakenJob) → state s log ≡ d → core.Takes c j d → is_closed (flow_at (origin_of s) log.journal.items) ≡ false
+still_open s log c d j is t =
+    let e : state s log ≡ record c { taken = c.taken ++ j ∷ []; out = c.out ++ j ∷ []; steps = c.steps ++ step.Took j.request.place ∷ [] } = is ∙ t.after in
+    subst (λ (o : Origin). is_closed (flow_at o log.journal.items) ≡ false) (sym (ap (λ (x : CoreState). x.origin) e))
+    (subst (λ (es : List Entry). is_closed (flow_at c.origin es) ≡ false) (sym (ap (λ (x : CoreState). x.journal) e)) (open_if (core.flow_of c) c.taken t.busy))
+
+module _ (s : Course) (log before : Log) (t after : Turn) (j : TakenJob) (r : IsRun s log t) (takes : Takes before j log) (ready : after.ready.items ≡ j ∷ t.ready.items) where
+  abbrev q : Origin
+  q = origin_of s
+
+  abbrev over : Flowing
+  over = flow_at q log.journal.items
+
+  same_journal : log.journal.items ≡ before.journal.items
+  same_journal = ap (λ (v : _). v.items) takes.journal
+
+  stands_before : Stands q before.journal.items before.taken.items before.out.items
+  stands_before =
+      subst (λ (x : List Entry). Stands q x before.taken.items before.out.items) same_journal
+      (untaken_stands q log.journal.items before.taken.items before.out.items j
+      (subst (λ (x : List TakenJob). Stands q log.journal.items x (before.out.items ++ j ∷ [])) takes.taken
+      (subst (Stands q log.journal.items log.taken.items) takes.out r.stands)))
+
+  shared_before : is_closed over ≡ false → AreShared over log.journal.items before.out.items after.ready.items
+  shared_before opened =
+      subst (AreShared over log.journal.items before.out.items) (sym ready)
+      (shared_back over log.journal.items before.out.items t.ready.items j
+      (subst (λ (x : List TakenJob). AreShared over log.journal.items x t.ready.items) takes.out (r.turn.shared opened)))
+
+  pub run_back : is_closed over ≡ false → after.fault ≡ t.fault → after.many ≡ t.many → after.outcome ≡ t.outcome → deque_len after.ready ≡ deque_len t.ready + 1
+      → deque_capacity after.ready ≡ deque_capacity t.ready → IsRun s before after
+  run_back opened fault many outcome len wide =
+      record {
+        main = r.main;
+        stands = stands_before;
+        turn =
+            subst (λ (x : List Entry). IsTurn q.checked (flow_at q x) x before.out.items after) same_journal
+            (record {
+              even = r.turn.even;
+              closed = λ h. absurd (false≢true (sym opened ∙ h));
+              shared = shared_before;
+              fault = subst (turns.IsFaultOf over) (sym fault) r.turn.fault;
+              many = many ∙ r.turn.many;
+              outcome = outcome ∙ r.turn.outcome;
+            });
+        met = ap is_some fault ∙ r.met ∙ ap (met_after (flow_at q) []) same_journal;
+        room = room_back (deque_len t.ready) (deque_len after.ready) before log j r.room len takes;
+        back = omega (arith, r.back, len, wide, takes.out_len);
+        course = subst (λ b. IsOnCourse s b before.journal.items) (sym many) (subst (IsOnCourse s t.many) same_journal r.course);
+      }
+
+-- What a job is given back to is what it was taken from.
+pub state_back : (s : Course) (log before : Log) (j : TakenJob) (c d : CoreState) → Takes before j log → state s log ≡ d → core.Takes c j d → state s before ≡ c
+state_back s log before j c d takes is t =
+    let took = step.Took j.request.place in
+    let e : state s log ≡ record c { taken = c.taken ++ j ∷ []; out = c.out ++ j ∷ []; steps = c.steps ++ took ∷ [] } = is ∙ t.after in
+    same_state (plan_of s) (ap (λ (x : CoreState). x.origin) e) (sym (ap (λ (v : _). v.items) takes.journal) ∙ ap (λ (x : CoreState). x.journal) e)
+    (same_from_push before.taken.items c.taken j j (sym takes.taken ∙ ap (λ (x : CoreState). x.taken) e)).0
+    (same_from_push before.out.items c.out j j (sym takes.out ∙ ap (λ (x : CoreState). x.out) e)).0
+    (same_from_push before.steps.items c.steps took took (sym takes.steps ∙ ap (λ (x : CoreState). x.steps) e)).0
+    ∙ ap (λ (p : Option Plan). stated p c.origin c.journal c.taken c.out c.steps) (ap (λ (x : CoreState). x.plan) e)
 
 -- ---- what is out
 
@@ -333,7 +427,7 @@ fault_none f None h = h
 pub run_stopped : (s : Course) (log next : Log) (t : Turn) → IsRun s log t → Stops log next → IsRun s next t
 run_stopped s log next t r h =
     subst (λ (l : Log). HasRoom (deque_len t.ready) (deque_len t.ready) l → IsRun s l t) (sym h.same)
-    (λ room. record { main = r.main; stands = r.stands; turn = r.turn; met = r.met; room = room; course = r.course })
+    (λ room. record { main = r.main; stands = r.stands; turn = r.turn; met = r.met; room = room; back = r.back; course = r.course })
     (room_stopped (deque_len t.ready) log next r.room h)
 
 pub state_stopped : (s : Course) (log next : Log) → Stops log next → state s next ≡ core.stopped (state s log)
@@ -447,6 +541,7 @@ module _ (s : Course) (log next : Log) (t fresh after : Turn) (at : ℕ) (e : En
           turn = moved_then.2;
           met = moved_then.3;
           room = room_settled (deque_len t.ready + deque_len fresh.ready) (deque_len after.ready) at e log next room.jobs followed.length settles;
+          back = omega (arith, room.ready, followed.length, followed.capacity, settles.out_len);
           course =
               subst (IsOnCourse (kept s) after.many) (sym settles.journal)
               (subst (λ b. IsOnCourse (kept s) b (log.journal.items ++ e ∷ [])) (sym followed.many) on);

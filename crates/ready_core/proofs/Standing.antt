@@ -2,7 +2,7 @@
 use Rattle.std.proofs.Common.{◌≡◌, ℕ, ◌<◌, ◌≤◌, Bool, true, false, cond, ◌⊎◌, inl, inr, List, [], ◌∷◌, ◌++◌, Contains, IsSome, count_by, length, length-append, nat_lt, remove, slice_index_or, arith, sym, ap, ◌∙◌, subst, refl}
 use Rattle.std.proofs.lemmas.Bool.{false≢true, false_from_ne_true, ltb-false, or_parts, or_cases}
 use Rattle.std.proofs.lemmas.List.Edits.{length-remove}
-use Rattle.std.proofs.lemmas.List.Elements.{Contains-append_cases, Contains-append_right}
+use Rattle.std.proofs.lemmas.List.Elements.{Contains-append_cases, Contains-append_left, Contains-append_right}
 use Rattle.wdl_base.specs.declared.entry.Entry.{Entry}
 use Rattle.wdl_base.specs.declared.request.Request.{Request}
 use Rattle.wdl_base.specs.Same.{same_place, same_request}
@@ -95,6 +95,33 @@ taken_stands o j taken out t s few may =
       balances = balance_more out j taken t s.balances;
       counted = omega (arith, s.counted, length-append out (t ∷ []), length-append taken (t ∷ []));
       few = all_few (flow_at o j) (taken ++ t ∷ []) few once jobs;
+    }
+
+-- ---- a job less
+
+jobs_less : (f : Flowing) (taken : List TakenJob) (t : TakenJob) → AreJobs f (taken ++ t ∷ []) → AreJobs f taken
+unfolding AreJobs
+jobs_less f taken t h j c = h j (Contains-append_left taken (t ∷ []) j c)
+
+once_less : (taken : List TakenJob) (t : TakenJob) → AreTakenOnce (taken ++ t ∷ []) → AreTakenOnce taken
+unfolding AreTakenOnce
+once_less taken t h r = omega (arith, h r, count_push (is_taking r) taken t)
+
+balance_less : (out : List TakenJob) (es : List Entry) (taken : List TakenJob) (t : TakenJob) → Balances (out ++ t ∷ []) es (taken ++ t ∷ []) → Balances out es taken
+unfolding Balances
+balance_less out es taken t h is =
+    let p : TakenJob → Bool = λ j. is j.request in
+    omega (arith, h is, count_push p out t, count_push p taken t)
+
+pub untaken_stands : (o : Origin) (j : List Entry) (taken out : List TakenJob) (t : TakenJob) → Stands o j (taken ++ t ∷ []) (out ++ t ∷ []) → Stands o j taken out
+untaken_stands o j taken out t s =
+    record {
+      fed = s.fed;
+      jobs = jobs_less (flow_at o j) taken t s.jobs;
+      once = once_less taken t s.once;
+      balances = balance_less out j taken t s.balances;
+      counted = omega (arith, s.counted, length-append out (t ∷ []), length-append taken (t ∷ []));
+      few = omega (arith, s.few, length-append taken (t ∷ []));
     }
 
 -- ---- an answer

@@ -5,7 +5,7 @@ ghost use Rattle.ready_core.specs.Logs as logs;
 
 use crate::history::History;
 use crate::job::{Answered, Job};
-use crate::pending::Pending;
+use crate::pending::{Pending, Taking};
 use std::alloc::Global;
 use std::collections::VecDeque;
 use wdl_value::{Entry, Items, NoMemory, Request, Step, same_request};
@@ -88,6 +88,30 @@ impl Log {
         self.out.push_reserved(taking.out);
         self.steps.push_reserved(taking.step);
         taking.job
+    }
+
+    /// Takes back the job that was taken last, with all that taking it needs. It takes no memory.
+    pub fn give_back(&mut self, job: Job) -> Pending
+        requires last { logs.IsLast self.old job }
+        ensures job { result ≡ job }
+        ensures back { logs.Takes self.new job self.old }
+    {
+        let Some(taken) = self.taken.pop() else {
+            unreachable!();
+        };
+        let Some(out) = self.out.pop() else {
+            unreachable!();
+        };
+        let Some(step) = self.steps.pop() else {
+            unreachable!();
+        };
+        let taking = Taking {
+            job,
+            out,
+            taken,
+            step,
+        };
+        taking.into_pending()
     }
 
     /// Settles the answer of the job of that number among those that are out. There is room for the

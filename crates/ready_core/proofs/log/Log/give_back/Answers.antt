@@ -1,0 +1,1 @@
+use Rattle.ready_core.proofs.log.Log.give_back.Goals as goal
