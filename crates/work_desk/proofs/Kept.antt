@@ -1,5 +1,5 @@
 -- A keeper through a run.
-use Rattle.std.proofs.Common.{◌≡◌, ℕ, ◌+◌, ◌-◌, ◌^◌, ◌≤◌, List, [], ◌∷◌, ◌++◌, Bool, true, false, ◌&&◌, ◌==◌, Contains, Option, Some, None, is_some, true≢false, ap, sym, refl, subst, inl, inr, arith, ◌∙◌, ◌⊎◌, min}
+use Rattle.std.proofs.Common.{◌≡◌, ℕ, ◌+◌, ◌-◌, ◌^◌, ◌≤◌, List, [], ◌∷◌, ◌++◌, Bool, true, false, ◌&&◌, ◌==◌, Contains, length, Option, Some, None, is_some, true≢false, ap, sym, refl, subst, inl, inr, arith, ◌∙◌, ◌⊎◌, min}
 use Rattle.std.specs.Prelude.{Result, Err, is_none}
 use Rattle.std.specs.Ordering.{is_lt, nat_cmp, ordering_then}
 use Rattle.std.specs.Cmp.Lexicographic.{slice_cmp}
@@ -30,7 +30,7 @@ use Rattle.wdl_port.specs.Rows.{are_kept, is_kept, kept_row, placed, put_row, re
 use Rattle.flow_laws.proofs.Elements.{contains_first, contains_later, first_or_later, none_within, only_one}
 use Rattle.flow_laws.proofs.SameRequests.{place_itself, request_same}
 use Rattle.scatter_plan.specs.declared.plan.Plan.{Plan}
-use Rattle.ready_core.specs.Cores.{AreHeld, CoreState, Origin, Settles, Takes, is_taken, requests, started}
+use Rattle.ready_core.specs.Cores.{AreHeld, CoreState, Origin, Settles, Takes, is_taken, requests, started, stopped}
 use Rattle.ready_core.specs.declared.history.SettleFault.{SettleFault}
 use Rattle.ready_core.specs.declared.history.SettleFault.TheVariants as settling
 use Rattle.ready_core.specs.HandsBack.{HandsBack, IsUnsettled}
@@ -151,6 +151,16 @@ launched_kept e = cc
 
 pub taken_itself : (c d : CoreState) (j : TakenJob) → Takes c j d → Contains d.taken j
 taken_itself c d j t = subst (λ (x : CoreState). Contains x.taken j) (sym t.after) (Contains-append_right c.taken (j ∷ []) j (contains_first j []))
+
+-- of the plan a take asks nothing
+pub taken_bare : (c d e : CoreState) (j : TakenJob) (plan : Option Plan) → Takes c j d → e ≡ record d { plan = plan } → Takes (record c { plan = plan }) j e
+taken_bare c d e j plan t same = record {
+  busy = t.busy;
+  may = t.may;
+  few = subst (λ (x : CoreState). length x.taken ≤ 20000) (sym same) t.few;
+  origin = ap (λ (x : CoreState). x.origin) same ∙ t.origin;
+  after = same ∙ ap (λ (x : CoreState). record x { plan = plan }) t.after;
+}
 
 pub usable_asks : (row : Entry) (j : TakenJob) → is_usable j row ≡ true → row.request ≡ j.request
 usable_asks row j usable = request_same row.request j.request (and_parts (same_request row.request j.request) (is_success j.codes row.answer.status) usable).0
@@ -456,17 +466,32 @@ module _ (gives : Request → Answer → Type 0) (rows : List Entry) (k : Keeper
       → Holding gives rows k d s m
   hold_asked c d s l m j h t path later same = hold_left d s s l m (hold_taken c d s l j h t) path later same (λ e. inl e) (λ none. none)
 
-  -- and does not answer
-  pub hold_unasked : (c d : CoreState) (s : Option Stop) (why : Stop) (l m : KeeperView) (j : TakenJob) → Holding gives rows k c s l → Takes c j d
-      → m.path ≡ l.path → l.faults ≤ m.faults → m.kept ≡ l.kept
-      → (why ≡ Keep → Rose l.faults m.faults) → Holding gives rows k (noted s (halted s why) d) (halted s why) m
-  hold_unasked c d s why l m j h t path later same rose =
-      hold_noted gives rows k d (halted s why) s (halted s why) m
-      (hold_left d s (halted s why) l m (hold_taken c d s l j h t) path later same (by_stop s) (λ none. absurd (halted_none s why none)))
-    where
-      by_stop : (x : Option Stop) → halted x why ≡ Some Keep → (x ≡ Some Keep) ⊎ Rose l.faults m.faults
-      by_stop None e = inr (rose (same_Some _ _ e))
-      by_stop (Some x) e = inl e
+  -- the keeper is asked for a row, and does not answer
+  pub hold_unasked : (c : CoreState) (why : Stop) (l m : KeeperView) → Holding gives rows k c None l → m.path ≡ l.path → l.faults ≤ m.faults → m.kept ≡ l.kept
+      → (why ≡ Keep → Rose l.faults m.faults) → Holding gives rows k (stopped c) (Some why) m
+  hold_unasked c why l m h path later same rose =
+      hold_noted gives rows k c (Some why) None (Some why) m
+      (hold_left c None (Some why) l m h path later same (λ e. inr (rose (same_Some _ _ e))) (λ none. absurd (halted_none None why none)))
+
+  -- memory is wanting
+  pub hold_wanting : (c : CoreState) (l : KeeperView) → Holding gives rows k c None l → Holding gives rows k (stopped c) (Some NoMemory) l
+  hold_wanting c l h =
+      hold_noted gives rows k c (Some NoMemory) None (Some NoMemory) l (hold_stopped c None (Some NoMemory) l h (halted_keeps None))
+
+  -- of the plan nothing is asked
+  pub hold_bare : (c : CoreState) (s : Option Stop) (l : KeeperView) (plan : Option Plan) → Holding gives rows k c s l → Holding gives rows k (record c { plan = plan }) s l
+  hold_bare c s l plan h = record {
+    ready = h.ready;
+    placed = h.placed;
+    settled = h.settled;
+    went = record {
+      path = h.went.path;
+      faults = h.went.faults;
+      keep = h.went.keep;
+      told = h.went.told;
+      rows = λ before after p q. let w = h.went.rows before after p q in record { from = w.from; left = w.left; journal = w.journal };
+    };
+  }
 
   -- the keeper failed, and the answer is settled all the same
   pub hold_failed : (c d : CoreState) (s t : Option Stop) (l m : KeeperView) (e : Entry) → Holding gives rows k c s l → m.path ≡ l.path → l.faults ≤ m.faults → m.kept ≡ l.kept → Rose l.faults m.faults

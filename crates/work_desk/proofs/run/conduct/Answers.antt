@@ -1,4 +1,4 @@
-use Rattle.std.proofs.Common.{[], ℕ, sym, subst}
+use Rattle.std.proofs.Common.{ℕ, sym, subst}
 use Rattle.std.specs.Prelude.{None}
 use Rattle.ready_core.specs.Cores.{CoreState}
 use Rattle.work_desk.specs.Held.{held}
@@ -18,7 +18,7 @@ drive-requires-clause-run g c =
     let stop = c.judge.new.stop in
     let core = c.args.core in
     rw (c.judge.ensures.noted, c.requires.shares)
-    (subst (λ (x : CoreState). IsRun p.workers p.gives p.refuses p.lapses c.args.rows.now [] 0 (noted None stop x) (held 0 0) stop) (sym c.requires.core)
+    (subst (λ (x : CoreState). IsRun p.workers p.gives p.refuses p.lapses c.args.rows.now 0 (noted None stop x) (held 0 0) stop) (sym c.requires.core)
     (run_started p.workers p.gives p.refuses p.lapses c.args.rows.now core.origin core.plan stop
     (subst (λ (x : CoreState). Judges x None stop) c.requires.core c.judge.ensures.judged)))
 
@@ -35,7 +35,7 @@ returns-clause-run g c =
     let four = c.counts-counts in
     subst (λ (n : ℕ). HasRun n gives refuses lapses rows self.core self.stop four.result) (sym c.requires.workers.0)
     (run_ended p.workers p.gives p.refuses gives refuses p.lapses lapses rows self.core self.shares self.stop four.result drive.run c.requires.back
-    c.requires.lapses four.ensures drive.even drive.done)
+    c.requires.lapses four.ensures drive.done)
 
 pub returns-clause-keeper : goal.returns-clause-keeper
 returns-clause-keeper g c =
