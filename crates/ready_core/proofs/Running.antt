@@ -158,6 +158,7 @@ run_started s none log t main on first empty wider room =
     let journal : log.journal.items ≡ [] = wider.journal ∙ empty.journal in
     let taken : log.taken.items ≡ [] = wider.taken ∙ empty.taken in
     let out : log.out.items ≡ [] = wider.out ∙ empty.out in
+    let fits : deque_len t.ready ≤ deque_capacity t.ready = t.ready.small.1 in
     record {
       main = main;
       stands =
@@ -168,7 +169,7 @@ run_started s none log t main on first empty wider room =
           (subst (λ (x : List TakenJob). IsTurn o.checked (flow_at o []) [] x t) (sym out) (turn_of o [] [] t first.sight first.ready));
       met = subst (λ (x : List Entry). is_some t.fault ≡ met_after (flow_at o) [] x) (sym journal) first.sight.shows;
       room = room;
-      back = omega (arith, t.ready.small.1, wider.out_len, empty.out_len);
+      back = omega (arith, fits, wider.out_len, empty.out_len);
       course = subst (IsOnCourse s t.many) (sym journal) on;
     }
 
@@ -267,16 +268,26 @@ module _ (s : Course) (log next : Log) (t after : Turn) (j : TakenJob) (r : IsRu
 
 -- ---- giving a job back
 
+some_last : {A : Type 0} (xs front : List A) (x : A) (n : ℕ) → xs ≡ front ++ x ∷ [] → n ≡ length xs → 0 < n
+some_last xs front x n e long = omega (arith, ap length e, long, length-append front (x ∷ []))
+
 pub is_last : (s : Course) (log : Log) (c d : CoreState) (j : TakenJob) → state s log ≡ d → core.Takes c j d → IsLast log j
 is_last s log c d j is t =
-    let e : state s log ≡ record c { taken = c.taken ++ j ∷ []; out = c.out ++ j ∷ []; steps = c.steps ++ step.Took j.request.place ∷ [] } = is ∙ t.after in
+    let took = step.Took j.request.place in
+    let e : state s log ≡ record c { taken = c.taken ++ j ∷ []; out = c.out ++ j ∷ []; steps = c.steps ++ took ∷ [] } = is ∙ t.after in
+    let taken = ap (λ (x : CoreState). x.taken) e in
+    let out = ap (λ (x : CoreState). x.out) e in
+    let steps = ap (λ (x : CoreState). x.steps) e in
     record {
       taken = c.taken;
       out = c.out;
       steps = c.steps;
-      is_taken = ap (λ (x : CoreState). x.taken) e;
-      is_out = ap (λ (x : CoreState). x.out) e;
-      is_step = ap (λ (x : CoreState). x.steps) e;
+      is_taken = taken;
+      is_out = out;
+      is_step = steps;
+      some_taken = some_last log.taken.items c.taken j (vec_len log.taken) taken log.taken.ok.0;
+      some_out = some_last log.out.items c.out j (vec_len log.out) out log.out.ok.0;
+      some_steps = some_last log.steps.items c.steps took (vec_len log.steps) steps log.steps.ok.0;
     }
 
 open_if : (f : Flowing) (taken : List TakenJob) → core.idle f taken ≡ false → is_closed f ≡ false
@@ -291,60 +302,60 @@ still_open s log c d j is t =
     subst (λ (o : Origin). is_closed (flow_at o log.journal.items) ≡ false) (sym (ap (λ (x : CoreState). x.origin) e))
     (subst (λ (es : List Entry). is_closed (flow_at c.origin es) ≡ false) (sym (ap (λ (x : CoreState). x.journal) e)) (open_if (core.flow_of c) c.taken t.busy))
 
-module _ (s : Course) (log before : Log) (t after : Turn) (j : TakenJob) (r : IsRun s log t) (takes : Takes before j log) (ready : after.ready.items ≡ j ∷ t.ready.items) where
-  abbrev q : Origin
-  q = origin_of s
+module _ (s : Course) (log prior : Log) (t after : Turn) (j : TakenJob) (r : IsRun s log t) (takes : Takes prior j log) (ready : after.ready.items ≡ j ∷ t.ready.items) where
+  abbrev own : Origin
+  own = origin_of s
 
   abbrev over : Flowing
-  over = flow_at q log.journal.items
+  over = flow_at own log.journal.items
 
-  same_journal : log.journal.items ≡ before.journal.items
-  same_journal = ap (λ (v : _). v.items) takes.journal
+  prior_journal : log.journal.items ≡ prior.journal.items
+  prior_journal = ap (λ (v : _). v.items) takes.journal
 
-  stands_before : Stands q before.journal.items before.taken.items before.out.items
-  stands_before =
-      subst (λ (x : List Entry). Stands q x before.taken.items before.out.items) same_journal
-      (untaken_stands q log.journal.items before.taken.items before.out.items j
-      (subst (λ (x : List TakenJob). Stands q log.journal.items x (before.out.items ++ j ∷ [])) takes.taken
-      (subst (Stands q log.journal.items log.taken.items) takes.out r.stands)))
+  stands_prior : Stands own prior.journal.items prior.taken.items prior.out.items
+  stands_prior =
+      subst (λ (x : List Entry). Stands own x prior.taken.items prior.out.items) prior_journal
+      (untaken_stands own log.journal.items prior.taken.items prior.out.items j
+      (subst (λ (x : List TakenJob). Stands own log.journal.items x (prior.out.items ++ j ∷ [])) takes.taken
+      (subst (Stands own log.journal.items log.taken.items) takes.out r.stands)))
 
-  shared_before : is_closed over ≡ false → AreShared over log.journal.items before.out.items after.ready.items
-  shared_before opened =
-      subst (AreShared over log.journal.items before.out.items) (sym ready)
-      (shared_back over log.journal.items before.out.items t.ready.items j
+  shared_prior : is_closed over ≡ false → AreShared over log.journal.items prior.out.items after.ready.items
+  shared_prior opened =
+      subst (AreShared over log.journal.items prior.out.items) (sym ready)
+      (shared_back over log.journal.items prior.out.items t.ready.items j
       (subst (λ (x : List TakenJob). AreShared over log.journal.items x t.ready.items) takes.out (r.turn.shared opened)))
 
   pub run_back : is_closed over ≡ false → after.fault ≡ t.fault → after.many ≡ t.many → after.outcome ≡ t.outcome → deque_len after.ready ≡ deque_len t.ready + 1
-      → deque_capacity after.ready ≡ deque_capacity t.ready → IsRun s before after
+      → deque_capacity after.ready ≡ deque_capacity t.ready → IsRun s prior after
   run_back opened fault many outcome len wide =
       record {
         main = r.main;
-        stands = stands_before;
+        stands = stands_prior;
         turn =
-            subst (λ (x : List Entry). IsTurn q.checked (flow_at q x) x before.out.items after) same_journal
+            subst (λ (x : List Entry). IsTurn own.checked (flow_at own x) x prior.out.items after) prior_journal
             (record {
               even = r.turn.even;
               closed = λ h. absurd (false≢true (sym opened ∙ h));
-              shared = shared_before;
+              shared = shared_prior;
               fault = subst (turns.IsFaultOf over) (sym fault) r.turn.fault;
               many = many ∙ r.turn.many;
               outcome = outcome ∙ r.turn.outcome;
             });
-        met = ap is_some fault ∙ r.met ∙ ap (met_after (flow_at q) []) same_journal;
-        room = room_back (deque_len t.ready) (deque_len after.ready) before log j r.room len takes;
+        met = ap is_some fault ∙ r.met ∙ ap (met_after (flow_at own) []) prior_journal;
+        room = room_back (deque_len t.ready) (deque_len after.ready) prior log j r.room len takes;
         back = omega (arith, r.back, len, wide, takes.out_len);
-        course = subst (λ b. IsOnCourse s b before.journal.items) (sym many) (subst (IsOnCourse s t.many) same_journal r.course);
+        course = subst (λ b. IsOnCourse s b prior.journal.items) (sym many) (subst (IsOnCourse s t.many) prior_journal r.course);
       }
 
 -- What a job is given back to is what it was taken from.
-pub state_back : (s : Course) (log before : Log) (j : TakenJob) (c d : CoreState) → Takes before j log → state s log ≡ d → core.Takes c j d → state s before ≡ c
-state_back s log before j c d takes is t =
+pub state_back : (s : Course) (log prior : Log) (j : TakenJob) (c d : CoreState) → Takes prior j log → state s log ≡ d → core.Takes c j d → state s prior ≡ c
+state_back s log prior j c d takes is t =
     let took = step.Took j.request.place in
     let e : state s log ≡ record c { taken = c.taken ++ j ∷ []; out = c.out ++ j ∷ []; steps = c.steps ++ took ∷ [] } = is ∙ t.after in
     same_state (plan_of s) (ap (λ (x : CoreState). x.origin) e) (sym (ap (λ (v : _). v.items) takes.journal) ∙ ap (λ (x : CoreState). x.journal) e)
-    (same_from_push before.taken.items c.taken j j (sym takes.taken ∙ ap (λ (x : CoreState). x.taken) e)).0
-    (same_from_push before.out.items c.out j j (sym takes.out ∙ ap (λ (x : CoreState). x.out) e)).0
-    (same_from_push before.steps.items c.steps took took (sym takes.steps ∙ ap (λ (x : CoreState). x.steps) e)).0
+    (same_from_push prior.taken.items c.taken j j (sym takes.taken ∙ ap (λ (x : CoreState). x.taken) e)).0
+    (same_from_push prior.out.items c.out j j (sym takes.out ∙ ap (λ (x : CoreState). x.out) e)).0
+    (same_from_push prior.steps.items c.steps took took (sym takes.steps ∙ ap (λ (x : CoreState). x.steps) e)).0
     ∙ ap (λ (p : Option Plan). stated p c.origin c.journal c.taken c.out c.steps) (ap (λ (x : CoreState). x.plan) e)
 
 -- ---- what is out

@@ -67,6 +67,9 @@ pub record IsLast (l : Log) (j : TakenJob) : Type 0 where
   pub is_taken : l.taken.items ≡ taken ++ j ∷ []
   pub is_out : l.out.items ≡ out ++ j ∷ []
   pub is_step : l.steps.items ≡ steps ++ step.Took j.request.place ∷ []
+  pub some_taken : 0 < vec_len l.taken
+  pub some_out : 0 < vec_len l.out
+  pub some_steps : 0 < vec_len l.steps
 
 -- a stop noted, for which there was room
 pub record Stops (a b : Log) : Type 0 where

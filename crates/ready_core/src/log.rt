@@ -1,4 +1,4 @@
-ghost use Rattle.std.specs.Prelude.{◌≡◌, ◌<◌, ◌≤◌, ◌+◌, OnOk, vec_capacity, vec_len};
+ghost use Rattle.std.specs.Prelude.{◌≡◌, ◌<◌, ◌≤◌, ◌+◌, ◌∷◌, ◌++◌, [], OnOk, vec_capacity, vec_len};
 ghost use Rattle.std.specs.VecDeque.{deque_len};
 ghost use Rattle.ready_core.specs.Cores as spec;
 ghost use Rattle.ready_core.specs.Logs as logs;
@@ -31,6 +31,19 @@ pub fn place_of(jobs: &[Job], request: &Request) -> Option<usize>
         }
     }
     None
+}
+
+/// Takes the last element off a list that is not empty.
+fn take_last<T: Drop>(list: &mut Vec<T>) -> T
+    requires some { 0 < vec_len list.old }
+    ensures items { list.old.items ≡ list.new.items ++ result ∷ [] }
+    ensures len { vec_len list.old ≡ vec_len list.new + 1 }
+    ensures capacity { vec_capacity list.old ≡ vec_capacity list.new }
+{
+    let Some(last) = list.pop() else {
+        unreachable!();
+    };
+    last
 }
 
 /// Whether the run stopped.
@@ -96,15 +109,9 @@ impl Log {
         ensures job { result ≡ job }
         ensures back { logs.Takes self.new job self.old }
     {
-        let Some(taken) = self.taken.pop() else {
-            unreachable!();
-        };
-        let Some(out) = self.out.pop() else {
-            unreachable!();
-        };
-        let Some(step) = self.steps.pop() else {
-            unreachable!();
-        };
+        let taken = take_last(&mut self.taken);
+        let out = take_last(&mut self.out);
+        let step = take_last(&mut self.steps);
         let taking = Taking {
             job,
             out,

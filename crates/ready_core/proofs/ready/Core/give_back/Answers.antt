@@ -9,8 +9,8 @@ give_back-requires c = record { last = is_last c.self.inside.course c.self.insid
 pub push_front_reserved-requires : goal.push_front_reserved-requires
 push_front_reserved-requires c = omega (arith, c.self.invariant.back, c.give_back.ensures.back.out_len)
 
-pub invariant_of-self-2 : goal.invariant_of-self-2
-invariant_of-self-2 c =
+pub invariant_of-self : goal.invariant_of-self
+invariant_of-self c =
     let i = c.self.inside in
     run_back i.course i.log c.give_back.new.self i.turn _ c.args.job c.self.invariant c.give_back.ensures.back
     (c.push_front_reserved.ensures.items ∙ ap (λ (j : TakenJob). j ∷ i.turn.ready.items) c.give_back.ensures.job)
