@@ -1,10 +1,10 @@
 -- The steps of a run, over plain values.
-use Rattle.std.proofs.Common.{◌≡◌, ℕ, ◌+◌, ◌<◌, ◌≤◌, ◌⊎◌, List, [], ◌∷◌, ◌++◌, length, Bool, true, false, refl, sym, ap, ◌∙◌, subst, arith, length-append, zero, suc, inl, inr}
+use Rattle.std.proofs.Common.{◌≡◌, ℕ, ◌+◌, ◌<◌, ◌≤◌, ◌⊎◌, List, [], ◌∷◌, ◌++◌, Contains, length, Bool, true, false, refl, sym, ap, ◌∙◌, subst, arith, length-append, zero, suc, inl, inr}
 use Rattle.std.specs.Prelude.{All, Option, Some, None, IfNone, is_some, cond}
 use Rattle.std.proofs.lemmas.Bool.{false≢true}
 use Rattle.std.proofs.lemmas.List.Elements.{Contains-append_left, All-append, All-weaker, All-nil}
 use Rattle.std.proofs.lemmas.List.{nil_from_length}
-use Rattle.std.proofs.lemmas.List.Sums.{sum_by-append, count_by-le-length}
+use Rattle.std.proofs.lemmas.List.Sums.{sum_by-append}
 use Rattle.wdl_base.specs.declared.answer.Answer.{Answer}
 use Rattle.wdl_base.specs.declared.entry.Entry.{Entry}
 use Rattle.wdl_base.specs.declared.entry.Source.{Source}
@@ -46,9 +46,6 @@ answer_in_hand s = cond (is_launched s) 1 0
 
 launched_more : (es : List Entry) (e : Entry) → launched (es ++ e ∷ []) ≡ launched es + answer_in_hand e.source
 launched_more es e = omega (arith, sum_by-append (λ (x : Entry). cond (is_launched x.source) 1 0) es (e ∷ []))
-
-launched_few : (es : List Entry) → launched es ≤ length es
-launched_few es = count_by-le-length (λ (e : Entry). is_launched e.source) es
 
 -- ---- what was given
 
