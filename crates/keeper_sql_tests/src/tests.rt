@@ -297,10 +297,23 @@ fn is_refused_by_table(rt: &HostRuntime) -> Result<bool, Want> {
     Ok(true)
 }
 
+/// Whether a database of these rows is refused, and its table left as it is. An empty table of
+/// stamps stands beside it then.
+fn has_foreign_rows(rt: &HostRuntime, bodies: &str) -> Result<bool, Want> {
+    make_dir(rt, "bad")?;
+    make_database(rt, BAD, TABLE, bodies)?;
+    let refused = counts_faults(
+        rt.alloc(),
+        &mut SqlKeeper::new(rt, KeeperNotes::new(io::sink(), "")),
+        BAD,
+    );
+    Ok(refused && holds(rt, BAD, bodies)?)
+}
+
 /// Whether each database of other rows is refused.
 fn is_refused_by_rows(rt: &HostRuntime) -> Result<bool, Want> {
     for bodies in ROWS.split(';') {
-        if !is_foreign(rt, TABLE, bodies)? {
+        if !has_foreign_rows(rt, bodies)? {
             return Ok(false);
         }
     }
