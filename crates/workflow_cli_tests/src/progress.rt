@@ -14,7 +14,7 @@ notes 10000
 > # [0 done, 1 running] say: started
 > # [1 done, 0 running] say: status 0
 > # 1 job done, 0 failed
-> # the files of each job are below /tmp/wdl-run
+> # the files of each job are below /tmp/wdl-run; the next run without --root empties these directories
 
 say
 text workflow w { call say { input: s = "hi" } output { String r = say.r } }
@@ -34,7 +34,7 @@ notes 10000
 > #   standard output: /tmp/wdl-run/say/_stdout
 > #   standard error: /tmp/wdl-run/say/_stderr
 > # 0 jobs done, 1 failed
-> # the files of each job are below /tmp/wdl-run"#;
+> # the files of each job are below /tmp/wdl-run; the next run without --root empties these directories"#;
 
 #[test]
 fn a_person_sees_a_run_and_its_failed_job(rt: HostRuntime) -> Result<(), Fail> {
