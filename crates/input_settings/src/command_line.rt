@@ -42,10 +42,7 @@ fn run_command<'a>(alloc: Global) -> Result<Command<'a>, AllocError> {
 }
 
 /// What stands in the arguments of a command that takes inputs, if they are valid.
-fn matches_in<'a>(
-    alloc: Global,
-    words: &'a [String],
-) -> Result<Option<ArgMatches<'a>>, NoMemory> {
+fn matches_in<'a>(alloc: Global, words: &'a [String]) -> Result<Option<ArgMatches<'a>>, NoMemory> {
     let command = match words.first() {
         Some(word) if word.as_str() == "run" => run_command(alloc)?,
         Some(word) if word.as_str() == "cwl" => command_of(alloc, "cwl")?,

@@ -30,7 +30,11 @@ fn found_in(reader: &mut Reader<'_>, text: &str, name: &str) -> Option<Found> {
     };
     for _ in 0..text.len() {
         let Some(key) = reader.next_key().ok()? else {
-            return if reader.next().is_none() { Some(found) } else { None };
+            return if reader.next().is_none() {
+                Some(found)
+            } else {
+                None
+            };
         };
         let start = reader.offset();
         reader.skip_value(MAX_DEPTH - 1).ok()?;

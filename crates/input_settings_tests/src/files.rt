@@ -42,7 +42,9 @@ fn answer<R: Files + AllocGlobal>(rt: &R, words: &[&str], text: &str) -> Result<
     let set = set_line(rt, alloc, words.as_slice(), Some("/here/"))?.ok_or("the line")?;
     let flow = flow(alloc)?;
     let structs = [lane(alloc)?];
-    let whole = set.settings.text(alloc, text.as_bytes(), Some(&flow), structs.as_slice())?;
+    let whole = set
+        .settings
+        .text(alloc, text.as_bytes(), Some(&flow), structs.as_slice())?;
     Ok(whole.ok_or("the text")?)
 }
 
@@ -58,16 +60,39 @@ fn relative_files_are_below_the_folder(rt: HostRuntime) -> Result<(), Fail> {
 
 #[test]
 fn a_folder_is_made_a_whole_path(rt: HostRuntime) -> Result<(), Fail> {
-    let words = ["run", "--relative-to", "./..//", "--input", "w.f=a b", "a.wdl"];
-    assert_eq!(rt; answer(&rt, words.as_slice(), "{}")?.as_str(), "{\"w.f\":\"/here/./../a b\"}");
-    let words = ["run", "--relative-to", "/dev//", "--input", "w.f=\"a\"", "a.wdl"];
-    assert_eq!(rt; answer(&rt, words.as_slice(), "{}")?.as_str(), "{\"w.f\":\"/dev/a\"}");
+    let words = [
+        "run",
+        "--relative-to",
+        "./..//",
+        "--input",
+        "w.f=a b",
+        "a.wdl",
+    ];
+    assert_eq!(rt;
+        answer(&rt, words.as_slice(), "{}")?.as_str(),
+        "{\"w.f\":\"/here/./../a b\"}"
+    );
+    let words = [
+        "run",
+        "--relative-to",
+        "/dev//",
+        "--input",
+        "w.f=\"a\"",
+        "a.wdl",
+    ];
+    assert_eq!(rt;
+        answer(&rt, words.as_slice(), "{}")?.as_str(),
+        "{\"w.f\":\"/dev/a\"}"
+    );
     Ok(())
 }
 
 #[test]
 fn without_a_folder_paths_stay(rt: HostRuntime) -> Result<(), Fail> {
     let words = ["run", "--input", "w.f=a", "a.wdl"];
-    assert_eq!(rt; answer(&rt, words.as_slice(), "{}")?.as_str(), "{\"w.f\":\"a\"}");
+    assert_eq!(rt;
+        answer(&rt, words.as_slice(), "{}")?.as_str(),
+        "{\"w.f\":\"a\"}"
+    );
     Ok(())
 }

@@ -67,7 +67,11 @@ fn a_text_that_is_not_utf_8_is_none(rt: HostRuntime) -> Result<(), Fail> {
         given.push(String::from_str(alloc, word)?)?;
     }
     let set = set_line(&rt, alloc, given.as_slice(), None)?.ok_or("the line is not valid")?;
-    assert!(rt; set.settings.text(alloc, b"{\"\xff\":1}", None, &[])?.is_none());
+    assert!(rt;
+        set.settings
+            .text(alloc, b"{\"\xff\":1}", None, &[])?
+            .is_none()
+    );
     assert!(rt; !set.settings.has_file() && !set.settings.has_folder());
     assert_eq!(rt; set.settings.path(), "--input");
     Ok(())

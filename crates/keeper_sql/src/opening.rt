@@ -66,9 +66,9 @@ fn renew(alloc: Global, database: &mut Database, rows: &[Entry]) -> Result<(), T
 fn prepare(alloc: Global, database: &mut Database) -> Result<(), Trouble> {
     refuse_foreign(database)?;
     database.execute(ENTRY, &[])?;
+    let rows = read(alloc, database)?;
     database.execute(STAMP, &[])?;
     database.execute(TIMES, &[])?;
-    let rows = read(alloc, database)?;
     if database.number(OLD, &[])? > 0 {
         renew(alloc, database, rows.as_slice())?;
     }

@@ -39,7 +39,12 @@ runs all jobs, since it had no `--journal`
         path: String::from_str(alloc, "/gone")?,
     };
     let note = fault_note(alloc, &missing, run)?;
-    assert!(rt; note.as_str().starts_with("`--outputs`: `/gone`: no such file\n"));
-    assert!(rt; note.as_str().contains("again with the file in its place, or without `--outputs`: "));
+    assert!(rt;
+        note.as_str()
+            .starts_with("`--outputs`: `/gone`: no such file\n")
+    );
+    assert!(rt;
+        note.as_str().contains("again with the file in its place, or without `--outputs`: ")
+    );
     Ok(())
 }

@@ -232,11 +232,7 @@ impl<'a, R: Files> Arguments<'a, R> {
 }
 
 /// Returns the first slip of the arguments of a command, which do not stand on a valid command line.
-pub(crate) fn slip_in<'a, R: Files>(
-    rt: &'a R,
-    command: Command,
-    words: &'a [String],
-) -> Slip<'a> {
+pub(crate) fn slip_in<'a, R: Files>(rt: &'a R, command: Command, words: &'a [String]) -> Slip<'a> {
     let mut arguments = Arguments::new(rt, command);
     for word in words {
         if let Some(slip) = arguments.read(word.as_str()) {

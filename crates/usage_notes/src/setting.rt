@@ -97,10 +97,7 @@ impl Setting {
     pub(crate) fn is_of(self, command: Command) -> bool {
         match command {
             Command::Run => true,
-            Command::Cwl => matches!(
-                self,
-                Setting::Inputs | Setting::Input | Setting::RelativeTo
-            ),
+            Command::Cwl => matches!(self, Setting::Inputs | Setting::Input | Setting::RelativeTo),
             _ => false,
         }
     }

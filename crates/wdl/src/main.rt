@@ -134,7 +134,14 @@ fn main(rt: HostRuntime) -> ExitCode {
             let kept = progress.into_kept();
             let mut out = StreamSink::new(rt.stdout());
             publish_outputs(
-                &rt, alloc, choice, line.words(), &kept, &mut out, &mut err, &mut notes,
+                &rt,
+                alloc,
+                choice,
+                line.words(),
+                &kept,
+                &mut out,
+                &mut err,
+                &mut notes,
             )
         }
         _ => number,
