@@ -13,6 +13,7 @@ usage: wdl COMMAND ..
   inputs   write the inputs of a workflow as a JSON object to fill in
   cwl      write a workflow, or its inputs, for CWL v1.2
   bundle   write a workflow and its imports as one document
+  report   show how long the jobs of a journal took, as a table or a page
   explain  say what a status, a code or a rule means: wdl explain 304
   load     run a made-up workflow of N calls, to measure the runner
   help     show this help, or that of a command: wdl help run
@@ -44,26 +45,34 @@ example:
 pub const RUN: &str = "\
 Runs the workflow of a document, and writes its outputs as one JSON object.
 
-usage: wdl run [--inputs FILE] [--workers N] [--root DIR] [--journal FILE] FILE
+usage: wdl run [OPTION].. FILE
 
-  --inputs FILE   the inputs, a JSON object; wdl inputs writes one to fill in
-                  (default: no inputs)
-  --workers N     how many jobs run at once, 1 to 64 (default: 4)
-  --root DIR      where each job gets a directory of its own: a path of at most
-                  512 bytes that begins with / and names something below it
-                  (default: /tmp/wdl-run)
-  --journal FILE  keep the answer of each job in a SQLite file; after a run was
-                  stopped, the same command line goes on where it stopped
-                  (default: no journal)
+  --inputs FILE       the inputs, a JSON object; wdl inputs writes one to fill
+                      in (default: no inputs)
+  --input NAME=VALUE  set one input on top of the file, any number of times;
+                      VALUE is JSON, or else a text: --input w.cap=3
+  --relative-to DIR   put DIR in front of each input file whose path is
+                      relative (default: its path stays as it is)
+  --workers N         how many jobs run at once, 1 to 64 (default: 4)
+  --root DIR          where each job gets a directory of its own: a path of at
+                      most 512 bytes that begins with / and names something
+                      below it (default: /tmp/wdl-run)
+  --journal FILE      keep the answer of each job in a SQLite file; after a run
+                      was stopped, the same command line goes on where it
+                      stopped (default: no journal)
+  --outputs DIR       after success link the files of the outputs into DIR, or
+                      copy them, by names of the outputs (default: they stay
+                      in the directories of their jobs)
+  --force             let --outputs replace files that are there
 
-Each option may be given once, as --workers 8 or --workers=8. Jobs are run by
-sh, or by the program that the environment variable WDL_SHELL names, as
-PROGRAM -c COMMAND.
+Every option but --input may be given once, as --workers 8 or --workers=8. Jobs
+are run by sh, or by the program that the environment variable WDL_SHELL names,
+as PROGRAM -c COMMAND.
 
 With --journal a job runs again where it has not succeeded yet, where its
-command, its inputs or the root are others than before, and where an input file
-or a file that it left was changed or removed since. Copy a journal between
-runs, and by sqlite3 FILE \".backup COPY\" and not by cp.
+command, its inputs, its runtime attributes or the root are others than before,
+and where an input file or a file that it left was changed or removed since.
+Copy a journal between runs, and by sqlite3 FILE \".backup COPY\" and not by cp.
 
 Ctrl-C, TERM, HUP, QUIT, KILL and the end of the terminal end the run and its
 commands; what the journal has stays. One run at a time has a root, and one a
@@ -76,7 +85,7 @@ status  meaning
      3  the document, or one that it imports, has an error or no workflow
      4  the inputs file does not give the workflow what it declares
      5  a document or the inputs file cannot be read
-     6  the output cannot be written
+     6  the output, or a file of --outputs, cannot be written
      7  out of memory
      9  the command of a job cannot be started
     10  the journal cannot be used
@@ -128,10 +137,13 @@ pub const CWL: &str = "\
 Writes the workflow of a document, with all that it imports and calls, as one
 document in CWL v1.2, or its inputs as the input object of that document.
 
-usage: wdl cwl [--inputs FILE] FILE
+usage: wdl cwl [--inputs FILE] [--input NAME=VALUE].. [--relative-to DIR] FILE
 
-  --inputs FILE  write the input object of these inputs, a JSON object as wdl
-                 run takes it (default: write the workflow)
+  --inputs FILE       write the input object of these inputs, a JSON object as
+                      wdl run takes it (default: write the workflow)
+  --input NAME=VALUE  set one input on top of the file, as with wdl run
+  --relative-to DIR   put DIR in front of each input file whose path is
+                      relative, as with wdl run
 
 status  meaning
      0  success: the document or the object was written
