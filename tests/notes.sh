@@ -393,7 +393,7 @@ three_ways "inputs" 0 '' inputs lanes.wdl <<'END'
   "lanes.names": "Array[String] (optional, default [\"a\\\"b\",\"c\"])"
 }
 END
-for words in help --help -h 'help run' 'run --help' 'run -h' version --version -V; do
+for words in help --help -h 'help run' 'run --help' 'run -h' 'help report' 'report -h' version --version -V; do
   # shellcheck disable=SC2086
   alone $words
   same "$words: status and errors" "0 " "$status $(cat err)"
@@ -404,13 +404,15 @@ done
 "$program" --version >out
 grep -qx 'wdl [0-9]*\.[0-9]*\.[0-9]*' out && pass || fail "the version: $(cat out)"
 "$program" help >out
-for command in run check inputs cwl bundle; do grep -Eq "^ *(wdl )?$command( |\$)" out && pass || fail "help: no $command in $(cat out)"; done
-for command in run check inputs cwl bundle; do
+for command in run check inputs cwl bundle report; do grep -Eq "^ *(wdl )?$command( |\$)" out && pass || fail "help: no $command in $(cat out)"; done
+for command in run check inputs cwl bundle report; do
   "$program" help "$command" >out
   tells "help $command" out "wdl $command" 'status  meaning' example:
 done
 "$program" run --help >out
-tells "help run" out --inputs --workers --root --journal
+tells "help run" out --inputs '--input NAME=VALUE' --relative-to --workers --root --journal --outputs --force
+"$program" cwl --help >out
+tells "help cwl" out --inputs '--input NAME=VALUE' --relative-to
 
 echo "input files that jobs will not find"
 cat >files.wdl <<'END'
