@@ -3,7 +3,8 @@
 use wdl_words::Command;
 
 /// The names of the commands, in the order of the help.
-pub(crate) const COMMANDS: &str = "run, check, inputs, cwl, bundle, explain, load, help, version";
+pub(crate) const COMMANDS: &str =
+    "run, check, inputs, cwl, bundle, report, explain, load, help, version";
 
 /// An option. All but `--force` have a value.
 #[derive(Clone, Copy, Debug, PartialEq, Eq)]
@@ -50,7 +51,7 @@ pub(crate) fn command_named(name: &str) -> Option<Command> {
 /// Returns the names of the commands.
 pub(crate) fn command_names() -> &'static [&'static str] {
     &[
-        "run", "check", "inputs", "cwl", "bundle", "explain", "load", "help", "version",
+        "run", "check", "inputs", "cwl", "bundle", "report", "explain", "load", "help", "version",
     ]
 }
 
