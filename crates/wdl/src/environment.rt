@@ -44,7 +44,7 @@ pub(crate) fn runner_of(shell: &Option<String>) -> Runner {
     }
 }
 
-/// Returns whether a run warns of containers: `sh` runs commands outside of them.
+/// Returns whether the notes of a run warn of containers, which `sh` does not start.
 pub(crate) fn container_warning_of(shell: &Option<String>) -> ContainerWarning {
     match runner_of(shell) {
         Runner::Sh => ContainerWarning::Due,
