@@ -11,7 +11,8 @@ mod words;
 
 use command_notes::{RecallingShelf, Runner};
 use environment::{
-    clear_of, folder, note_stream, out_stream, outer_mark, runner_of, shell, shows_notes, style_of,
+    clear_of, container_warning_of, folder, note_stream, out_stream, outer_mark, runner_of, shell,
+    shows_notes, style_of,
 };
 use file_notes::SeeingShelf;
 use job_launcher::{Launching, Notes, ShellLauncher};
@@ -105,7 +106,8 @@ fn main(rt: HostRuntime) -> ExitCode {
     let style = style_of(&stream);
     let mut notes = StreamSink::new(note_stream(&rt, stream, asked));
     let mut lines = StreamSink::new(note_stream(&rt, rt.stderr(), asked));
-    let tale = RunNotes::new(alloc, &mut lines, &rt, style);
+    let warning = container_warning_of(&shell);
+    let tale = RunNotes::new(alloc, &mut lines, &rt, style, warning);
     let mut progress = KeepingWatch::new(tale, choice.is_some());
     let own = Launching {
         process: process::id(rt.process()),
