@@ -160,7 +160,7 @@ impl Shell<'_> {
     }
 
     /// Takes a byte outside of quotes, with the text that begins with it.
-    pub fn take_code(&mut self, at: u32, byte: u8, rest: &[u8]) -> Result<(), NoMemory> {
+    pub(crate) fn take_code(&mut self, at: u32, byte: u8, rest: &[u8]) -> Result<(), NoMemory> {
         match byte {
             b'\n' | b';' | b'&' | b'|' | b'(' | b')' | b'<' | b'>' | b' ' | b'\t' | b'\r' => {
                 self.take_separator(at, byte, rest)

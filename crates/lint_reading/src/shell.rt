@@ -23,7 +23,7 @@ pub enum Mode {
 /// Where a form of Bash stands.
 #[derive(Clone, Copy)]
 pub struct Found {
-    pub form: Form,
+    pub(crate) form: Form,
     pub span: Span,
 }
 
@@ -40,25 +40,25 @@ pub struct HereDocument {
 /// first words of commands ask; a `case` in a substitution may mislead it.
 #[derive(Drop)]
 pub struct Shell<'a> {
-    pub bytes: &'a [u8],
+    pub(crate) bytes: &'a [u8],
     /// The number of the document.
-    pub doc: u32,
+    pub(crate) doc: u32,
     /// What is open, the innermost last.
-    pub modes: Vec<Mode>,
-    pub comment: bool,
-    pub escaped: bool,
-    pub document: Option<HereDocument>,
+    pub(crate) modes: Vec<Mode>,
+    pub(crate) comment: bool,
+    pub(crate) escaped: bool,
+    pub(crate) document: Option<HereDocument>,
     /// Where the word begins that goes on.
-    pub word: Option<u32>,
+    pub(crate) word: Option<u32>,
     /// Whether the next word begins a command.
-    pub begins: bool,
+    pub(crate) begins: bool,
     /// Whether the next word is a file behind `<` or `>`.
-    pub target: bool,
+    pub(crate) target: bool,
     /// Whether the command is `set`.
-    pub sets: bool,
+    pub(crate) sets: bool,
     /// How many of the next bytes belong to what was read.
-    pub skipped: usize,
-    pub previous: u8,
+    pub(crate) skipped: usize,
+    pub(crate) previous: u8,
     /// The first form of each kind.
     pub found: Vec<Found>,
 }
@@ -89,7 +89,7 @@ impl<'a> Shell<'a> {
     }
 
     /// The innermost of what is open.
-    pub fn mode(&self) -> Option<Mode> {
+    pub(crate) fn mode(&self) -> Option<Mode> {
         self.modes.last().copied()
     }
 
@@ -108,7 +108,7 @@ impl<'a> Shell<'a> {
     }
 
     /// Keeps a form, unless one of its kind stands before it.
-    pub fn keep(&mut self, form: Form, start: u32, end: u32) -> Result<(), NoMemory> {
+    pub(crate) fn keep(&mut self, form: Form, start: u32, end: u32) -> Result<(), NoMemory> {
         for found in &self.found {
             if found.form == form {
                 return Ok(());
@@ -120,26 +120,26 @@ impl<'a> Shell<'a> {
     }
 
     /// Keeps a form that begins at a byte and has so many of them.
-    pub fn keep_at(&mut self, form: Form, at: u32, len: usize) -> Result<(), NoMemory> {
+    pub(crate) fn keep_at(&mut self, form: Form, at: u32, len: usize) -> Result<(), NoMemory> {
         self.keep(form, at, behind(at, len))
     }
 
     /// The bytes from one place up to another.
-    pub fn text(&self, start: u32, end: u32) -> &'a [u8] {
+    pub(crate) fn text(&self, start: u32, end: u32) -> &'a [u8] {
         bytes_before(self.bytes, end)
             .get(start as usize..)
             .unwrap_or(&[])
     }
 
     /// A word goes on, or begins here.
-    pub fn go_on(&mut self, at: u32) {
+    pub(crate) fn go_on(&mut self, at: u32) {
         if self.word.is_none() {
             self.word = Some(at);
         }
     }
 
     /// A command begins here.
-    pub fn begin(&mut self) {
+    pub(crate) fn begin(&mut self) {
         self.word = None;
         self.begins = true;
         self.target = false;
@@ -164,7 +164,7 @@ impl<'a> Shell<'a> {
     }
 
     /// The word that goes on ends before a byte; `blank` says whether that is a blank.
-    pub fn end_word(&mut self, at: u32, blank: bool) -> Result<(), NoMemory> {
+    pub(crate) fn end_word(&mut self, at: u32, blank: bool) -> Result<(), NoMemory> {
         let Some(start) = self.word else {
             return Ok(());
         };
@@ -183,7 +183,7 @@ impl<'a> Shell<'a> {
     }
 
     /// A here-document begins with the next line.
-    pub fn expect_document(&mut self, at: u32, delimiter: Delimiter) {
+    pub(crate) fn expect_document(&mut self, at: u32, delimiter: Delimiter) {
         self.document = Some(HereDocument {
             start: behind(at, delimiter.start),
             end: behind(at, delimiter.end),
@@ -206,7 +206,7 @@ impl<'a> Shell<'a> {
     }
 
     /// Takes a newline outside quotes and here-documents.
-    pub fn take_newline(&mut self, at: u32) -> Result<(), NoMemory> {
+    pub(crate) fn take_newline(&mut self, at: u32) -> Result<(), NoMemory> {
         self.end_word(at, true)?;
         self.begin();
         if let Some(document) = self.document {
@@ -219,7 +219,7 @@ impl<'a> Shell<'a> {
     }
 
     /// Takes a `$`: the use of an array counts in double quotes too.
-    pub fn take_dollar(&mut self, at: u32, rest: &[u8]) -> Result<(), NoMemory> {
+    pub(crate) fn take_dollar(&mut self, at: u32, rest: &[u8]) -> Result<(), NoMemory> {
         match array_len(rest) {
             Some(len) => self.keep_at(Form::Array, at, len),
             None => Ok(()),
@@ -254,14 +254,14 @@ impl<'a> Shell<'a> {
     }
 
     /// Commands begin here, inside what is opened.
-    pub fn open(&mut self, mode: Mode) -> Result<(), NoMemory> {
+    pub(crate) fn open(&mut self, mode: Mode) -> Result<(), NoMemory> {
         self.modes.push(mode)?;
         self.begin();
         Ok(())
     }
 
     /// Takes the parenthesis of `$(` or of `$((`.
-    pub fn open_substitution(&mut self, rest: &[u8]) -> Result<(), NoMemory> {
+    pub(crate) fn open_substitution(&mut self, rest: &[u8]) -> Result<(), NoMemory> {
         match rest {
             [_, b'(', ..] => Ok(self.modes.push(Mode::Arithmetic)?),
             _ => self.open(Mode::Paren),
