@@ -1,8 +1,8 @@
 //! Sentences on operators that are words in other languages.
 
 use crate::open_sentence::ends_operand;
-use crate::place::Place;
 use fault_places::{Note, bytes_before};
+use fault_words::Place;
 use wdl_value::{NoMemory, Span, is_identifier};
 
 /// How WDL writes an operator that is a word in other languages.

@@ -5,12 +5,10 @@ use crate::expected_sentence::expectation;
 use crate::foreign_comment::foreign_comment;
 use crate::front_sentence::{PARTS, word_in_front};
 use crate::habit_sentence::foreign;
-use crate::later::later_version;
-use crate::near::did_you_mean;
 use crate::open_sentence::{cut_command, no_value, open_bracket, open_placeholder};
-use crate::place::Place;
 use crate::unclosed::{fence_end, misspelt_command, rest_of_line, string_at};
 use fault_places::{Brackets, Note, text_behind, words_at};
+use fault_words::{Place, did_you_mean, later_version};
 use std::alloc::Global;
 use wdl_value::{NoMemory, Span, is_reserved};
 

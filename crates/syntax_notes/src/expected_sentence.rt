@@ -1,9 +1,8 @@
 //! What was expected at a place, where the word or the bracket before it says so.
 
-use crate::later::calls;
 use crate::open_sentence::{begins_section, begins_type};
-use crate::place::Place;
 use fault_places::{Bracket, before_word, bytes_before, last_word};
+use fault_words::{Place, calls};
 use wdl_value::{is_identifier, is_reserved};
 
 /// The code before the innermost brace; nothing where that is another bracket.

@@ -1,8 +1,7 @@
 //! Sentences on the word in front of a place, where that is the mistake.
 
-use crate::near::{did_you_mean, nearest};
-use crate::place::Place;
 use fault_places::{Bracket, Note};
+use fault_words::{Place, did_you_mean, nearest};
 use std::alloc::Global;
 use wdl_value::{NoMemory, Span, is_reserved};
 

@@ -1,11 +1,11 @@
 //! Hints on literals: what one of a struct lacks, and which items of a list differ.
 
 use crate::items::split_item;
-use crate::listed::list;
 use crate::member_sentence::members;
 use crate::optional_hint::repeated;
 use crate::value_type::push_type_of;
 use fault_places::{Bracket, Brackets, Note, Scene, bytes_before, last_word, text_behind};
+use fault_words::list;
 use std::alloc::Global;
 use wdl_value::{NoMemory, StructDef, Ty};
 

@@ -1,7 +1,7 @@
 //! Sentences on members of values.
 
-use crate::listed::list;
 use fault_places::{Declared, Note, Scene};
+use fault_words::list;
 use std::alloc::Global;
 use wdl_value::{NoMemory, StructDef};
 

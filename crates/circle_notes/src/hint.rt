@@ -1,8 +1,8 @@
 //! The hint on names that depend on one another.
 
 use crate::circle::{names_in, names_round, uses_of};
-use crate::listed::list;
 use fault_places::{Entry, Note, Scene};
+use fault_words::list;
 use std::alloc::Global;
 use wdl_ast::Statement;
 use wdl_check_order::Member;

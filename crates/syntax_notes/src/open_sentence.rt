@@ -1,11 +1,10 @@
 //! Sentences on brackets that are not closed.
 
 use crate::expected_sentence::before_brace;
-use crate::later::calls;
-use crate::place::{Place, has_newline};
 use fault_places::{
     Bracket, Brackets, Note, Opening, before_word, bytes_before, last_word, position_of,
 };
+use fault_words::{Place, calls, has_newline};
 use std::alloc::Global;
 use wdl_value::{NoMemory, Span, is_reserved};
 

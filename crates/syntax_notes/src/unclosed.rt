@@ -1,8 +1,7 @@
 //! Where commands and lines end, in documents whose tokens cannot be read.
 
-use crate::near::nearest;
-use crate::place::{Place, offset};
 use fault_places::{Bracket, Note, Opening, bytes_before, last_word};
+use fault_words::{Place, nearest, offset};
 use std::alloc::Global;
 use wdl_value::{NoMemory, Span};
 

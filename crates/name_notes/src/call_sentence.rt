@@ -1,7 +1,7 @@
 //! Sentences on calls.
 
-use crate::listed::{it_has, list};
 use fault_places::{Entry, Note, Part, Scene, imported, namespace_with, part_named, push_parts};
+use fault_words::{it_has, list};
 use std::alloc::Global;
 use wdl_ast::{Call, Document, InputDeclaration};
 use wdl_value::NoMemory;

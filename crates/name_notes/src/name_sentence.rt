@@ -1,9 +1,10 @@
 //! Sentences on names.
 
-use crate::later::{is_later_function, of_1_2};
-use crate::listed::{it_has, list};
-use crate::near::{TYPES, did_you_mean, foreign_type, foreign_value, near_function, nearest};
 use fault_places::{Entry, Note, Part, Scene, part_named, text_behind};
+use fault_words::{
+    TYPES, did_you_mean, foreign_type, foreign_value, is_later_function, it_has, list,
+    near_function, nearest, of_1_2,
+};
 use std::alloc::Global;
 use wdl_ast::Call;
 use wdl_value::{NoMemory, is_identifier};

@@ -1,8 +1,7 @@
 //! Sentences on comments as other languages have them.
 
-use crate::nesting::Nesting;
-use crate::place::{Place, offset};
 use fault_places::{Note, bytes_before};
+use fault_words::{Nesting, Place, offset};
 use wdl_value::{NoMemory, Span};
 
 /// Whether a comment of another language begins at a place, or a byte before it.

@@ -1,9 +1,8 @@
 //! Sentences on what stands where a name does, and cannot be one.
 
-use crate::later::calls;
 use crate::open_sentence::{begins_type, declares, first_word};
-use crate::place::Place;
 use fault_places::{Bracket, Note};
+use fault_words::{Place, calls};
 use wdl_value::{NoMemory, Span, is_reserved};
 
 /// Whether a character can end a type.

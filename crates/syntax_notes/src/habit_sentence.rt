@@ -4,9 +4,9 @@ use crate::assignment::{ONE_VALUE, changes_value, other_assignment};
 use crate::choice::{is_behind_condition, lacks_else, no_else};
 use crate::foreign_comment::begins_comment;
 use crate::open_sentence::{begins_type, declares, ends_operand};
-use crate::place::Place;
 use crate::word_operator::word_for_sign;
 use fault_places::{Bracket, Note, bytes_before, last_word, text_behind};
+use fault_words::Place;
 use std::alloc::Global;
 use wdl_value::{NoMemory, Span};
 

@@ -1,6 +1,6 @@
 //! The items of a list as it is written.
 
-use crate::nesting::Nesting;
+use fault_words::Nesting;
 
 /// Whether a byte ends an item of a list: the comma behind it, or the bracket that closes the list.
 fn ends_item(byte: u8) -> bool {

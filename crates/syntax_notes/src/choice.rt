@@ -1,8 +1,8 @@
 //! Values that `if` chooses, as they are written.
 
 use crate::open_sentence::ends_operand;
-use crate::place::{Place, offset};
 use fault_places::{Brackets, bytes_before, last_word};
+use fault_words::{Place, offset};
 use std::alloc::Global;
 use wdl_value::NoMemory;
 

@@ -1,6 +1,6 @@
 //! The operation at the top of an expression, as it is written.
 
-use crate::nesting::Nesting;
+use fault_words::Nesting;
 
 /// Two operands and the operator between them.
 #[derive(Clone, Copy)]

@@ -1,9 +1,8 @@
 //! What is said of `=` and of operators with it.
 
 use crate::expected_sentence::before_brace;
-use crate::later::calls;
-use crate::place::Place;
 use fault_places::{Bracket, before_word, last_word};
+use fault_words::{Place, calls};
 use wdl_value::is_reserved;
 
 /// What is said of a value that a name is given by another statement than its declaration.
