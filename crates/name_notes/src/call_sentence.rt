@@ -72,7 +72,7 @@ fn unknown_member(
     parts(alloc, note, &other.document, true)
 }
 
-/// 322.
+/// Appends the sentence of 322: a call of what is neither a task nor a workflow that can be called.
 pub fn unknown_task(alloc: Global, note: &mut Note, scene: &Scene) -> Result<(), NoMemory> {
     let name = scene.words;
     if let Some((namespace, member)) = name.split_once('.') {
@@ -133,7 +133,7 @@ fn missing(alloc: Global, note: &mut Note, call: &Call, part: Part) -> Result<()
     list(note, names.as_slice())
 }
 
-/// 323.
+/// Appends the sentence of 323: a call that leaves out required inputs, with their names.
 pub fn input_missing(alloc: Global, note: &mut Note, scene: &Scene) -> Result<(), NoMemory> {
     let (Some(call), Some(part)) = (call_at(scene), called_at(scene)) else {
         return note.push("this call leaves out a required input");
@@ -150,7 +150,8 @@ fn inputs(alloc: Global, note: &mut Note, part: Part) -> Result<(), NoMemory> {
     it_has(note, names.as_slice())
 }
 
-/// 324.
+/// Appends the sentence of 324: an input that the called task or workflow does not have, with those
+/// that it has.
 pub fn input_unknown(alloc: Global, note: &mut Note, scene: &Scene) -> Result<(), NoMemory> {
     let name = scene.words;
     let Some(part) = called_at(scene) else {

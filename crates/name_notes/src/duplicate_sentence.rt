@@ -66,7 +66,7 @@ fn given_twice(note: &mut Note, scene: &Scene) -> Result<(), NoMemory> {
     }
 }
 
-/// 321.
+/// Appends the sentence of 321: a name that is given twice, and where it was given first.
 pub fn duplicate(note: &mut Note, scene: &Scene) -> Result<(), NoMemory> {
     if last_word(scene.before.as_bytes()) == "workflow" {
         if let Some(first) = first_workflow(&scene.doc.document) {

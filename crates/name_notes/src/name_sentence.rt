@@ -81,7 +81,7 @@ fn ends_name(c: char) -> bool {
     !c.is_ascii_alphanumeric() && c != '_'
 }
 
-/// 301.
+/// Appends the sentence of 301: a name that is not known at its place, and the nearest one.
 pub fn unknown_name(alloc: Global, note: &mut Note, scene: &Scene) -> Result<(), NoMemory> {
     let name = scene.words;
     if let Some((call, _)) = name.split_once('.') {
@@ -121,7 +121,8 @@ fn near_entry(alloc: Global, note: &mut Note, scene: &Scene, name: &str) -> Resu
     did_you_mean(alloc, note, first, names.as_slice())
 }
 
-/// 302.
+/// Appends the sentence of 302: a function that this version of WDL does not have, and the nearest
+/// one.
 pub fn unknown_function(alloc: Global, note: &mut Note, scene: &Scene) -> Result<(), NoMemory> {
     let name = scene.words;
     if is_later_function(name) {
@@ -134,7 +135,7 @@ pub fn unknown_function(alloc: Global, note: &mut Note, scene: &Scene) -> Result
     near_function(alloc, note, name)
 }
 
-/// 307.
+/// Appends the sentence of 307: a call that stands where a value is wanted, and its outputs.
 pub fn not_a_value(alloc: Global, note: &mut Note, scene: &Scene) -> Result<(), NoMemory> {
     let name = scene.words;
     note.push_all(&["`", name, "` is a call, and no value; name an output of it"])?;
@@ -175,7 +176,7 @@ fn near_type<'a>(
     nearest(alloc, name, names.as_slice())
 }
 
-/// 329.
+/// Appends the sentence of 329: a type that is not known at its place, and the nearest one.
 pub fn unknown_type(alloc: Global, note: &mut Note, scene: &Scene) -> Result<(), NoMemory> {
     let name = scene.words;
     if !is_identifier(name.as_bytes()) {

@@ -138,8 +138,8 @@ fn items_differ(alloc: Global, note: &mut Note, scene: &Scene, list: &str) -> Re
     Ok(())
 }
 
-/// 310. Of a list on several lines the note shows the first one alone, so nothing is said of its
-/// items.
+/// Appends the hint on 310: which item or member differs, or what a struct literal lacks. Of a list on
+/// several lines the note shows the first line alone, so nothing is said of its items.
 pub fn literal_hint(alloc: Global, note: &mut Note, scene: &Scene) -> Result<(), NoMemory> {
     if let Some(items) = scene.text().strip_prefix('[') {
         if items.contains('\n') {

@@ -38,7 +38,7 @@ fn without_type(words: &str) -> Option<&'static str> {
     }
 }
 
-/// 310.
+/// Appends the sentence of 310: the items or members of a literal have no common type.
 pub fn members_differ(alloc: Global, note: &mut Note, scene: &Scene) -> Result<(), NoMemory> {
     let Some(what) = without_type(scene.words) else {
         return bad_literal(alloc, note, scene);

@@ -73,7 +73,7 @@ fn no_member_of_declared(
     no_member_of(alloc, note, scene, ty.as_str())
 }
 
-/// 306.
+/// Appends the sentence of 306: a member that the value does not have, and those that it has.
 pub fn no_member(alloc: Global, note: &mut Note, scene: &Scene) -> Result<(), NoMemory> {
     if let Some(declared) = scene.declared(owner_of(scene)) {
         return no_member_of_declared(alloc, note, scene, declared);

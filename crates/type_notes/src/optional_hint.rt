@@ -49,7 +49,8 @@ fn condition(note: &mut Note, text: &str, ty: &str) -> Result<(), NoMemory> {
     note.push_all(&["write `defined(", text, ")`"])
 }
 
-/// 325.
+/// Appends the hint on 325, a condition that is optional: how to give it a value. For another type
+/// it appends nothing.
 pub fn condition_hint(alloc: Global, note: &mut Note, scene: &Scene) -> Result<(), NoMemory> {
     let mut ty = Note::new(alloc);
     push_type_of(&mut ty, scene, scene.text())?;
@@ -59,7 +60,8 @@ pub fn condition_hint(alloc: Global, note: &mut Note, scene: &Scene) -> Result<(
     Ok(())
 }
 
-/// 326.
+/// Appends the hint on 326, a collection that is an optional array. For another type it appends
+/// nothing.
 pub fn array_hint(alloc: Global, note: &mut Note, scene: &Scene) -> Result<(), NoMemory> {
     let mut ty = Note::new(alloc);
     push_type_of(&mut ty, scene, scene.text())?;
@@ -70,7 +72,8 @@ pub fn array_hint(alloc: Global, note: &mut Note, scene: &Scene) -> Result<(), N
     Ok(())
 }
 
-/// 303, where the value would do if it were not optional.
+/// Appends the hint on 303 where the value would do if it were not optional. Elsewhere it appends
+/// nothing.
 pub fn value_hint(alloc: Global, note: &mut Note, scene: &Scene) -> Result<(), NoMemory> {
     let Some(wanted) = wanted_at(scene) else {
         return Ok(());

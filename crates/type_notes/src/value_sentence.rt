@@ -148,7 +148,7 @@ fn no_numbers(
     Ok(())
 }
 
-/// 303.
+/// Appends the sentence of 303: the type that is wanted, and the value with its own type.
 pub fn no_coercion(alloc: Global, note: &mut Note, scene: &Scene) -> Result<(), NoMemory> {
     let wanted = wanted_at(scene);
     match wanted {
@@ -164,7 +164,7 @@ pub fn no_coercion(alloc: Global, note: &mut Note, scene: &Scene) -> Result<(), 
     Ok(())
 }
 
-/// 304.
+/// Appends the sentence of 304: an operator that does not take the types of its operands.
 pub fn bad_operands(alloc: Global, note: &mut Note, scene: &Scene) -> Result<(), NoMemory> {
     if scene.before.ends_with("if") {
         return expected(note, scene, "a Boolean behind `if`");
@@ -172,7 +172,7 @@ pub fn bad_operands(alloc: Global, note: &mut Note, scene: &Scene) -> Result<(),
     operands_differ(alloc, note, scene)
 }
 
-/// 305.
+/// Appends the sentence of 305: a function that does not take these arguments, and how it is called.
 pub fn bad_arguments(note: &mut Note, scene: &Scene) -> Result<(), NoMemory> {
     scene.quote(note)?;
     let (name, _) = scene.words.split_once('(').unwrap_or((scene.words, ""));
