@@ -1,0 +1,20 @@
+//! The hints of CWL documents (CWL v1.2, CommandLineTool, the field `hints`): what the literal
+//! runtime attributes of a task say of the image, the cores and the memory of its tools, put into a
+//! document that was written without them.
+#![tactic(auto)]
+
+mod arguments;
+mod attribute;
+mod hinted;
+mod image;
+mod index;
+mod memory;
+mod task_hints;
+mod text;
+mod unit;
+
+pub use arguments::{arguments_without, asks_hints};
+pub use hinted::{HintSource, hinted_document};
+pub use memory::mebibytes_of;
+pub use task_hints::{TaskHints, hints_of};
+pub use text::hinted_text;
