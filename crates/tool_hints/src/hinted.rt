@@ -1,109 +1,80 @@
 //! Documents with hints.
 
 use crate::index::index_of;
+use crate::site::{Site, site_in};
 use serde_json::{Map, Value as Json, put};
 use std::alloc::Global;
 use std::collections::BTreeMap;
 use wdl_base::NoMemory;
-use wdl_typed::{Checked, Statement, Target};
+use wdl_typed::{Checked, Statement};
 
 /// Where the hints of a document come from.
 #[derive(Clone, Copy)]
-pub struct HintSource<'a> {
+pub(crate) struct HintSource<'a> {
     /// The library whose main workflow was translated.
     pub checked: &'a Checked,
     /// The member `hints` of the tools of each of its tasks, where it gets one.
     pub hints: &'a [Option<Json>],
 }
 
-/// The step round the main workflow where that has struct inputs.
-const BODY: &str = "_body";
+/// An object with a member `hints`.
+fn with_member(alloc: Global, hints: &Json, process: &Json) -> Result<Json, NoMemory> {
+    let Json::Object(members) = process else {
+        return Ok(process.clone()?);
+    };
+    let mut hinted = Map::new(alloc);
+    for (name, member) in members.iter() {
+        put(&mut hinted, alloc, name.as_str(), member.clone()?)?;
+    }
+    put(&mut hinted, alloc, "hints", hints.clone()?)?;
+    Ok(Json::Object(hinted))
+}
 
-/// A tool with the hints of a task, if it has any.
+/// The tool of a task, with the hints of that, if it has any.
 fn tool(
     alloc: Global,
     source: &HintSource<'_>,
     number: u32,
     process: &Json,
 ) -> Result<Json, NoMemory> {
-    let mut tool = process.clone()?;
-    if let (Json::Object(members), Some(Some(hints))) = (
-        &mut tool,
-        source.hints.get(number as usize),
-    ) {
-        put(members, alloc, "hints", hints.clone()?)?;
-    }
-    Ok(tool)
-}
-
-/// The process of a target.
-#[cycle(hinted)]
-fn called(
-    alloc: Global,
-    source: &HintSource<'_>,
-    target: Target,
-    process: &Json,
-) -> Result<Json, NoMemory> {
-    match target {
-        Target::Task(number) => tool(alloc, source, number, process),
-        Target::Flow(number) => match source.checked.flows.get(number as usize) {
-            Some(called) => flow(alloc, source, called.body.as_slice(), process),
-            None => Ok(process.clone()?),
-        },
+    match source.hints.get(number as usize) {
+        Some(Some(hints)) => with_member(alloc, hints, process),
+        _ => Ok(process.clone()?),
     }
 }
 
-/// The process in the step of a statement.
+/// A process, by what it stands for.
 #[cycle(hinted)]
-fn stated(
+fn process<'a>(
     alloc: Global,
-    source: &HintSource<'_>,
-    statement: &Statement,
+    source: &HintSource<'a>,
+    site: Site<'a>,
     process: &Json,
 ) -> Result<Json, NoMemory> {
-    match statement {
-        Statement::Decl(_) => Ok(process.clone()?),
-        Statement::Call(call) => called(alloc, source, call.target, process),
-        Statement::Scatter(scatter) => flow(alloc, source, scatter.body.as_slice(), process),
-        Statement::If(condition) => flow(alloc, source, condition.body.as_slice(), process),
-    }
-}
-
-/// The process in the step of an id.
-#[cycle(hinted)]
-fn run(
-    alloc: Global,
-    source: &HintSource<'_>,
-    body: &[Statement],
-    index: &BTreeMap<String, usize>,
-    id: &str,
-    process: &Json,
-) -> Result<Json, NoMemory> {
-    if id == BODY {
-        return flow(alloc, source, body, process);
-    }
-    match index.get(id) {
-        Some(number) => stated(alloc, source, &body[*number], process),
-        None => Ok(process.clone()?),
+    match site {
+        Site::Unknown => Ok(process.clone()?),
+        Site::Task(number) => tool(alloc, source, number, process),
+        Site::Body(body) => flow(alloc, source, body, process),
     }
 }
 
 /// A step (CWL v1.2, WorkflowStep).
 #[cycle(hinted)]
-fn step(
+fn step<'a>(
     alloc: Global,
-    source: &HintSource<'_>,
-    body: &[Statement],
+    source: &HintSource<'a>,
+    body: &'a [Statement],
     index: &BTreeMap<String, usize>,
     step: &Json,
 ) -> Result<Json, NoMemory> {
-    let (Json::Object(members), Some(id)) = (step, step.get("id").and_then(Json::as_str)) else {
+    let Json::Object(members) = step else {
         return Ok(step.clone()?);
     };
+    let site = site_in(source.checked, body, index, step);
     let mut hinted = Map::new(alloc);
     for (name, member) in members.iter() {
         let member = if name.as_str() == "run" {
-            run(alloc, source, body, index, id, member)?
+            process(alloc, source, site, member)?
         } else {
             member.clone()?
         };
@@ -114,10 +85,10 @@ fn step(
 
 /// The steps of a body.
 #[cycle(hinted)]
-fn steps(
+fn steps<'a>(
     alloc: Global,
-    source: &HintSource<'_>,
-    body: &[Statement],
+    source: &HintSource<'a>,
+    body: &'a [Statement],
     steps: &Json,
 ) -> Result<Json, NoMemory> {
     let Json::Array(items) = steps else {
@@ -133,10 +104,10 @@ fn steps(
 
 /// The workflow of a body (CWL v1.2, Workflow).
 #[cycle(hinted)]
-fn flow(
+fn flow<'a>(
     alloc: Global,
-    source: &HintSource<'_>,
-    body: &[Statement],
+    source: &HintSource<'a>,
+    body: &'a [Statement],
     process: &Json,
 ) -> Result<Json, NoMemory> {
     let Json::Object(members) = process else {
@@ -157,10 +128,10 @@ fn flow(
 /// Returns the document that was written for the workflow of a body with hints: each tool of a task
 /// has the hints of that task, and nothing else changes. A tool is found by the ids of the steps
 /// round it, which are those of the statements.
-pub fn hinted_document(
+pub(crate) fn hinted_document<'a>(
     alloc: Global,
-    source: &HintSource<'_>,
-    body: &[Statement],
+    source: &HintSource<'a>,
+    body: &'a [Statement],
     document: &Json,
 ) -> Result<Json, NoMemory> {
     flow(alloc, source, body, document)

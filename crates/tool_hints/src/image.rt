@@ -22,7 +22,7 @@ fn can_name(text: &str) -> bool {
 }
 
 /// What an attribute says. The text `*` is any image, and so is a blank one.
-fn said<'a>(task: &'a TaskDef, name: &str) -> Said<'a> {
+fn said_by<'a>(task: &'a TaskDef, name: &str) -> Said<'a> {
     let Some(attribute) = attribute_of(task, name) else {
         return Said::Nothing;
     };
@@ -41,8 +41,8 @@ fn said<'a>(task: &'a TaskDef, name: &str) -> Said<'a> {
 /// several, of which the first counts. Another value of `container` has an image of its own, which
 /// is not known before a run.
 pub(crate) fn image_of(task: &TaskDef) -> Option<&str> {
-    let said = match said(task, "container") {
-        Said::Nothing => said(task, "docker"),
+    let said = match said_by(task, "container") {
+        Said::Nothing => said_by(task, "docker"),
         other => other,
     };
     match said {

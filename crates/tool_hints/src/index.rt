@@ -28,11 +28,11 @@ pub(crate) fn index_of(
     body: &[Statement],
 ) -> Result<BTreeMap<String, usize>, NoMemory> {
     let mut index = BTreeMap::new(alloc);
-    let mut number = body.len();
-    while number > 0 {
-        number -= 1;
-        let id = step_id(alloc, &body[number])?;
-        index.insert(id, number)?;
+    for (number, statement) in body.iter().enumerate() {
+        let id = step_id(alloc, statement)?;
+        if index.get(id.as_str()).is_none() {
+            index.insert(id, number)?;
+        }
     }
     Ok(index)
 }

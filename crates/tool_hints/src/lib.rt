@@ -8,13 +8,15 @@ mod attribute;
 mod hinted;
 mod image;
 mod index;
+mod laws;
 mod memory;
+mod site;
 mod task_hints;
 mod text;
 mod unit;
 
 pub use arguments::{arguments_without, asks_hints};
-pub use hinted::{HintSource, hinted_document};
+pub use laws::{documents_come_back, hints_are_left, records_come_back};
 pub use memory::mebibytes_of;
 pub use task_hints::{TaskHints, hints_of};
 pub use text::hinted_text;

@@ -59,7 +59,7 @@ fn millionths(text: &str) -> Option<u64> {
 }
 
 /// Returns a decimal number above zero, such as `8`, `0.5` or `.5`.
-fn amount(text: &str) -> Option<Amount> {
+fn amount_of(text: &str) -> Option<Amount> {
     let (whole, part) = text.split_once('.').unwrap_or((text, ""));
     let found = Amount {
         whole: digits(whole)?,
@@ -86,7 +86,7 @@ fn bytes_of(amount: Amount, unit: u64) -> Option<u64> {
 pub fn mebibytes_of(text: &str) -> Option<u64> {
     let text = text.trim();
     let (number, unit) = text.split_at_checked(number_length(text))?;
-    let bytes = bytes_of(amount(number)?, bytes_of_unit(unit.trim())?)?;
+    let bytes = bytes_of(amount_of(number)?, bytes_of_unit(unit.trim())?)?;
     Some(bytes.div_ceil(MEBIBYTE))
 }
 

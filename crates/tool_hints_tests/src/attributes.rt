@@ -52,9 +52,7 @@ fn hinted(alloc: Global, attributes: &str) -> Result<String, Fail> {
         "task t {{ input {{ String tag Int amount }} command <<< date >>> runtime {{ {attributes} }} }} workflow w {{ }}"
     )?;
     let checked = checked_of(alloc, text.as_str())?;
-    let [task] = checked.tasks.as_slice() else {
-        return Err("one task".into());
-    };
+    let task = checked.tasks.get(0).ok_or("a task")?;
     let hints = hints_of(task);
     let image = hints.image.unwrap_or("-");
     let cores = shown(alloc, hints.cores)?;

@@ -21,13 +21,9 @@ pub fn file_of(alloc: Global, path: &str, text: &str) -> Result<PathFile, Fail> 
 /// The checked form of `w.wdl` among these documents.
 pub fn checked_in(alloc: Global, files: Items<PathFile>) -> Result<Checked, Fail> {
     let mut shelf = MemoryShelf::new(files, Items::new(alloc));
-    let Ok(library) = gather(alloc, &mut shelf, &Text::new(alloc, "w.wdl")?) else {
-        return Err("the documents are not read".into());
-    };
-    match check(alloc, &library) {
-        Ok(checked) => Ok(checked),
-        Err(_) => Err("the documents are refused".into()),
-    }
+    let path = Text::new(alloc, "w.wdl")?;
+    let library = gather(alloc, &mut shelf, &path).ok().ok_or("documents")?;
+    Ok(check(alloc, &library).ok().ok_or("a checked form")?)
 }
 
 /// The checked form of one document.
