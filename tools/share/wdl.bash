@@ -52,7 +52,7 @@ _wdl() {
     *)
       case $command,$argument in
         run,-*) _wdl_options "$word" --inputs --input --relative-to --workers --root --journal --outputs --force ;;
-        cwl,-*) _wdl_options "$word" --inputs --input --relative-to ;;
+        cwl,-*) _wdl_options "$word" --inputs --input --relative-to --hints ;;
         report,-*) _wdl_options "$word" --html --force ;;
         report,*) _wdl_any "$word" ;;
         *) _wdl_files '*.wdl' "$word" ;;

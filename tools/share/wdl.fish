@@ -20,6 +20,7 @@ complete -c wdl -n '__fish_seen_subcommand_from run check inputs cwl bundle' -a 
 complete -c wdl -n '__fish_seen_subcommand_from run cwl' -l inputs -r -F -d 'the inputs, a JSON object'
 complete -c wdl -n '__fish_seen_subcommand_from run cwl' -l input -x -d 'set one input on top of the file, any number of times: NAME=VALUE'
 complete -c wdl -n '__fish_seen_subcommand_from run cwl' -l relative-to -x -a $folders -d 'put a folder in front of each input file whose path is relative'
+complete -c wdl -n '__fish_seen_subcommand_from cwl' -l hints -d 'write the image, cores and memory of each task into the document'
 complete -c wdl -n '__fish_seen_subcommand_from run' -l workers -x -d 'how many jobs run at once, 1 to 64'
 complete -c wdl -n '__fish_seen_subcommand_from run' -l root -x -a $folders -d 'where each job gets a directory of its own'
 complete -c wdl -n '__fish_seen_subcommand_from run' -l journal -r -F -d 'keep the answer of each job in a SQLite file'
