@@ -43,22 +43,7 @@ fn tool(
     }
 }
 
-/// A process, by what it stands for.
-#[cycle(hinted)]
-fn process<'a>(
-    alloc: Global,
-    source: &HintSource<'a>,
-    site: Site<'a>,
-    process: &Json,
-) -> Result<Json, NoMemory> {
-    match site {
-        Site::Unknown => Ok(process.clone()?),
-        Site::Task(number) => tool(alloc, source, number, process),
-        Site::Body(body) => flow(alloc, source, body, process),
-    }
-}
-
-/// A step (CWL v1.2, WorkflowStep).
+/// A step (CWL v1.2, WorkflowStep), whose process is what the statement of its id stands for.
 #[cycle(hinted)]
 fn step<'a>(
     alloc: Global,
@@ -73,10 +58,10 @@ fn step<'a>(
     let site = site_in(source.checked, body, index, step);
     let mut hinted = Map::new(alloc);
     for (name, member) in members.iter() {
-        let member = if name.as_str() == "run" {
-            process(alloc, source, site, member)?
-        } else {
-            member.clone()?
+        let member = match site {
+            Site::Body(body) if name.as_str() == "run" => flow(alloc, source, body, member)?,
+            Site::Task(number) if name.as_str() == "run" => tool(alloc, source, number, member)?,
+            _ => member.clone()?,
         };
         put(&mut hinted, alloc, name.as_str(), member)?;
     }
