@@ -87,7 +87,8 @@ pub fn word_in_front(
     if place.words == "(" && place.front_begins() {
         let said = foreign_statement(place.front);
         if !said.is_empty() {
-            note.push_all(&["`", place.front, "` is no statement", said])?;
+            note.push_all(&["`", place.front, "` is no statement"])?;
+            note.push(said)?;
             return Ok(Some(place.front_span()));
         }
         return no_statement(alloc, note, place.front, &BLOCKS, place.front_span());

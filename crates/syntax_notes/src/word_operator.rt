@@ -28,7 +28,9 @@ fn word_operator(
     if !ends_operand(operand) || place.is_in_comment(span.start) {
         return Ok(None);
     }
-    note.push_all(&["`", word, "` is not expected here: write `", sign, "`"])?;
+    note.push_all(&["`", word, "` is not expected here: write `"])?;
+    note.push(sign)?;
+    note.push("`")?;
     Ok(Some(span))
 }
 
