@@ -27,25 +27,30 @@ fn sorted<'a>(alloc: Global, jobs: &'a [Job]) -> Result<Vec<&'a Job>, AllocError
     Ok(all)
 }
 
-/// Returns where the jobs of a task end, which are beside one another from `start` on.
-fn end_of(jobs: &[&Job], start: usize, task: &str) -> usize {
-    let mut end = start;
-    for job in jobs.get(start..).unwrap_or(&[]) {
+/// Returns the jobs of a task, which are beside one another from `start` on.
+fn jobs_of<'a>(
+    alloc: Global,
+    all: &[&'a Job],
+    start: usize,
+    task: &str,
+) -> Result<Vec<&'a Job>, AllocError> {
+    let mut jobs = Vec::new(alloc);
+    for at in start..all.len() {
+        let Some(job) = all.get(at) else {
+            break;
+        };
         if job.task() != task {
             break;
         }
-        end = end.saturating_add(1);
+        jobs.push(*job)?;
     }
-    end
+    Ok(jobs)
 }
 
-/// Returns the group of a task's jobs, of which `first` is one.
-fn group_of<'a>(alloc: Global, first: &'a Job, jobs: &[&'a Job]) -> Result<Group<'a>, AllocError> {
-    Ok(Group {
-        task: first.task(),
-        jobs: Vec::from_slice(alloc, jobs)?,
-        spent: spent_of(alloc, jobs)?,
-    })
+/// Returns the group of a task's jobs.
+fn group_of<'a>(alloc: Global, task: &'a str, jobs: Vec<&'a Job>) -> Result<Group<'a>, AllocError> {
+    let spent = spent_of(alloc, jobs.as_slice())?;
+    Ok(Group { task, jobs, spent })
 }
 
 /// Groups jobs by their tasks. The task that took longest in total comes first; where two took the
@@ -58,10 +63,10 @@ pub(crate) fn groups_of(alloc: Global, jobs: &[Job]) -> Result<Vec<Group<'_>>, A
         let Some(first) = all.get(start) else {
             break;
         };
-        let end = end_of(all.as_slice(), start, first.task());
-        let part = all.get(start..end).unwrap_or(&[]);
-        groups.push(group_of(alloc, *first, part)?)?;
-        start = end;
+        let task = first.task();
+        let part = jobs_of(alloc, all.as_slice(), start, task)?;
+        start = start.saturating_add(part.len());
+        groups.push(group_of(alloc, task, part)?)?;
     }
     groups.sort_by_key(|group| (Reverse(group.spent.total), group.task))?;
     Ok(groups)
