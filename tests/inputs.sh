@@ -72,11 +72,11 @@ gives "a file that is no object" 4 '' 'inputs: 402 NotAnObject' --inputs list.js
 printf '{"w.tag": "\377"}' >bytes.json
 gives "a file that is not UTF-8" 4 '' 'inputs: 401 NotJson' --inputs bytes.json --input w.tag=x
 awk 'BEGIN { printf "{"; for (i = 0; i < 1048576; i++) printf " "; print "}" }' >long.json
-gives "a file past 1,048,576 bytes" 4 '' 'inputs: 407 InputsLong' --inputs long.json --input w.cap=3
+gives "a file past 1,048,576 bytes" 4 '' 'inputs: 407 TooLong' --inputs long.json --input w.cap=3
 gives "a file that is not there" 5 '' 'cannot read gone.json' --inputs gone.json --input w.cap=3
 printf 'version 1.1\nworkflow w { input { Int cap } }\n' >required.wdl
 "$program" run --root "$root" --input '##w.cap=3' required.wdl >out 2>err </dev/null
-same "a comment gives no input" '4 inputs: 404 MissingInput w.cap' "$? $(cat out err)"
+same "a comment gives no input" '4 inputs: 404 InputMissing w.cap' "$? $(cat out err)"
 "$program" run --root "$root" --input w.cap=3 required.wdl >out 2>err </dev/null
 same "a required input is given" '0 {}' "$? $(cat out err)"
 WDL_NOTES=1 "$program" run --root "$root" --inputs i.json --input 'w.cap="3"' w.wdl >out 2>err </dev/null
@@ -161,17 +161,51 @@ WDL_NOTES=1 "$program" run --root "$root" --relative-to data --input w.f=a job.w
 same "with the option there is no warning" '' "$(grep warning err)"
 
 echo "cwl"
-for line in '--inputs i.json --input w.cap=3' '--inputs=i.json --input=w.cap=3'; do
-  # shellcheck disable=SC2086
-  "$program" cwl $line w.wdl >set 2>&1 </dev/null
-  printf '{"w.tag": "file", "w.cap": 3}' >both.json
-  "$program" cwl --inputs both.json w.wdl >wanted 2>&1 </dev/null
-  cmp -s set wanted && grep -q '"file"' set && pass || fail "cwl $line: $(cat set)"
-done
-printf '{"w.f": "%s"}' "$work/data/a" >both.json
-"$program" cwl --inputs both.json job.wdl >wanted 2>&1 </dev/null
-"$program" cwl --relative-to data --input w.f=a job.wdl >set 2>&1 </dev/null
-cmp -s set wanted && grep -qF "$work/data/a" set && pass || fail "cwl --relative-to: $(cat set)"
+cat >say.wdl <<'END'
+version 1.1
+task say {
+  input {
+    Int cap
+    String tag
+  }
+  command <<< echo ~{cap} ~{tag} >>>
+  output { File o = stdout() }
+}
+workflow w {
+  input {
+    Int cap = 1
+    String tag = "t"
+  }
+  call say { input: cap = cap, tag = tag }
+  output { File o = say.o }
+}
+END
+cat >show.wdl <<'END'
+version 1.1
+task show {
+  input { File f }
+  command <<< cat ~{f} >>>
+  output { File o = stdout() }
+}
+workflow w {
+  input { File f }
+  call show { input: f = f }
+  output { File o = show.o }
+}
+END
+# object WANTED ARGUMENTS..: what `cwl` writes with these arguments is WANTED.
+object() {
+  wanted=$1
+  shift
+  "$program" cwl "$@" >out 2>err </dev/null
+  same "cwl $*" "0 $wanted" "$? $(cat out err)"
+}
+object '{"cap":2,"tag":"file"}' --inputs i.json say.wdl
+object '{"cap":3,"tag":"file"}' --inputs i.json --input w.cap=3 say.wdl
+object '{"cap":3,"tag":"file"}' --inputs=i.json --input=w.cap=3 say.wdl
+object '{"cap":3}' --input w.cap=3 say.wdl
+object '{"f":{"class":"File","path":"'"$work"'/data/a"}}' --relative-to data --input w.f=a show.wdl
+object '{"f":{"class":"File","path":"a"}}' --input w.f=a show.wdl
 
 echo "command lines that are not valid"
 # slip TEXT ARGUMENTS..: the command line is not valid, and its note holds this text.

@@ -30,7 +30,7 @@ ends() {
 # words: the words of standard input, sorted, on one line.
 words() { tr -s ' \n' '\n\n' | LC_ALL=C sort -u | tr '\n' ' ' | sed 's/^ *//'; }
 # options: the options in a text.
-options() { grep -oE -- '--[a-z]+' | words; }
+options() { grep -oE -- '--[a-z]+(-[a-z]+)*' | words; }
 
 echo "install and remove"
 mkdir "$prefix"
@@ -106,19 +106,28 @@ ends "no program" 1 '' "$install" "$work/none"
 
 echo "man page"
 page=$work/page
-sed 's/\\f[A-Z]//g' "$top/tools/share/wdl.1" | tr -d '\\' >"$page"
+sed 's/\\f[A-Z]//g; s/\\&//g' "$top/tools/share/wdl.1" | tr -d '\\' >"$page"
 # section NAME: a section of the page. tags: the first line of each of its paragraphs, without its macro.
 section() { awk -v name="$1" '/^\.SH / { on = ($0 == ".SH " name); next } on' "$page"; }
 tags() { awk 'tag { print } { tag = ($0 == ".TP") }' | sed 's/^\.[A-Z]* *"*//'; }
 help_of() { "$program" help "$@" 2>/dev/null; }
 # usage_of COMMAND: how it is called. `version` has no help of its own.
 usage_of() { if [ "$1" = version ]; then echo "wdl version"; else help_of "$1" | sed -n 's/^usage: //p'; fi; }
+# options_of COMMAND: the options that its help lists, each at the beginning of a line.
+options_of() { help_of "$1" | grep '^  --' | cut -d ' ' -f 3 | words; }
 commands=$(help_of | sed -n 's/^  \([a-z]*\)   *[a-z].*/\1/p' | words)
 help_texts=$(help_of && for command in $commands; do help_of "$command"; done)
-same "the commands of the help" "$(echo run check inputs cwl bundle explain load help version | words)" "$commands"
+same "the commands of the help" "$(echo run check inputs cwl bundle report explain load help version | words)" "$commands"
 same "the commands of the synopsis" "$commands" "$(sed -n 's/^\.B wdl \([a-z]*\).*/\1/p' "$page" | words)"
 same "the commands" "$commands" "$(section COMMANDS | tags | sed 's/[^a-z].*//' | words)"
-same "the options" "$(for command in $commands; do usage_of "$command"; done | options)" "$(section OPTIONS | tags | options)"
+for command in $commands; do
+  # [OPTION].. in a usage stands for the options that are listed.
+  case $(usage_of "$command") in
+    *'[OPTION]'*) [ -n "$(options_of "$command")" ] && pass || fail "no option is listed for $command" ;;
+    *) same "the options in the usage of $command" "$(options_of "$command")" "$(usage_of "$command" | options)" ;;
+  esac
+done
+same "the options" "$(for command in $commands; do options_of "$command"; done | words)" "$(section OPTIONS | tags | options)"
 same "the options of all the page" "$(echo "$help_texts" --version | options)" "$(options <"$page")"
 same "--version" "$("$program" version)" "$("$program" --version)"
 same "the version" "\"$("$program" version)\"" "$(sed -n 's/^\.TH.*\("wdl [^"]*"\).*/\1/p' "$page")"
@@ -128,7 +137,7 @@ for command in $commands; do
 done
 same "the statuses" "$(help_of | sed -n 's/^ *\([0-9][0-9]*\)  */\1 /p')" "$(section 'EXIT STATUS' | \
   sed '/^\.TP/d; s/\.$//' | awk '/^\.B/ { number = $2; next } { print number, tolower(substr($0, 1, 1)) substr($0, 2) }')"
-same "the variables" "$(sed -n '/^## run/,$p' "$top/docs/USAGE.md" | grep -oE 'WDL_[A-Z]+' | words)" "$(section ENVIRONMENT | tags | sed 's/^B //' | words)"
+same "the variables" "$(sed -n '/^## run/,$p' "$top/docs/USAGE.md" | grep -oE 'WDL_[A-Z]+(_[A-Z]+)*' | words)" "$(section ENVIRONMENT | tags | sed 's/^B //' | words)"
 if has man && has groff; then
   same "warnings of groff" '' "$(groff -man -ww -Tutf8 "$top/tools/share/wdl.1" 2>&1 >/dev/null)"
   man -l "$top/tools/share/wdl.1" 2>&1 | grep -q 'check, run and translate' && pass || fail "the page as man shows it"
@@ -145,7 +154,7 @@ same "the commands of wdl.fish" "$commands" "$(sed -n 's/.*-n $none -a \([a-z]*\
 same "the commands of help in wdl.fish" "$commands" "$(sed -n 's/^set -l commands //p' "$top/tools/share/wdl.fish" | words)"
 mkdir -p "$work/files/folder"
 cd "$work/files" || exit 1
-touch 'a b.wdl' c.wdl d.json e.db
+touch 'a b.wdl' c.wdl d.json e.db f.html
 if has bash; then
   cat >"$work/complete" <<'END'
 compopt() { :; }
@@ -160,8 +169,10 @@ END
   same "Bash: commands" "$commands" "$(by_bash '' | words)"
   same "Bash: the commands of help" "$commands" "$(by_bash help '' | words)"
   same "Bash: commands that begin with c" 'check cwl ' "$(by_bash c | words)"
-  for command in $commands; do same "Bash: the options of $command" "$(usage_of "$command" | options)" "$(by_bash "$command" -- | words)"; done
-  same "Bash: an option once" '--inputs --journal --root ' "$(by_bash run --workers 3 -- | words)"
+  for command in $commands; do same "Bash: the options of $command" "$(options_of "$command")" "$(by_bash "$command" -- | words)"; done
+  same "Bash: an option once" "$(options_of run | sed 's/--workers //')" "$(by_bash run --workers 3 -- | words)"
+  same "Bash: an option without a value once" "$(options_of report | sed 's/--force //')" "$(by_bash report --force -- | words)"
+  same "Bash: --input again" "$(options_of run)" "$(by_bash run --input w.n = 3 -- | words)"
   for command in run check inputs cwl bundle; do same "Bash: the documents of $command" "$(printf 'a b.wdl\nc.wdl\nfolder')" "$(by_bash "$command" '' | sort)"; done
   for command in run cwl; do
     same "Bash: the inputs of $command" 'd.json folder ' "$(by_bash "$command" --inputs '' | words)"
@@ -169,8 +180,19 @@ END
     same "Bash: the beginning of inputs of $command behind =" 'd.json ' "$(by_bash "$command" --inputs = d | words)"
   done
   same "Bash: a journal" "$(ls)" "$(by_bash run --journal '' | sort)"
-  same "Bash: a root" folder "$(by_bash run --root '')"
-  for line in 'run --workers' load version 'help run'; do same "Bash: nothing behind $line" '' "$(by_bash $line '')"; done
+  same "Bash: journals of report" "$(ls)" "$(by_bash report '' | sort)"
+  same "Bash: a journal behind --force" "$(ls)" "$(by_bash report --force '' | sort)"
+  same "Bash: a page" 'f.html folder ' "$(by_bash report --html '' | words)"
+  same "Bash: a page behind =" f.html "$(by_bash report --html = f.)"
+  for line in 'run --root' 'run --relative-to' 'run --outputs' 'cwl --relative-to'; do
+    same "Bash: folders behind $line" folder "$(by_bash $line '')"
+    same "Bash: folders behind $line=" folder "$(by_bash $line = f)"
+  done
+  for command in run cwl; do
+    for line in w.n 'w.n =' 'w.n = f' '= w.n = f' 'w.n = s3 : //f'; do same "Bash: nothing for $command --input $line" '' "$(by_bash "$command" --input $line)"; done
+    same "Bash: the documents of $command behind --input" "$(printf 'a b.wdl\nc.wdl\nfolder')" "$(by_bash "$command" --input w.n = 3 '' | sort)"
+  done
+  for line in 'run --workers' 'run --input' 'cwl --input' load version 'help run' 'help report'; do same "Bash: nothing behind $line" '' "$(by_bash $line '')"; done
 else
   skip "the completion of Bash" "bash is not installed"
 fi
@@ -180,11 +202,54 @@ if has zsh; then
 else
   skip "the completion of zsh" "zsh is not installed"
 fi
+# A zsh on a terminal of its own, which shows what the line before the cursor can be completed to, each in `< >`.
+cat >"$work/complete.zsh" <<'END'
+zmodload zsh/zpty || exit
+zpty z zsh -f -i
+zpty -w z "PROMPT=; fpath=(${(q)1} \$fpath); autoload -U compinit && compinit -uD"
+zpty -w z 'compadd() { local -a found; [[ ${@[1,(i)(-|--)]} == *-[OAD]\ * ]] || { builtin compadd -O found "$@"; print -rl -- "<"$^found">"; }; builtin compadd "$@"; }'
+zpty -w z 'show() { _main_complete; print -r -- "<END>"; compstate[insert]=; compstate[list]=; }; zle -C show complete-word show; bindkey "^T" show; print -r READY'
+zpty -r z out '*READY*READY*'
+zpty -w -n z "$2"$'\x14'
+zpty -r z out '*<END>'
+print -r -- "$out"
+END
+# by_zsh LINE
+by_zsh() { timeout 60 zsh -f "$work/complete.zsh" "$top/tools/share" "$1" 2>&1 | grep -o '<[^>]*>' | tr -d '<>\\' | grep -vx END | LC_ALL=C sort -u; }
+if has zsh timeout && timeout 60 zsh -fc 'zmodload zsh/zpty && zpty z true' 2>/dev/null; then
+  same "zsh: commands" "$commands" "$(by_zsh 'wdl ' | words)"
+  same "zsh: the commands of help" "$commands" "$(by_zsh 'wdl help ' | words)"
+  for command in $commands; do same "zsh: the options of $command" "$(options_of "$command")" "$(by_zsh "wdl $command --" | grep '^--' | words)"; done
+  same "zsh: an option once" "$(options_of report | sed 's/--force //')" "$(by_zsh 'wdl report --force --' | words)"
+  same "zsh: --input again" "$(options_of run)" "$(by_zsh 'wdl run --input w.n=3 --' | words)"
+  for command in run check inputs cwl bundle; do same "zsh: the documents of $command" "$(printf 'a b.wdl\nc.wdl\nfolder')" "$(by_zsh "wdl $command ")"; done
+  same "zsh: the documents behind --input" "$(printf 'a b.wdl\nc.wdl\nfolder')" "$(by_zsh 'wdl run --input w.n=3 ')"
+  for line in 'run --inputs' 'cwl --inputs'; do same "zsh: the inputs behind $line" 'd.json folder ' "$(by_zsh "wdl $line=" | words)"; done
+  for line in 'run --journal ' 'report '; do same "zsh: journals behind $line" "$(ls)" "$(by_zsh "wdl $line")"; done
+  for line in 'run --root' 'run --relative-to' 'run --outputs' 'cwl --relative-to'; do
+    same "zsh: folders behind $line" folder "$(by_zsh "wdl $line ")"
+    same "zsh: folders behind $line=" folder "$(by_zsh "wdl $line=f")"
+  done
+  same "zsh: a page" 'f.html folder ' "$(by_zsh 'wdl report --html ' | words)"
+  for line in 'run --input ' 'run --input=' 'run --input=w.n=' 'cwl --input ' 'run --workers ' 'load '; do same "zsh: nothing behind $line" '' "$(by_zsh "wdl $line")"; done
+else
+  skip "what zsh completes" "zsh with its module zpty, or timeout, is not installed"
+fi
 if has fish; then
-  by_fish() { HOME=$work/user fish --no-config -c 'source $argv[1]; complete -C $argv[2]' "$top/tools/share/wdl.fish" "$1" 2>&1 | cut -f 1; }
+  by_fish() { HOME=$work/user fish --no-config -c 'source $argv[1]; complete -C $argv[2]' "$top/tools/share/wdl.fish" "$1" 2>&1 | cut -f 1 | LC_ALL=C sort; }
+  # What fish completes files to: a folder has a / behind it.
+  every=$(ls -p)
   same "fish: commands" "$commands" "$(by_fish 'wdl ' | words)"
-  for command in $commands; do same "fish: the options of $command" "$(usage_of "$command" | options)" "$(by_fish "wdl $command --" | words)"; done
+  for command in $commands; do same "fish: the options of $command" "$(options_of "$command")" "$(by_fish "wdl $command --" | words)"; done
+  same "fish: --input again" '--input --inputs ' "$(by_fish 'wdl run --input w.n=3 --inp' | words)"
   same "fish: documents first" 'c.wdl' "$(by_fish 'wdl run c')"
+  for line in 'run --inputs' 'cwl --inputs' 'run --journal' report 'report --html' 'report --force'; do same "fish: files behind $line" "$every" "$(by_fish "wdl $line ")"; done
+  same "fish: a page behind =" '--html=f.html' "$(by_fish 'wdl report --html=f.')"
+  for line in 'run --root' 'run --relative-to' 'run --outputs' 'cwl --relative-to'; do
+    same "fish: folders behind $line" folder/ "$(by_fish "wdl $line ")"
+    same "fish: folders behind $line=" "${line#* }=folder/" "$(by_fish "wdl $line=f")"
+  done
+  for line in 'run --input ' 'run --input=' 'cwl --input ' 'run --workers ' 'load '; do same "fish: nothing behind $line" '' "$(by_fish "wdl $line")"; done
 else
   skip "the completion of fish" "fish is not installed"
 fi

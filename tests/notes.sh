@@ -340,6 +340,69 @@ cannot launch say
 END
 root=$work/run
 
+echo "containers that sh does not start"
+unboxed='but sh runs its command on this machine; WDL_SHELL names what runs commands in containers (docs/CLUSTERS.md)'
+# boxed RUNTIME: a document whose jobs have this section.
+boxed() {
+  cat >boxed.wdl <<END
+version 1.1
+task align { input { Int n } command <<< echo ~{n} >>> output { Int r = read_int(stdout()) } runtime { $1 } }
+workflow boxed {
+  input { Int most = 2 }
+  scatter (n in range(most)) { call align { input: n } }
+  output { Array[Int] r = align.r }
+}
+END
+}
+boxed 'container: "quay.io/x/y:1" cpu: 1'
+three_ways "a container, though sh runs commands" 0 '' run --workers 1 --root "$root" boxed.wdl <<END
+<clear>scatter-0/0/align: warning: it asks for the container "quay.io/x/y:1", $unboxed
+<clear>scatter-0/0/align: started
+[0 done, 1 running]<clear>scatter-0/0/align: status 0 after N s
+[1 done, 0 running]<clear>scatter-0/1/align: started
+[1 done, 1 running]<clear>scatter-0/1/align: status 0 after N s
+[2 done, 0 running]<clear>2 jobs done, 0 failed, in N s (2 ran, 0 kept from the journal, 0 tried again)
+the files of each job are below ROOT
+{"boxed.r":[0,1]}
+END
+# outside NAME IMAGE RUNTIME: two jobs with this section end well, and the run warns once that they are outside of the image, or not at all where IMAGE is empty.
+outside() {
+  boxed "$3"
+  noted run --workers 1 --root "$root" boxed.wdl
+  same "$1" "0 {\"boxed.r\":[0,1]} ${2:+scatter-0/0/align: warning: it asks for the container $2, $unboxed|}" \
+    "$status $(cat out) $(grep container err | tr '\n' '|')"
+}
+outside "no container" '' 'cpu: 1 memory: "1 GB"'
+outside "the first image of a list" '"a:1"' 'docker: ["a:1", "b:2"]'
+outside "container counts before docker" '"b:1"' 'docker: "a:1" container: "b:1"'
+outside "any image, and one of docker" '"a:1"' 'container: "*" docker: " a:1 "'
+outside "any image" '' 'container: ["*", "a:1"]'
+outside "an image without a text" '' 'docker: ""'
+outside "an image with a tab and quotes" '"a\tb\"c"' 'container: "a\tb\"c"'
+ten=0123456789
+long=$ten$ten$ten$ten$ten$ten$ten$ten
+outside "an image of 80 bytes" "\"$long\"" "container: \"$long\""
+outside "an image of 81 bytes" "\"$long\".." "container: \"${long}x\""
+boxed 'container: "a:1"'
+for shell in '' sh; do
+  WDL_SHELL=$shell WDL_NOTES=1 "$program" run --root "$root" boxed.wdl >out 2>err </dev/null
+  same "WDL_SHELL=$shell" "0 1" "$? $(grep -c container err)"
+done
+for shell in /bin/sh /bin/bash; do
+  if [ -x "$shell" ]; then
+    WDL_SHELL=$shell WDL_NOTES=1 "$program" run --root "$root" boxed.wdl >out 2>err </dev/null
+    same "WDL_SHELL=$shell" "0 0" "$? $(grep -c container err)"
+  else skip "WDL_SHELL=$shell" "it is not installed"; fi
+done
+rm -f boxed.journal
+echo '{"boxed.most":1}' >most.json
+noted run --journal boxed.journal --root "$root" --inputs most.json boxed.wdl
+same "the first run with a journal" "0 1" "$status $(grep -c container err)"
+noted run --journal boxed.journal --root "$root" --inputs most.json boxed.wdl
+same "a job that is kept" "0 0" "$status $(grep -c container err)"
+noted run --journal boxed.journal --root "$root" boxed.wdl
+same "a job behind one that is kept" "0 scatter-0/1/align: warning: it asks for the container \"a:1\", $unboxed" "$status $(grep container err)"
+
 echo "inputs files"
 # refuses CODE LINE TEXT..: with the inputs file `i.json` the line is this one, alone or behind a note that has each text.
 refuses() {
@@ -393,7 +456,7 @@ three_ways "inputs" 0 '' inputs lanes.wdl <<'END'
   "lanes.names": "Array[String] (optional, default [\"a\\\"b\",\"c\"])"
 }
 END
-for words in help --help -h 'help run' 'run --help' 'run -h' version --version -V; do
+for words in help --help -h 'help run' 'run --help' 'run -h' 'help report' 'report -h' version --version -V; do
   # shellcheck disable=SC2086
   alone $words
   same "$words: status and errors" "0 " "$status $(cat err)"
@@ -404,13 +467,15 @@ done
 "$program" --version >out
 grep -qx 'wdl [0-9]*\.[0-9]*\.[0-9]*' out && pass || fail "the version: $(cat out)"
 "$program" help >out
-for command in run check inputs cwl bundle; do grep -Eq "^ *(wdl )?$command( |\$)" out && pass || fail "help: no $command in $(cat out)"; done
-for command in run check inputs cwl bundle; do
+for command in run check inputs cwl bundle report; do grep -Eq "^ *(wdl )?$command( |\$)" out && pass || fail "help: no $command in $(cat out)"; done
+for command in run check inputs cwl bundle report; do
   "$program" help "$command" >out
   tells "help $command" out "wdl $command" 'status  meaning' example:
 done
 "$program" run --help >out
-tells "help run" out --inputs --workers --root --journal
+tells "help run" out --inputs '--input NAME=VALUE' --relative-to --workers --root --journal --outputs --force
+"$program" cwl --help >out
+tells "help cwl" out --inputs '--input NAME=VALUE' --relative-to
 
 echo "input files that jobs will not find"
 cat >files.wdl <<'END'

@@ -7,7 +7,7 @@
 # PROGRAM stands in for the one that ./wdl runs. The scripts get a HOME and a TMPDIR of their own, which they must leave empty.
 . "$(dirname -- "$0")/checks.sh"
 # The longest come first.
-scripts='cwl workers runs resume kills journal report outputs end_to_end depths program install rows security move notes messages lints slips inputs command_line commands rows_check run_check page moving'
+scripts='cwl workers runs resume kills journal report outputs end_to_end depths program install rows security move notes messages lints slips inputs command_line commands rows_check run_check page moving hints'
 given=${1+yes}
 program=${1:-$("$top/tools/program.sh")} || exit 1
 program=$(command -v -- "$program") || { echo "run: there is no program $1" >&2; exit 1; }

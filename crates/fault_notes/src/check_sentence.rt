@@ -1,16 +1,16 @@
 //! Sentences on scope and types.
 
-use crate::call_sentence::{input_missing, input_unknown, unknown_task};
-use crate::circle_hint::circle_hint;
-use crate::duplicate_sentence::duplicate;
-use crate::literal_hint::literal_hint;
-use crate::literal_sentence::members_differ;
-use crate::member_sentence::no_member;
-use crate::name_sentence::{not_a_value, unknown_function, unknown_name, unknown_type};
-use crate::optional_hint::{array_hint, condition_hint, value_hint};
-use crate::value_sentence::{bad_arguments, bad_operands, expected, no_coercion};
+use circle_notes::circle_hint;
 use fault_places::{Note, Scene};
+use name_notes::{
+    duplicate, input_missing, input_unknown, not_a_value, unknown_function, unknown_name,
+    unknown_task, unknown_type,
+};
 use std::alloc::Global;
+use type_notes::{
+    array_hint, bad_arguments, bad_operands, condition_hint, expected, literal_hint,
+    members_differ, no_coercion, no_member, value_hint,
+};
 use wdl_library::Library;
 use wdl_value::{NoMemory, Span};
 

@@ -7,9 +7,9 @@ ghost use Rattle.fault_places.specs.Heads.{head_of};
 use crate::check_sentence::{check_hint, check_sentence};
 use crate::import_sentence::import_sentence;
 use crate::subset_sentence::subset_sentence;
-use crate::text_sentence::text_sentence;
 use fault_places::{Note, excerpt, head};
 use std::alloc::Global;
+use syntax_notes::text_sentence;
 use wdl_library::Library;
 use wdl_value::{NoMemory, Span};
 

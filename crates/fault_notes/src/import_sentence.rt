@@ -1,7 +1,7 @@
 //! Sentences on imports.
 
-use crate::listed::it_has;
 use fault_places::{Note, words_at};
+use fault_words::it_has;
 use std::alloc::Global;
 use wdl_library::Library;
 use wdl_value::{NoMemory, Span};

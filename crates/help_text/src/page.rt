@@ -137,13 +137,18 @@ pub const CWL: &str = "\
 Writes the workflow of a document, with all that it imports and calls, as one
 document in CWL v1.2, or its inputs as the input object of that document.
 
-usage: wdl cwl [--inputs FILE] [--input NAME=VALUE].. [--relative-to DIR] FILE
+usage: wdl cwl [OPTION].. FILE
 
   --inputs FILE       write the input object of these inputs, a JSON object as
                       wdl run takes it (default: write the workflow)
   --input NAME=VALUE  set one input on top of the file, as with wdl run
   --relative-to DIR   put DIR in front of each input file whose path is
                       relative, as with wdl run
+  --hints             write into the document the image, cores and memory of
+                      each task, where they are literals (default: none of it)
+
+Every option but --input may be given once. --hints stands without the others,
+which ask for the inputs.
 
 status  meaning
      0  success: the document or the object was written

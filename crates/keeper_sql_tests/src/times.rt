@@ -1,13 +1,13 @@
 //! The times of a job are kept with its row: they begin with the first file of its directory.
 use crate::tests::TABLE;
 use crate::want::Want;
-use keeper_sql::{Database, SqlKeeper};
+use keeper_sql::{Database, KeeperNotes, SqlKeeper};
 use run_keeper::entry_of;
-use std::fs;
 use std::fs::File;
 use std::rt::HostRuntime;
 use std::test::Fail;
 use std::time::{Duration, UNIX_EPOCH};
+use std::{fs, io};
 use wdl_port::Keeper;
 
 /// The row of a job that left nothing.
@@ -43,7 +43,7 @@ fn lay_down(rt: &HostRuntime, second: u64) -> Result<(), Want> {
 /// Puts the row of the job.
 fn put(rt: &HostRuntime) -> Result<(), Want> {
     let entry = entry_of(rt.alloc(), ROW)?;
-    let mut keeper = SqlKeeper::new(rt);
+    let mut keeper = SqlKeeper::new(rt, KeeperNotes::new(io::sink(), ""));
     keeper.start(rt.alloc(), JOURNAL)?;
     Ok(keeper.put(rt.alloc(), &entry)?)
 }
@@ -74,7 +74,7 @@ fn a_job_begins_with_its_first_file_and_ends_with_its_row(rt: HostRuntime) -> Re
 fn make_earlier(rt: &HostRuntime) -> Result<(), Want> {
     fs::create_dir_all(rt, "earlier")?;
     Database::open(rt, "earlier/j")?.execute(TABLE, &[])?;
-    let mut keeper = SqlKeeper::new(rt);
+    let mut keeper = SqlKeeper::new(rt, KeeperNotes::new(io::sink(), ""));
     Ok(keeper.start(rt.alloc(), "earlier/j")?)
 }
 

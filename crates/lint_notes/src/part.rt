@@ -2,16 +2,15 @@
 
 use crate::attribute::near_attribute;
 use crate::compared::compared;
-use crate::element::Element;
 use crate::lint::{Lint, Warning};
 use crate::names::Names;
 use crate::parameter::no_parameter;
 use crate::pattern::literal_pattern;
 use crate::runner::Runner;
 use crate::shape::shape_of;
-use crate::shell::Shell;
 use crate::unquoted::unquoted;
 use crate::unused::{unused_declaration, unused_input};
+use lint_reading::{Element, Shell};
 use std::alloc::Global;
 use wdl_ast::{Chars, Declaration, Expr, Scatter, Statement};
 use wdl_names::Indexed;

@@ -40,7 +40,10 @@ fn is_option(word: &str) -> bool {
 
 /// Whether another option waits for a value.
 fn takes_value(word: &str) -> bool {
-    matches!(word, "--inputs" | "--workers" | "--root" | "--journal")
+    matches!(
+        word,
+        "--inputs" | "--input" | "--relative-to" | "--workers" | "--root" | "--journal"
+    )
 }
 
 /// Whether an argument asks for a page and for no run.

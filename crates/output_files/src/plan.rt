@@ -6,7 +6,7 @@ use crate::output_file::OutputFile;
 use sqlite_items::{Boxed, Items};
 use std::alloc::Global;
 use wdl_base::{Name, NoMemory, Text};
-use wdl_value::{Bind, Env, Field, MapRow, Value, text_of};
+use wdl_value::{Bind, Env, Field, MapRow, Value};
 
 /// The most bytes of a file's name.
 const MOST: usize = 255;
@@ -86,6 +86,17 @@ fn numbered(alloc: Global, folder: &str, row: usize) -> Result<RowFolders, NoMem
     })
 }
 
+/// Returns the text of a key that is no file: of a Boolean, an Int or a String.
+fn key_text(alloc: Global, key: &Value) -> Result<String, NoMemory> {
+    match key {
+        Value::Bool(true) => Ok(String::from_str(alloc, "true")?),
+        Value::Bool(false) => Ok(String::from_str(alloc, "false")?),
+        Value::Int(number) => Ok(format!(in alloc; "{number}")?),
+        Value::Str(text) => Ok(String::from_str(alloc, text.as_str())?),
+        _ => Ok(String::new(alloc)),
+    }
+}
+
 /// Returns the folders for the row of a key. A key that is no file needs none.
 fn row_folders(
     alloc: Global,
@@ -96,7 +107,7 @@ fn row_folders(
     if let Value::File(_) = key {
         return numbered(alloc, folder, row);
     }
-    let text = text_of(alloc, key)?;
+    let text = key_text(alloc, key)?;
     let step = key_folder(alloc, text.as_str(), row)?;
     Ok(RowFolders {
         key: String::new(alloc),

@@ -3,6 +3,7 @@
 #![tactic(auto)]
 
 mod attempt;
+mod container;
 mod duration;
 mod expression;
 mod failure;
@@ -16,4 +17,5 @@ mod spelled;
 mod tally;
 mod why;
 
+pub use container::ContainerWarning;
 pub use notes::{RunNotes, Style};

@@ -1,4 +1,5 @@
 use crate::attempt::Attempt;
+use crate::container::{ContainerWarning, container_note};
 use crate::failure::failed_note;
 use crate::line::{Event, push_counts, push_event, push_summary};
 use crate::lookup::{task_at, value_at};
@@ -43,6 +44,7 @@ pub struct RunNotes<'s, N: Sink, C: Clock + Drop> {
     sink: &'s mut N,
     clock: C,
     style: Style,
+    container_warning: ContainerWarning,
     ended: bool,
     began: Option<Instant>,
     running: BTreeMap<String, Running>,
@@ -96,12 +98,19 @@ fn push_line(
 
 impl<'s, N: Sink, C: Clock + Drop> RunNotes<'s, N, C> {
     /// Returns notes that are empty yet.
-    pub fn new(alloc: Global, sink: &'s mut N, clock: C, style: Style) -> RunNotes<'s, N, C> {
+    pub fn new(
+        alloc: Global,
+        sink: &'s mut N,
+        clock: C,
+        style: Style,
+        container_warning: ContainerWarning,
+    ) -> RunNotes<'s, N, C> {
         RunNotes {
             alloc,
             sink,
             clock,
             style,
+            container_warning,
             ended: false,
             began: None,
             running: BTreeMap::new(alloc),
@@ -138,6 +147,19 @@ impl<'s, N: Sink, C: Clock + Drop> RunNotes<'s, N, C> {
     fn tell(&mut self, place: &Place, event: Event) {
         if let Ok(line) = self.line(place, event) {
             self.write(line.bytes());
+        }
+    }
+
+    /// Warns of a job that runs outside of the container that it asks for, where none was warned of
+    /// before.
+    fn warn_of_container(&mut self, request: &Request) {
+        if self.container_warning == ContainerWarning::Settled {
+            return;
+        }
+        if let Ok(Some(note)) = container_note(self.alloc, request) {
+            self.container_warning = ContainerWarning::Settled;
+            self.clear();
+            self.write(note.bytes());
         }
     }
 
@@ -211,6 +233,7 @@ impl<'s, N: Sink, C: Clock + Drop> Progress for RunNotes<'s, N, C> {
     fn began(&mut self, job: &Job) {
         let request = job.request();
         let attempt = Attempt::new(request.attempt, job.retries());
+        self.warn_of_container(request);
         self.tally.begin(request.attempt);
         let _ = self.start_job(job, attempt);
         self.tell(&request.place, Event::Started { attempt });

@@ -27,19 +27,41 @@ fn sorted<'a>(alloc: Global, jobs: &'a [Job]) -> Result<Vec<&'a Job>, AllocError
     Ok(all)
 }
 
+/// Returns where the jobs of a task end, which are beside one another from `start` on.
+fn end_of(jobs: &[&Job], start: usize, task: &str) -> usize {
+    let mut end = start;
+    for job in jobs.get(start..).unwrap_or(&[]) {
+        if job.task() != task {
+            break;
+        }
+        end = end.saturating_add(1);
+    }
+    end
+}
+
+/// Returns the group of a task's jobs, of which `first` is one.
+fn group_of<'a>(alloc: Global, first: &'a Job, jobs: &[&'a Job]) -> Result<Group<'a>, AllocError> {
+    Ok(Group {
+        task: first.task(),
+        jobs: Vec::from_slice(alloc, jobs)?,
+        spent: spent_of(alloc, jobs)?,
+    })
+}
+
 /// Groups jobs by their tasks. The task that took longest in total comes first; where two took the
 /// same, the names decide.
 pub(crate) fn groups_of(alloc: Global, jobs: &[Job]) -> Result<Vec<Group<'_>>, AllocError> {
     let all = sorted(alloc, jobs)?;
     let mut groups = Vec::new(alloc);
-    for part in all.chunk_by(|left, right| left.task() == right.task()) {
-        if let Some(first) = part.first() {
-            groups.push(Group {
-                task: first.task(),
-                jobs: Vec::from_slice(alloc, part)?,
-                spent: spent_of(alloc, part)?,
-            })?;
-        }
+    let mut start = 0usize;
+    for _ in 0..jobs.len() {
+        let Some(first) = all.get(start) else {
+            break;
+        };
+        let end = end_of(all.as_slice(), start, first.task());
+        let part = all.get(start..end).unwrap_or(&[]);
+        groups.push(group_of(alloc, *first, part)?)?;
+        start = end;
     }
     groups.sort_by_key(|group| (Reverse(group.spent.total), group.task))?;
     Ok(groups)

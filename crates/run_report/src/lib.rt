@@ -3,6 +3,7 @@
 #![tactic(auto)]
 
 mod arguments;
+mod command;
 mod database;
 mod escape;
 mod fault;
@@ -12,7 +13,6 @@ mod lanes;
 mod page;
 mod page_file;
 mod reading;
-mod report;
 mod scale;
 mod span;
 mod spent;
@@ -20,4 +20,4 @@ mod style;
 mod table;
 mod timeline;
 
-pub use report::{is_report, report};
+pub use command::{is_report, report};

@@ -2,7 +2,7 @@ use crate::database::{Copied, open_copy};
 use crate::fault::ReadFault;
 use crate::job::{Job, Times};
 use serde::Deserialize;
-use sqlite::{FileStore, Row, Rows, params};
+use sqlite::{Error, FileStore, Row, Rows, params};
 use sqlite_disk::Memory;
 use std::alloc::Global;
 use std::num::saturating_f64_to_u64;
@@ -45,14 +45,30 @@ fn job_in(alloc: Global, row: &Row) -> Result<Job, ReadFault> {
     })
 }
 
-/// Returns the jobs of the rows that a query gives.
-fn jobs_in(alloc: Global, mut rows: Rows<'_, FileStore<Memory>>) -> Result<Vec<Job>, ReadFault> {
+fn entries(copy: &mut Copied) -> Result<Rows<'_, FileStore<Memory>>, Error> {
+    copy.query(ENTRIES, &[])
+}
+
+/// Returns the job of the next row, if there is one.
+fn next_job(
+    alloc: Global,
+    rows: &mut Rows<'_, FileStore<Memory>>,
+) -> Result<Option<Job>, ReadFault> {
+    match rows.next()? {
+        Some(row) => Ok(Some(job_in(alloc, row)?)),
+        None => Ok(None),
+    }
+}
+
+/// Returns the jobs of all rows.
+fn jobs_in(alloc: Global, copy: &mut Copied) -> Result<Vec<Job>, ReadFault> {
+    let mut rows = entries(copy)?;
     let mut jobs = Vec::new(alloc);
     for _ in 0..u64::MAX {
-        let Some(row) = rows.next()? else {
+        let Some(job) = next_job(alloc, &mut rows)? else {
             break;
         };
-        jobs.push(job_in(alloc, row)?)?;
+        jobs.push(job)?;
     }
     Ok(jobs)
 }
@@ -62,34 +78,59 @@ fn milliseconds(seconds: f64) -> u64 {
     saturating_f64_to_u64(seconds * 1000.0 + 0.5)
 }
 
+/// The times of a job, as a row has them: in seconds.
+#[derive(Drop)]
+struct TimeRow {
+    place: String,
+    attempt: i64,
+    begun: f64,
+    ended: f64,
+}
+
+fn times(copy: &mut Copied) -> Result<Rows<'_, FileStore<Memory>>, Error> {
+    copy.query(TIMES, &[])
+}
+
+fn time_row_in(row: &Row) -> Result<TimeRow, Error> {
+    Ok(TimeRow {
+        place: row.get(0)?,
+        attempt: row.get(1)?,
+        begun: row.get(2)?,
+        ended: row.get(3)?,
+    })
+}
+
+/// Returns the next row of times, if there is one.
+fn next_time_row(rows: &mut Rows<'_, FileStore<Memory>>) -> Result<Option<TimeRow>, ReadFault> {
+    match rows.next()? {
+        Some(row) => Ok(Some(time_row_in(row)?)),
+        None => Ok(None),
+    }
+}
+
 /// Gives the times of a row to the job of its place and attempt, if there is one.
-fn give_times(jobs: &mut [Job], row: &Row) -> Result<(), ReadFault> {
-    let place: String = row.get(0)?;
-    let attempt: i64 = row.get(1)?;
-    let (begun, ended): (f64, f64) = (row.get(2)?, row.get(3)?);
+fn give_times(jobs: &mut [Job], row: &TimeRow) {
     let found = jobs.binary_search_by(|job| {
-        (job.place.as_str(), job.attempt).cmp(&(place.as_str(), attempt))
+        (job.place.as_str(), job.attempt).cmp(&(row.place.as_str(), row.attempt))
     });
     if let Ok(at) = found
         && let Some(job) = jobs.get_mut(at)
     {
         job.times = Some(Times {
-            begun: milliseconds(begun),
-            ended: milliseconds(ended),
+            begun: milliseconds(row.begun),
+            ended: milliseconds(row.ended),
         });
     }
-    Ok(())
 }
 
-fn give_all_times(
-    jobs: &mut [Job],
-    mut rows: Rows<'_, FileStore<Memory>>,
-) -> Result<(), ReadFault> {
+/// Gives the times of all rows to their jobs.
+fn give_all_times(jobs: &mut [Job], copy: &mut Copied) -> Result<(), ReadFault> {
+    let mut rows = times(copy)?;
     for _ in 0..u64::MAX {
-        let Some(row) = rows.next()? else {
+        let Some(row) = next_time_row(&mut rows)? else {
             break;
         };
-        give_times(jobs, row)?;
+        give_times(jobs, &row);
     }
     Ok(())
 }
@@ -104,9 +145,9 @@ pub(crate) fn jobs_of(rt: &HostRuntime, path: &str) -> Result<Vec<Job>, ReadFaul
     if count(&mut copy, "entry")? == 0 {
         return Err(ReadFault::NotAJournal);
     }
-    let mut jobs = jobs_in(rt.alloc(), copy.query(ENTRIES, &[])?)?;
+    let mut jobs = jobs_in(rt.alloc(), &mut copy)?;
     if count(&mut copy, "times")? > 0 {
-        give_all_times(jobs.as_mut_slice(), copy.query(TIMES, &[])?)?;
+        give_all_times(jobs.as_mut_slice(), &mut copy)?;
     }
     Ok(jobs)
 }

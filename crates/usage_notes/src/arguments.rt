@@ -21,6 +21,8 @@ struct Arguments<'a, R> {
     /// The document, or the number of calls.
     operand: Option<&'a str>,
     inputs: Option<&'a str>,
+    /// The last `--input`.
+    input: Option<&'a str>,
     relative_to: Option<&'a str>,
     workers: Option<&'a str>,
     root: Option<&'a str>,
@@ -28,6 +30,8 @@ struct Arguments<'a, R> {
     outputs: Option<&'a str>,
     /// `--force`.
     force: Option<&'a str>,
+    /// `--hints`.
+    hints: Option<&'a str>,
 }
 
 /// Whether a text is a number within limits, in decimal digits alone.
@@ -55,7 +59,7 @@ fn takes<R: Files>(rt: &R, setting: Setting, value: &str) -> bool {
         Setting::RelativeTo => is_folder(rt, value),
         Setting::Workers => is_number(value, 1, 64),
         Setting::Root => is_root(value),
-        Setting::Force => false,
+        Setting::Force | Setting::Hints => false,
     }
 }
 
@@ -81,12 +85,14 @@ impl<'a, R: Files> Arguments<'a, R> {
             plain: false,
             operand: None,
             inputs: None,
+            input: None,
             relative_to: None,
             workers: None,
             root: None,
             journal: None,
             outputs: None,
             force: None,
+            hints: None,
         }
     }
 
@@ -94,13 +100,17 @@ impl<'a, R: Files> Arguments<'a, R> {
     fn replace(&mut self, setting: Setting, value: &'a str) -> Option<&'a str> {
         match setting {
             Setting::Inputs => self.inputs.replace(value),
-            Setting::Input => None,
+            Setting::Input => {
+                self.input = Some(value);
+                None
+            }
             Setting::RelativeTo => self.relative_to.replace(value),
             Setting::Workers => self.workers.replace(value),
             Setting::Root => self.root.replace(value),
             Setting::Journal => self.journal.replace(value),
             Setting::Outputs => self.outputs.replace(value),
             Setting::Force => self.force.replace(value),
+            Setting::Hints => self.hints.replace(value),
         }
     }
 
@@ -116,13 +126,13 @@ impl<'a, R: Files> Arguments<'a, R> {
         }
     }
 
-    /// Reads `--force`, which takes no value.
-    fn force(&mut self, word: &'a str) -> Option<Slip<'a>> {
+    /// Reads an option that takes no value.
+    fn bare(&mut self, word: &'a str, setting: Setting) -> Option<Slip<'a>> {
         if let Some((_, value)) = word.split_once('=') {
-            return Some(Slip::BadValue(Setting::Force, value));
+            return Some(Slip::BadValue(setting, value));
         }
-        match self.replace(Setting::Force, word) {
-            Some(_) => Some(Slip::Repeated(Setting::Force)),
+        match self.replace(setting, word) {
+            Some(_) => Some(Slip::Repeated(setting)),
             None => None,
         }
     }
@@ -132,8 +142,8 @@ impl<'a, R: Files> Arguments<'a, R> {
         if !setting.is_of(self.command) {
             return Some(Slip::OtherOption(setting));
         }
-        if setting == Setting::Force {
-            return self.force(word);
+        if setting.is_bare() {
+            return self.bare(word, setting);
         }
         match word.split_once('=') {
             Some((_, value)) => self.value(setting, value),
@@ -213,6 +223,16 @@ impl<'a, R: Files> Arguments<'a, R> {
         }
     }
 
+    /// An option that sets inputs.
+    fn input_setting(&self) -> Option<Setting> {
+        match (self.inputs, self.input, self.relative_to) {
+            (Some(_), _, _) => Some(Setting::Inputs),
+            (None, Some(_), _) => Some(Setting::Input),
+            (None, None, Some(_)) => Some(Setting::RelativeTo),
+            (None, None, None) => None,
+        }
+    }
+
     /// What is missing at the end.
     fn end(&self) -> Slip<'a> {
         if let Some(setting) = self.waiting {
@@ -220,6 +240,9 @@ impl<'a, R: Files> Arguments<'a, R> {
         }
         if self.force.is_some() && self.outputs.is_none() {
             return Slip::ForceAlone;
+        }
+        if let (Some(_), Some(setting)) = (self.hints, self.input_setting()) {
+            return Slip::HintsBeside(setting);
         }
         match (self.operand, self.command) {
             (None, Command::Load) => Slip::NoNumber,

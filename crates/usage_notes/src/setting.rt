@@ -3,9 +3,10 @@
 use wdl_words::Command;
 
 /// The names of the commands, in the order of the help.
-pub(crate) const COMMANDS: &str = "run, check, inputs, cwl, bundle, explain, load, help, version";
+pub(crate) const COMMANDS: &str =
+    "run, check, inputs, cwl, bundle, report, explain, load, help, version";
 
-/// An option. All but `--force` have a value.
+/// An option. All but `--force` and `--hints` have a value.
 #[derive(Clone, Copy, Debug, PartialEq, Eq)]
 pub(crate) enum Setting {
     Inputs,
@@ -16,6 +17,7 @@ pub(crate) enum Setting {
     Journal,
     Outputs,
     Force,
+    Hints,
 }
 
 /// Returns the name of a command.
@@ -50,7 +52,7 @@ pub(crate) fn command_named(name: &str) -> Option<Command> {
 /// Returns the names of the commands.
 pub(crate) fn command_names() -> &'static [&'static str] {
     &[
-        "run", "check", "inputs", "cwl", "bundle", "explain", "load", "help", "version",
+        "run", "check", "inputs", "cwl", "bundle", "report", "explain", "load", "help", "version",
     ]
 }
 
@@ -79,6 +81,7 @@ impl Setting {
             Setting::Journal => "--journal",
             Setting::Outputs => "--outputs",
             Setting::Force => "--force",
+            Setting::Hints => "--hints",
         }
     }
 
@@ -89,16 +92,34 @@ impl Setting {
             Setting::Input => "NAME=VALUE",
             Setting::Workers => "a number from 1 to 64",
             Setting::Root | Setting::RelativeTo | Setting::Outputs => "a folder",
-            Setting::Force => "no value",
+            Setting::Force | Setting::Hints => "no value",
         }
+    }
+
+    /// Whether it sets inputs.
+    pub(crate) fn sets_inputs(self) -> bool {
+        matches!(self, Setting::Inputs | Setting::Input | Setting::RelativeTo)
+    }
+
+    /// Whether it stands without a value.
+    pub(crate) fn is_bare(self) -> bool {
+        matches!(self, Setting::Force | Setting::Hints)
     }
 
     /// Whether a command has it.
     pub(crate) fn is_of(self, command: Command) -> bool {
         match command {
-            Command::Run => true,
-            Command::Cwl => matches!(self, Setting::Inputs | Setting::Input | Setting::RelativeTo),
+            Command::Run => self != Setting::Hints,
+            Command::Cwl => self == Setting::Hints || self.sets_inputs(),
             _ => false,
+        }
+    }
+
+    /// A command that has it.
+    pub(crate) fn owner(self) -> &'static str {
+        match self {
+            Setting::Hints => "cwl",
+            _ => "run",
         }
     }
 }
@@ -114,6 +135,7 @@ pub(crate) fn setting_named(name: &str) -> Option<Setting> {
         "journal" => Some(Setting::Journal),
         "outputs" => Some(Setting::Outputs),
         "force" => Some(Setting::Force),
+        "hints" => Some(Setting::Hints),
         _ => None,
     }
 }
@@ -145,7 +167,7 @@ pub(crate) fn names_of(command: Command) -> &'static [&'static str] {
             "outputs",
             "force",
         ],
-        Command::Cwl => &["inputs", "input", "relative-to"],
+        Command::Cwl => &["inputs", "input", "relative-to", "hints"],
         _ => &[],
     }
 }
@@ -156,7 +178,7 @@ pub(crate) fn options_of(command: Command) -> &'static str {
         Command::Run => {
             "--inputs, --input, --relative-to, --workers, --root, --journal, --outputs, --force"
         }
-        Command::Cwl => "--inputs, --input, --relative-to",
+        Command::Cwl => "--inputs, --input, --relative-to, --hints",
         _ => "",
     }
 }

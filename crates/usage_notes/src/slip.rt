@@ -19,6 +19,8 @@ pub(crate) enum Slip<'a> {
     BadValue(Setting, &'a str),
     /// `--force` without `--outputs`.
     ForceAlone,
+    /// `--hints` beside an option that sets inputs.
+    HintsBeside(Setting),
     /// A number of calls that `load` does not take.
     BadNumber(&'a str),
     /// A document without a name.

@@ -50,7 +50,7 @@ fn push_other(note: &mut Note, command: Command, setting: Setting) -> Result<(),
     note.push_all(&["`", setting.name(), "`: `", name, "` has no such option"])?;
     let options = options_of(command);
     if options.is_empty() {
-        return note.push_all(&["; it is an option of `run`"]);
+        return note.push_all(&["; it is an option of `", setting.owner(), "`"]);
     }
     note.push_all(&[", expected ", options])
 }
@@ -169,6 +169,13 @@ pub(crate) fn push_slip(
         Slip::ForceAlone => note.push(
             "`--force`: expected with `--outputs DIR`, whose files it replaces",
         ),
+        Slip::HintsBeside(setting) => {
+            note.push_all(&[
+                "`--hints`: expected without `",
+                setting.name(),
+                "`, which asks for the inputs; the document has the hints",
+            ])
+        }
         Slip::BadNumber(found) => push_bad_number(note, found),
         Slip::EmptyName => {
             note.push_all(&[

@@ -1,7 +1,7 @@
 //! What the program reads of its environment.
 use command_notes::Runner;
 use either::Either;
-use run_notes::Style;
+use run_notes::{ContainerWarning, Style};
 use std::env::{Env, VarError};
 use std::io::{ErrorKind, IsTerminal};
 use std::{env, io};
@@ -41,6 +41,14 @@ pub(crate) fn runner_of(shell: &Option<String>) -> Runner {
     match shell {
         Some(name) if name.as_str() == "sh" => Runner::Sh,
         _ => Runner::Other,
+    }
+}
+
+/// Returns whether the notes of a run warn of containers, which `sh` does not start.
+pub(crate) fn container_warning_of(shell: &Option<String>) -> ContainerWarning {
+    match runner_of(shell) {
+        Runner::Sh => ContainerWarning::Due,
+        Runner::Other => ContainerWarning::Settled,
     }
 }
 

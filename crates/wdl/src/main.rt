@@ -4,18 +4,26 @@
 
 ghost use Rattle.std.specs.Prelude.{◌≡◌, ◌<◌, None};
 
+mod ending;
 mod environment;
+mod hinted;
+mod kept_documents;
+mod kept_output;
 mod kept_run;
 mod published;
 mod words;
 
 use command_notes::{RecallingShelf, Runner};
 use environment::{
-    clear_of, folder, note_stream, out_stream, outer_mark, runner_of, shell, shows_notes, style_of,
+    clear_of, container_warning_of, folder, note_stream, out_stream, outer_mark, runner_of, shell,
+    shows_notes, style_of,
 };
 use file_notes::SeeingShelf;
+use hinted::write_hinted;
 use job_launcher::{Launching, Notes, ShellLauncher};
 use keeper_sql::{KeeperNotes, SqlKeeper};
+use kept_documents::KeepingShelf;
+use kept_output::KeepingSink;
 use kept_run::KeepingWatch;
 use output_files::choice_of;
 use published::publish_outputs;
@@ -98,14 +106,17 @@ fn main(rt: HostRuntime) -> ExitCode {
     let choice = choice_of(line.typed.as_slice());
     let stream = rt.stderr();
     let is_read = shows_notes(&rt, &stream, asked);
-    let inputs = SettingsShelf::new(alloc, FileShelf::new(&rt), line.settings());
+    let documents = KeepingShelf::new(alloc, FileShelf::new(&rt), line.hints);
+    let inputs = SettingsShelf::new(alloc, documents, line.settings());
     let files = RecallingShelf::new(alloc, inputs, runner_of(&shell));
     let mut shelf = SeeingShelf::new(files, &rt, folder(&rt), is_read);
-    let mut out = StreamSink::new(out_stream(rt.stdout(), choice.is_some()));
+    let held = out_stream(rt.stdout(), choice.is_some() || line.hints);
+    let mut out = KeepingSink::new(alloc, StreamSink::new(held), line.hints);
     let style = style_of(&stream);
     let mut notes = StreamSink::new(note_stream(&rt, stream, asked));
     let mut lines = StreamSink::new(note_stream(&rt, rt.stderr(), asked));
-    let tale = RunNotes::new(alloc, &mut lines, &rt, style);
+    let warning = container_warning_of(&shell);
+    let tale = RunNotes::new(alloc, &mut lines, &rt, style, warning);
     let mut progress = KeepingWatch::new(tale, choice.is_some());
     let own = Launching {
         process: process::id(rt.process()),
@@ -143,6 +154,11 @@ fn main(rt: HostRuntime) -> ExitCode {
                 &mut err,
                 &mut notes,
             )
+        }
+        _ if number == 0 && line.hints => {
+            let documents = &mut shelf.shelf.shelf.shelf;
+            let mut whole = StreamSink::new(rt.stdout());
+            write_hinted(alloc, out.text(), documents, &mut whole, &mut err)
         }
         _ => number,
     };

@@ -1,5 +1,6 @@
 //! The outputs of a run whose files are published in a folder (`run --outputs DIR`).
 
+use crate::ending::line;
 use crate::environment::folder;
 use crate::kept_run::KeptRun;
 use output_files::{OutputChoice, PublishFault, Run, fault_note, plan_of, publish, whole_path};
@@ -33,14 +34,6 @@ fn published_text<R: Env + Files + AllocGlobal>(
     let mut text = outputs_text(alloc, &run.workflow, plan.outputs.as_slice())?;
     text.push_ascii(b'\n')?;
     Ok(text)
-}
-
-/// Writes the line of a status, and returns its number.
-fn line<E: Sink>(status: Status, text: &str, err: &mut E) -> u8 {
-    match write_all(err, text.as_bytes()) {
-        Ok(()) => number_of(&status),
-        Err(_) => number_of(&Status::Write),
-    }
 }
 
 /// Publishes the files of the outputs of a run that succeeded, writes the outputs with their new

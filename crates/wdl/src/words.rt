@@ -6,6 +6,7 @@ use std::env;
 use std::env::Env;
 use std::fs::Files;
 use std::io::ErrorKind;
+use tool_hints::{arguments_without, asks_hints};
 use wdl_value::NoMemory;
 
 /// The words after the program's name.
@@ -13,8 +14,11 @@ use wdl_value::NoMemory;
 pub(crate) struct CommandLine {
     /// All but `--notes`.
     pub typed: Vec<String>,
-    /// Those without `--outputs` and `--force`, where a folder is named as it should be.
+    /// Those without `--outputs` and `--force`, where a folder is named as it should be, and without
+    /// `--hints`, where it stands as it should.
     other: Vec<String>,
+    /// Whether hints are asked for.
+    pub hints: bool,
     /// Whether notes are asked for, by `--notes` in front of any `--`.
     pub notes: bool,
     /// The words without the options that set inputs, and what these set.
@@ -71,10 +75,13 @@ pub(crate) fn command_line<R: Env + Files + AllocGlobal>(rt: &R) -> Result<Comma
         None => None,
     };
     let other = other_arguments(rt.alloc(), typed.as_slice())?;
+    let hints = asks_hints(other.as_slice());
+    let other = arguments_without(rt.alloc(), other.as_slice())?;
     let set = set_line(rt, rt.alloc(), other.as_slice(), here)?;
     Ok(CommandLine {
         typed,
         other,
+        hints,
         notes,
         set,
     })

@@ -4,7 +4,7 @@ use crate::counted::Counted;
 use crate::reading::Case;
 use crate::sinks::Sinks;
 use command_notes::{RecallingShelf, Runner};
-use run_notes::{RunNotes, Style};
+use run_notes::{ContainerWarning, RunNotes, Style};
 use std::alloc::Global;
 use std::marker::Brand;
 use std::sync::Wait;
@@ -67,7 +67,13 @@ fn run<L: Launcher + Sync, K: Keeper, R: Threads + Wait + Clock + Sync, S: Ledge
     requires some { 0 < blank.parts }
 {
     let mut steps: Steps<S> = Steps::start(blank);
-    let mut progress = RunNotes::new(alloc, &mut sinks.lines, rt, Style::Lines);
+    let mut progress = RunNotes::new(
+        alloc,
+        &mut sinks.lines,
+        rt,
+        Style::Lines,
+        ContainerWarning::Settled,
+    );
     workflow(
         rt,
         alloc,

@@ -6,7 +6,7 @@ use std::sync::Wait;
 use std::test::Fail;
 use std::thread::Threads;
 use std::time::Clock;
-use wdl_value::{Entry, Laid, Place, Source, Step, place_text};
+use wdl_value::{Attribute, Entry, Laid, Place, Source, Step, place_text};
 
 fn push_place(alloc: Global, shown: &mut String, mark: &str, place: &Place) -> Result<(), Fail> {
     let place = place_text(alloc, place)?;
@@ -39,6 +39,17 @@ fn push_laid(shown: &mut String, files: &[Laid]) -> Result<(), Fail> {
     Ok(())
 }
 
+fn push_attributes(shown: &mut String, attributes: &[Attribute]) -> Result<(), Fail> {
+    for attribute in attributes {
+        shown.push_str(" {")?;
+        shown.push_str(attribute.name.as_str())?;
+        shown.push_str(" ")?;
+        shown.push_str(attribute.value.as_str())?;
+        shown.push_str("}")?;
+    }
+    Ok(())
+}
+
 fn mark_of(source: Source) -> &'static str {
     match source {
         Source::Launched => "",
@@ -46,8 +57,8 @@ fn mark_of(source: Source) -> &'static str {
     }
 }
 
-/// Behind `=` where the answer was kept: the directory of each job, its command, and the files that
-/// were laid there.
+/// Behind `=` where the answer was kept: the directory of each job, its command, the files that were
+/// laid there in brackets, and its runtime attributes in braces.
 fn push_entries(shown: &mut String, journal: &[Entry]) -> Result<(), Fail> {
     for entry in journal {
         shown.push_str(mark_of(entry.source))?;
@@ -55,6 +66,7 @@ fn push_entries(shown: &mut String, journal: &[Entry]) -> Result<(), Fail> {
         shown.push_str(" ")?;
         shown.push_str(entry.request.command.as_str())?;
         push_laid(shown, entry.request.files.as_slice())?;
+        push_attributes(shown, entry.request.attributes.as_slice())?;
         shown.push_str("\n")?;
     }
     Ok(())

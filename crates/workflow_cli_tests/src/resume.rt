@@ -8,7 +8,7 @@ use wdl_port::MapKeeper;
 use workflow_cases::{Case, Outcome, read_case, run_case};
 
 /// Three calls, each of which says what the one before it said.
-const CHAIN: &str = r#"say
+pub(crate) const CHAIN: &str = r#"say
 text workflow w { call say as a { input: s = "x" } call say as b { input: s = a.r }
 text  call say as c { input: s = b.r } output { String r = c.r } }
 file w.wdl
@@ -21,7 +21,7 @@ text  call say as c { input: s = b.r } output { String r = c.r } }
 file w.wdl
 $ run --workers 1 --journal j w.wdl"#;
 
-const ANSWERS: &str = "answer a 0 0 A\nanswer b 0 0 B\nanswer c 0 0 C";
+pub(crate) const ANSWERS: &str = "answer a 0 0 A\nanswer b 0 0 B\nanswer c 0 0 C";
 
 /// The run of a document with these answers, or more lines of a case.
 fn case_of(alloc: Global, document: &str, answers: &str) -> Result<Case, Fail> {
@@ -30,7 +30,7 @@ fn case_of(alloc: Global, document: &str, answers: &str) -> Result<Case, Fail> {
 }
 
 /// The outcome of a run over the rows of an earlier one, if any.
-fn run<R: Threads + Wait + Clock + Sync + AllocGlobal>(
+pub(crate) fn run<R: Threads + Wait + Clock + Sync + AllocGlobal>(
     rt: &R,
     document: &str,
     answers: &str,

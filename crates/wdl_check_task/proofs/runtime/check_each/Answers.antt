@@ -7,7 +7,7 @@ use Rattle.wdl_check_types.specs.Outcome.{Answers}
 use Rattle.wdl_check_decls.specs.Expressions.{world}
 use Rattle.wdl_check_decls.proofs.ListLaws.{Leads, leads_done, leads_err, leads_on}
 use Rattle.wdl_check_task.specs.Runtime.{each_behind, each_typed, first_name, kept_with, seen_with, value_typed}
-use Rattle.wdl_check_task.proofs.Loops.{ended, turn}
+use Rattle.wdl_check_task.proofs.Loops.{ended, leads_from, turn}
 use Rattle.wdl_check_task.proofs.runtime.check_each.Goals as goal
 
 pub returns-in_err-typed : goal.returns-in_err-typed
@@ -46,12 +46,11 @@ loop-attribute-preserved c =
     let named = c.in_ok-name.ensures.name in
     let seen = c.in_ok-name.ensures.seen ∙ ap (seen_with before) named in
     let kept = c.in_ok-keep.ensures ∙ ap (λ m. kept_with all m c.in_ok-typed.typed) named in
-    subst (λ (as_ : List TAttribute). Leads (each_behind w names _ as_ rest) whole) (sym kept)
-    (subst (λ ns. Leads (each_behind w names ns (kept_with all n c.in_ok-typed.typed) rest) whole) (sym seen)
+    leads_from (λ ns as_. each_behind w names ns as_ rest) whole _ (seen_with before n) _ (kept_with all n c.in_ok-typed.typed) seen kept
     (leads_on (value_typed w names a.now) (λ x. each_behind w names (seen_with before n)
     (kept_with all n x) rest) whole c.in_ok-typed.typed c.in_ok-typed.ensures
     (subst (λ (as_ : List (Attribute Expr)). Leads (each_behind w names before all as_) whole)
-    (turn (λ a. a.now) xs i a within c.attribute-item.is) c.loop-attribute.invariant)))
+    (turn (λ a. a.now) xs i a within c.attribute-item.is) c.loop-attribute.invariant))
 
 pub returns : goal.returns
 returns c =
