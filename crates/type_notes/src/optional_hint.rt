@@ -36,17 +36,28 @@ pub fn repeated(text: &str) -> &str {
 
 /// Appends how a value of that optional type gets one that is there.
 pub fn select_first(note: &mut Note, text: &str, ty: &str) -> Result<(), NoMemory> {
-    note.push_all(&["write `select_first([", repeated(text), stand_in(ty), "])`"])
+    note.push("write `select_first([")?;
+    note.push(repeated(text))?;
+    note.push(stand_in(ty))?;
+    note.push("])`")
+}
+
+/// Appends the test for a value.
+fn push_defined(note: &mut Note, text: &str) -> Result<(), NoMemory> {
+    note.push("`defined(")?;
+    note.push(repeated(text))?;
+    note.push(")`")
 }
 
 /// Appends how a condition asks for a value of that optional type.
 fn condition(note: &mut Note, text: &str, ty: &str) -> Result<(), NoMemory> {
-    let text = repeated(text);
     if ty == "Boolean?" {
         select_first(note, text, ty)?;
-        return note.push_all(&[", or `defined(", text, ")`"]);
+        note.push(", or ")?;
+    } else {
+        note.push("write ")?;
     }
-    note.push_all(&["write `defined(", text, ")`"])
+    push_defined(note, text)
 }
 
 /// Appends the hint on 325, a condition that is optional: how to give it a value. For another type
