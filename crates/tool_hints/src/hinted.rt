@@ -4,7 +4,6 @@ use crate::index::index_of;
 use crate::site::{Site, site_in};
 use serde_json::{Map, Value as Json, put};
 use std::alloc::Global;
-use std::collections::BTreeMap;
 use wdl_base::NoMemory;
 use wdl_typed::{Checked, Statement};
 
@@ -43,32 +42,52 @@ fn tool(
     }
 }
 
-/// A step (CWL v1.2, WorkflowStep), whose process is what the statement of its id stands for.
-#[cycle(hinted)]
-fn step<'a>(
+/// A step whose process is the tool of a task (CWL v1.2, WorkflowStep).
+fn task_step(
     alloc: Global,
-    source: &HintSource<'a>,
-    body: &'a [Statement],
-    index: &BTreeMap<String, usize>,
+    source: &HintSource<'_>,
+    number: u32,
     step: &Json,
 ) -> Result<Json, NoMemory> {
     let Json::Object(members) = step else {
         return Ok(step.clone()?);
     };
-    let site = site_in(source.checked, body, index, step);
     let mut hinted = Map::new(alloc);
     for (name, member) in members.iter() {
-        let member = match site {
-            Site::Body(body) if name.as_str() == "run" => flow(alloc, source, body, member)?,
-            Site::Task(number) if name.as_str() == "run" => tool(alloc, source, number, member)?,
-            _ => member.clone()?,
+        let member = if name.as_str() == "run" {
+            tool(alloc, source, number, member)?
+        } else {
+            member.clone()?
         };
         put(&mut hinted, alloc, name.as_str(), member)?;
     }
     Ok(Json::Object(hinted))
 }
 
-/// The steps of a body.
+/// A step whose process is the workflow of a body (CWL v1.2, WorkflowStep).
+#[cycle(hinted)]
+fn body_step<'a>(
+    alloc: Global,
+    source: &HintSource<'a>,
+    body: &'a [Statement],
+    step: &Json,
+) -> Result<Json, NoMemory> {
+    let Json::Object(members) = step else {
+        return Ok(step.clone()?);
+    };
+    let mut hinted = Map::new(alloc);
+    for (name, member) in members.iter() {
+        let member = if name.as_str() == "run" {
+            flow(alloc, source, body, member)?
+        } else {
+            member.clone()?
+        };
+        put(&mut hinted, alloc, name.as_str(), member)?;
+    }
+    Ok(Json::Object(hinted))
+}
+
+/// The steps of a body, each by what the statement of its id stands for.
 #[cycle(hinted)]
 fn steps<'a>(
     alloc: Global,
@@ -82,7 +101,12 @@ fn steps<'a>(
     let index = index_of(alloc, body)?;
     let mut hinted = Vec::new(alloc);
     for item in items {
-        hinted.push(step(alloc, source, body, &index, item)?)?;
+        let step = match site_in(source.checked, body, &index, item) {
+            Site::Unknown => item.clone()?,
+            Site::Task(number) => task_step(alloc, source, number, item)?,
+            Site::Body(inner) => body_step(alloc, source, inner, item)?,
+        };
+        hinted.push(step)?;
     }
     Ok(Json::Array(hinted))
 }
