@@ -1,14 +1,14 @@
 -- Without hints, a document with them is the document without them.
-use Rattle.std.proofs.Common.{◌≡◌, ℕ, List, Option, Some, None, Bool, true, false, cond, codes, bytes_eq, slice_get, Ordering, Less, Equal, Greater, is_eq, nat_cmp, refl, sym, ap, ◌∙◌, subst}
+use Rattle.std.proofs.Common.{◌≡◌, ℕ, List, Option, Some, None, Bool, true, false, cond, codes, bytes_eq, Ordering, Less, Equal, Greater, is_eq, nat_cmp, refl, sym, ap, ◌∙◌, subst}
 use Rattle.std.proofs.lemmas.Map.Text.{is_eq-slice_cmp}
 use Rattle.std.proofs.lemmas.Slice.Eq.{bytes_eq-Decides}
 use Rattle.std.specs.Cmp.Lexicographic.{slice_cmp}
 use Rattle.std.specs.Ordering.{match_ordering}
 use Rattle.serde_json.specs.Data.{Data, null, boolean, number, string, array, object, Items, no_items, item, Members, no_members, member, put}
 use Rattle.wdl_typed.specs.declared.flow.Statement.{Statement}
-use Rattle.tool_hints.specs.Hints.{Source, hints_name, with_member, step_site, with_hints, process_hinted, flow_hinted, steps_hinted, each_hinted, step_hinted, run_hinted, without_hints, process_bare, steps_bare, each_bare, step_bare, run_bare}
+use Rattle.tool_hints.specs.Hints.{Source, hints_name, with_member, step_site, hints_at, with_hints, flow_hinted, steps_hinted, each_hinted, step_hinted, run_hinted, without_hints, process_bare, steps_bare, each_bare, step_bare, run_bare}
 use Rattle.tool_hints.specs.Laws.{HintsAreLeft}
-use Rattle.tool_hints.specs.Sites.{Site, unknown, task, body}
+use Rattle.tool_hints.specs.Sites.{Site, statements_of}
 
 -- ---- members
 
@@ -47,12 +47,8 @@ mutual
   left s site (number n) = refl
   left s site (string t) = refl
   left s site (array ds) = refl
-  left s site (object ms) = ap object (process_left s site ms)
-
-  process_left : (s : Source) (site : Site) (ms : Members) → process_bare (process_hinted s site ms) ≡ process_bare ms
-  process_left s unknown ms = refl
-  process_left s (task k) ms = with_left (slice_get s.hints k) ms
-  process_left s (body ss) ms = flow_left s ss ms
+  left s site (object ms) =
+      ap object (with_left (hints_at s site) (flow_hinted s (statements_of site) ms) ∙ flow_left s (statements_of site) ms)
 
   flow_left : (s : Source) (ss : List Statement) (ms : Members) → process_bare (flow_hinted s ss ms) ≡ process_bare ms
   flow_left s ss no_members = refl

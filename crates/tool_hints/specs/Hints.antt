@@ -5,7 +5,7 @@ use Rattle.serde_json.specs.Data.{Data, null, boolean, number, string, array, ob
 use Rattle.serde_json.specs.Find.{get_member}
 use Rattle.wdl_typed.specs.declared.flow.FlowDef.{FlowDef}
 use Rattle.wdl_typed.specs.declared.flow.Statement.{Statement}
-use Rattle.tool_hints.specs.Sites.{Site, unknown, task, body, site_in}
+use Rattle.tool_hints.specs.Sites.{Site, unknown, task, body, statements_of, site_in}
 
 abbrev pub hints_name : List ℕ
 hints_name = codes "hints"
@@ -35,6 +35,12 @@ site_by s ss (Some (object ms)) = unknown
 abbrev pub step_site : Source → List Statement → Members → Site
 step_site s ss ms = site_by s ss (get_member (codes "id") ms)
 
+-- the member `hints` of the tool that stands for this
+abbrev pub hints_at : Source → Site → Option (Option Data)
+hints_at s unknown = None
+hints_at s (task k) = slice_get s.hints k
+hints_at s (body ss) = None
+
 -- The tool of a task has the hints of the task; in a workflow, so have the tools in its steps.
 abbrev mutual
   pub with_hints : Source → Site → Data → Data
@@ -43,12 +49,7 @@ abbrev mutual
   with_hints s site (number n) = number n
   with_hints s site (string t) = string t
   with_hints s site (array ds) = array ds
-  with_hints s site (object ms) = object (process_hinted s site ms)
-
-  pub process_hinted : Source → Site → Members → Members
-  process_hinted s unknown ms = ms
-  process_hinted s (task k) ms = with_member (slice_get s.hints k) ms
-  process_hinted s (body ss) ms = flow_hinted s ss ms
+  with_hints s site (object ms) = object (with_member (hints_at s site) (flow_hinted s (statements_of site) ms))
 
   pub flow_hinted : Source → List Statement → Members → Members
   flow_hinted s ss no_members = no_members

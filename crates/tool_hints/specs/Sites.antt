@@ -13,6 +13,12 @@ pub data Site : Type 0 where
   task : ℕ → Site
   body : List Statement → Site
 
+-- the statements of the steps of a process
+abbrev pub statements_of : Site → List Statement
+statements_of unknown = []
+statements_of (task k) = []
+statements_of (body ss) = ss
+
 -- the id of the step of a statement (a declaration has none)
 abbrev pub step_id : Statement-F Statement → List ℕ
 step_id (layer.Decl d) = []

@@ -16,60 +16,31 @@ pub(crate) struct HintSource<'a> {
     pub hints: &'a [Option<Json>],
 }
 
-/// An object with a member `hints`.
-fn with_member(alloc: Global, hints: &Json, process: &Json) -> Result<Json, NoMemory> {
-    let Json::Object(members) = process else {
-        return Ok(process.clone()?);
+/// The hints of the process of a site, if it gets any.
+fn hints_at<'a>(source: &HintSource<'a>, site: Site<'a>) -> Option<&'a Json> {
+    let Site::Task(number) = site else {
+        return None;
     };
-    let mut hinted = Map::new(alloc);
-    for (name, member) in members.iter() {
-        put(&mut hinted, alloc, name.as_str(), member.clone()?)?;
-    }
-    put(&mut hinted, alloc, "hints", hints.clone()?)?;
-    Ok(Json::Object(hinted))
-}
-
-/// The tool of a task, with the hints of that, if it has any.
-fn tool(
-    alloc: Global,
-    source: &HintSource<'_>,
-    number: u32,
-    process: &Json,
-) -> Result<Json, NoMemory> {
     match source.hints.get(number as usize) {
-        Some(Some(hints)) => with_member(alloc, hints, process),
-        _ => Ok(process.clone()?),
+        Some(Some(hints)) => Some(hints),
+        _ => None,
     }
 }
 
-/// A step whose process is the tool of a task (CWL v1.2, WorkflowStep).
-fn task_step(
-    alloc: Global,
-    source: &HintSource<'_>,
-    number: u32,
-    step: &Json,
-) -> Result<Json, NoMemory> {
-    let Json::Object(members) = step else {
-        return Ok(step.clone()?);
-    };
-    let mut hinted = Map::new(alloc);
-    for (name, member) in members.iter() {
-        let member = if name.as_str() == "run" {
-            tool(alloc, source, number, member)?
-        } else {
-            member.clone()?
-        };
-        put(&mut hinted, alloc, name.as_str(), member)?;
+/// The statements of the steps of the process of a site.
+fn statements_of<'a>(site: Site<'a>) -> &'a [Statement] {
+    match site {
+        Site::Body(body) => body,
+        Site::Unknown | Site::Task(_) => &[],
     }
-    Ok(Json::Object(hinted))
 }
 
-/// A step whose process is the workflow of a body (CWL v1.2, WorkflowStep).
+/// A step, with hints in its process (CWL v1.2, WorkflowStep).
 #[cycle(hinted)]
-fn body_step<'a>(
+fn step<'a>(
     alloc: Global,
     source: &HintSource<'a>,
-    body: &'a [Statement],
+    site: Site<'a>,
     step: &Json,
 ) -> Result<Json, NoMemory> {
     let Json::Object(members) = step else {
@@ -78,7 +49,7 @@ fn body_step<'a>(
     let mut hinted = Map::new(alloc);
     for (name, member) in members.iter() {
         let member = if name.as_str() == "run" {
-            flow(alloc, source, body, member)?
+            process(alloc, source, site, member)?
         } else {
             member.clone()?
         };
@@ -101,27 +72,24 @@ fn steps<'a>(
     let index = index_of(alloc, body)?;
     let mut hinted = Vec::new(alloc);
     for item in items {
-        let step = match site_in(source.checked, body, &index, item) {
-            Site::Unknown => item.clone()?,
-            Site::Task(number) => task_step(alloc, source, number, item)?,
-            Site::Body(inner) => body_step(alloc, source, inner, item)?,
-        };
-        hinted.push(step)?;
+        let site = site_in(source.checked, body, &index, item);
+        hinted.push(step(alloc, source, site, item)?)?;
     }
     Ok(Json::Array(hinted))
 }
 
-/// The workflow of a body (CWL v1.2, Workflow).
+/// The tool or the workflow of a site (CWL v1.2, CommandLineTool and Workflow).
 #[cycle(hinted)]
-fn flow<'a>(
+fn process<'a>(
     alloc: Global,
     source: &HintSource<'a>,
-    body: &'a [Statement],
+    site: Site<'a>,
     process: &Json,
 ) -> Result<Json, NoMemory> {
     let Json::Object(members) = process else {
         return Ok(process.clone()?);
     };
+    let body = statements_of(site);
     let mut hinted = Map::new(alloc);
     for (name, member) in members.iter() {
         let member = if name.as_str() == "steps" {
@@ -130,6 +98,9 @@ fn flow<'a>(
             member.clone()?
         };
         put(&mut hinted, alloc, name.as_str(), member)?;
+    }
+    if let Some(hints) = hints_at(source, site) {
+        put(&mut hinted, alloc, "hints", hints.clone()?)?;
     }
     Ok(Json::Object(hinted))
 }
@@ -143,5 +114,5 @@ pub(crate) fn hinted_document<'a>(
     body: &'a [Statement],
     document: &Json,
 ) -> Result<Json, NoMemory> {
-    flow(alloc, source, body, document)
+    process(alloc, source, Site::Body(body), document)
 }
