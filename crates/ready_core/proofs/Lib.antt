@@ -2,6 +2,7 @@ pub mod Counted
 pub mod Counting
 pub mod Coursing
 pub mod Faults
+pub mod Lasts
 pub mod Paired
 pub mod Planned
 pub mod Running

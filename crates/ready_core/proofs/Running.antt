@@ -1,7 +1,8 @@
 -- The fields of a core, from one call to the next.
 use Rattle.std.proofs.Common.{zero, suc, false, ◌⊎◌, cond, not, ◌&&◌, ◌||◌, None, IfSome, IfNone, ◌≡◌, ℕ, Bool, ◌+◌, ◌<◌, ◌≤◌, true, List, [], ◌∷◌, ◌++◌, Contains, Option, Some, IsSome, is_some, length, length-append, nat_lt, remove, slice_index_or, take, vec_capacity, vec_len, deque_len, arith, sym, ap, ◌∙◌, subst, refl, All}
-use Rattle.std.proofs.lemmas.Bool.{false≢true, ltb-false, ltb-true}
-use Rattle.std.proofs.lemmas.List.{take_all, take_more}
+use Rattle.std.specs.VecDeque.{deque_capacity}
+use Rattle.std.proofs.lemmas.Bool.{false≢true, ltb-false, ltb-true, or_parts}
+use Rattle.std.proofs.lemmas.List.{same_from_push, take_all, take_more}
 use Rattle.std.proofs.lemmas.List.Elements.{All-append, All-contains}
 use Rattle.wdl_base.specs.declared.entry.Entry.{Entry}
 use Rattle.wdl_base.specs.declared.fault.Fault.{Fault}
@@ -20,7 +21,7 @@ use Rattle.ready_core.specs.Cores as core
 use Rattle.ready_core.specs.Cores.{CoreState, Origin, all_taken, flow_at, has_fault, idle_at, is_taken, met_after, requests}
 use Rattle.ready_core.specs.Courses.{IsAwaited, IsOnCourse, kept, origin_of, plan_of}
 use Rattle.ready_core.specs.Inside.{HasRoomFor, IsRun, Stands, state}
-use Rattle.ready_core.specs.Logs.{HasRoom, IsEmpty, IsPlaceOf, IsWider, Settles, Stops, Takes, spare}
+use Rattle.ready_core.specs.Logs.{HasRoom, IsEmpty, IsLast, IsPlaceOf, IsWider, Settles, Stops, Takes, spare}
 use Rattle.ready_core.specs.Rows.{TakenJob}
 use Rattle.ready_core.specs.Turns as turns
 use Rattle.ready_core.specs.Turns.{AreShared, IsFirst, IsFollowed, IsNext, IsRoomier, IsSight, IsTurn, is_closed}
@@ -28,8 +29,8 @@ use Rattle.ready_core.proofs.Counted.{requested}
 use Rattle.ready_core.proofs.Counting.{passes_at}
 use Rattle.ready_core.proofs.Paired.{paired_request}
 use Rattle.ready_core.proofs.Runs.{differ, grow}
-use Rattle.ready_core.proofs.Shared.{all_were_taken, may_take, shared_settled, shared_taken}
-use Rattle.ready_core.proofs.Standing.{IsOut, out_fresh, out_held, out_job, settled_gone, settled_stands, started_stands, taken_stands, was_out, without}
+use Rattle.ready_core.proofs.Shared.{all_were_taken, may_take, shared_back, shared_settled, shared_taken}
+use Rattle.ready_core.proofs.Standing.{IsOut, out_fresh, out_held, out_job, settled_gone, settled_stands, started_stands, taken_stands, untaken_stands, was_out, without}
 use Rattle.ready_core.proofs.Stops.{spare_other}
 use Rattle.ready_core.proofs.Turning.{fault_later, fault_met, few_before, no_fault_before, open_parts}
 
@@ -37,6 +38,14 @@ use Rattle.ready_core.proofs.Turning.{fault_later, fault_met, few_before, no_fau
 
 room_taken : (m n : ℕ) (a b : Log) (j : TakenJob) → HasRoom m m a → n + 1 ≡ m → Takes a j b → HasRoom n n b
 room_taken m n a b j h e t =
+    record {
+      taken = omega (arith, h.taken, e, t.taken_len, t.taken_room);
+      out = omega (arith, h.out, e, t.out_len, t.out_room);
+      steps = omega (arith, h.steps, e, t.steps_len, t.steps_room, spare_other a.steps.items b.steps.items (step.Took j.request.place) refl t.steps);
+    }
+
+room_back : (m n : ℕ) (a b : Log) (j : TakenJob) → HasRoom m m b → n ≡ m + 1 → Takes a j b → HasRoom n n a
+room_back m n a b j h e t =
     record {
       taken = omega (arith, h.taken, e, t.taken_len, t.taken_room);
       out = omega (arith, h.out, e, t.out_len, t.out_room);
@@ -132,6 +141,7 @@ module _ (s then_ : Course) (log wide : Log) (t roomy : Turn) (same : origin_of 
           turn = moved.2;
           met = moved.3;
           room = subst (λ n. HasRoom n n wide) (sym r.length) (room_wider (deque_len t.ready) log wide run.room w);
+          back = omega (arith, run.back, r.length, r.capacity, w.out_len);
           course = moved.4;
         }
 
@@ -148,6 +158,7 @@ run_started s none log t main on first empty wider room =
     let journal : log.journal.items ≡ [] = wider.journal ∙ empty.journal in
     let taken : log.taken.items ≡ [] = wider.taken ∙ empty.taken in
     let out : log.out.items ≡ [] = wider.out ∙ empty.out in
+    let fits : deque_len t.ready ≤ deque_capacity t.ready = t.ready.small.1 in
     record {
       main = main;
       stands =
@@ -158,6 +169,7 @@ run_started s none log t main on first empty wider room =
           (subst (λ (x : List TakenJob). IsTurn o.checked (flow_at o []) [] x t) (sym out) (turn_of o [] [] t first.sight first.ready));
       met = subst (λ (x : List Entry). is_some t.fault ≡ met_after (flow_at o) [] x) (sym journal) first.sight.shows;
       room = room;
+      back = omega (arith, fits, wider.out_len, empty.out_len);
       course = subst (IsOnCourse s t.many) (sym journal) on;
     }
 
@@ -215,8 +227,8 @@ module _ (s : Course) (log next : Log) (t after : Turn) (j : TakenJob) (r : IsRu
       (subst (Stands o log.journal.items (log.taken.items ++ j ∷ [])) (sym takes.out)
       (taken_stands o log.journal.items log.taken.items log.out.items j r.stands (open_parts before not_closed).1 may)))
 
-  pub run_taken : after.fault ≡ t.fault → after.many ≡ t.many → after.outcome ≡ t.outcome → deque_len after.ready + 1 ≡ deque_len t.ready → IsRun s next after
-  run_taken fault many outcome len =
+  pub run_taken : after.fault ≡ t.fault → after.many ≡ t.many → after.outcome ≡ t.outcome → deque_len after.ready + 1 ≡ deque_len t.ready → deque_capacity after.ready ≡ deque_capacity t.ready → IsRun s next after
+  run_taken fault many outcome len wide =
       record {
         main = r.main;
         stands = stands_next;
@@ -233,6 +245,7 @@ module _ (s : Course) (log next : Log) (t after : Turn) (j : TakenJob) (r : IsRu
             }));
         met = ap is_some fault ∙ r.met ∙ ap (met_after (flow_at o) []) (sym kept_journal);
         room = room_taken (deque_len t.ready) (deque_len after.ready) log next j r.room len takes;
+        back = omega (arith, r.back, len, wide, takes.out_len);
         course = subst (λ b. IsOnCourse s b next.journal.items) (sym many) (subst (IsOnCourse s t.many) (sym kept_journal) r.course);
       }
 
@@ -252,6 +265,98 @@ module _ (s : Course) (log next : Log) (t after : Turn) (j : TakenJob) (r : IsRu
         origin = refl;
         after = same_state (plan_of s) refl kept_journal takes.taken takes.out takes.steps;
       }
+
+-- ---- giving a job back
+
+some_last : {A : Type 0} (xs front : List A) (x : A) (n : ℕ) → xs ≡ front ++ x ∷ [] → n ≡ length xs → 0 < n
+some_last xs front x n e long = omega (arith, ap length e, long, length-append front (x ∷ []))
+
+pub is_last : (s : Course) (log : Log) (c d : CoreState) (j : TakenJob) → state s log ≡ d → core.Takes c j d → IsLast log j
+is_last s log c d j is t =
+    let took = step.Took j.request.place in
+    let e : state s log ≡ record c { taken = c.taken ++ j ∷ []; out = c.out ++ j ∷ []; steps = c.steps ++ took ∷ [] } = is ∙ t.after in
+    let taken = ap (λ (x : CoreState). x.taken) e in
+    let out = ap (λ (x : CoreState). x.out) e in
+    let steps = ap (λ (x : CoreState). x.steps) e in
+    record {
+      taken = c.taken;
+      out = c.out;
+      steps = c.steps;
+      is_taken = taken;
+      is_out = out;
+      is_step = steps;
+      some_taken = some_last log.taken.items c.taken j (vec_len log.taken) taken log.taken.ok.0;
+      some_out = some_last log.out.items c.out j (vec_len log.out) out log.out.ok.0;
+      some_steps = some_last log.steps.items c.steps took (vec_len log.steps) steps log.steps.ok.0;
+    }
+
+open_if : (f : Flowing) (taken : List TakenJob) → core.idle f taken ≡ false → is_closed f ≡ false
+open_if f taken h =
+    let p = or_parts (has_fault f) (too_many f || all_taken f taken) h in
+    ap (λ b. b || too_many f) p.0 ∙ (or_parts (too_many f) (all_taken f taken) p.1).0
+
+-- The flow of a job that was taken last is open.
+pub still_open : (s : Course) (log : Log) (c d : CoreState) (j : TakenJob) → state s log ≡ d → core.Takes c j d → is_closed (flow_at (origin_of s) log.journal.items) ≡ false
+still_open s log c d j is t =
+    let e : state s log ≡ record c { taken = c.taken ++ j ∷ []; out = c.out ++ j ∷ []; steps = c.steps ++ step.Took j.request.place ∷ [] } = is ∙ t.after in
+    subst (λ (o : Origin). is_closed (flow_at o log.journal.items) ≡ false) (sym (ap (λ (x : CoreState). x.origin) e))
+    (subst (λ (es : List Entry). is_closed (flow_at c.origin es) ≡ false) (sym (ap (λ (x : CoreState). x.journal) e)) (open_if (core.flow_of c) c.taken t.busy))
+
+module _ (s : Course) (log prior : Log) (t after : Turn) (j : TakenJob) (r : IsRun s log t) (takes : Takes prior j log) (ready : after.ready.items ≡ j ∷ t.ready.items) where
+  abbrev own : Origin
+  own = origin_of s
+
+  abbrev over : Flowing
+  over = flow_at own log.journal.items
+
+  prior_journal : log.journal.items ≡ prior.journal.items
+  prior_journal = ap (λ (v : _). v.items) takes.journal
+
+  stands_prior : Stands own prior.journal.items prior.taken.items prior.out.items
+  stands_prior =
+      subst (λ (x : List Entry). Stands own x prior.taken.items prior.out.items) prior_journal
+      (untaken_stands own log.journal.items prior.taken.items prior.out.items j
+      (subst (λ (x : List TakenJob). Stands own log.journal.items x (prior.out.items ++ j ∷ [])) takes.taken
+      (subst (Stands own log.journal.items log.taken.items) takes.out r.stands)))
+
+  shared_prior : is_closed over ≡ false → AreShared over log.journal.items prior.out.items after.ready.items
+  shared_prior opened =
+      subst (AreShared over log.journal.items prior.out.items) (sym ready)
+      (shared_back over log.journal.items prior.out.items t.ready.items j
+      (subst (λ (x : List TakenJob). AreShared over log.journal.items x t.ready.items) takes.out (r.turn.shared opened)))
+
+  pub run_back : is_closed over ≡ false → after.fault ≡ t.fault → after.many ≡ t.many → after.outcome ≡ t.outcome → deque_len after.ready ≡ deque_len t.ready + 1
+      → deque_capacity after.ready ≡ deque_capacity t.ready → IsRun s prior after
+  run_back opened fault many outcome len wide =
+      record {
+        main = r.main;
+        stands = stands_prior;
+        turn =
+            subst (λ (x : List Entry). IsTurn own.checked (flow_at own x) x prior.out.items after) prior_journal
+            (record {
+              even = r.turn.even;
+              closed = λ h. absurd (false≢true (sym opened ∙ h));
+              shared = shared_prior;
+              fault = subst (turns.IsFaultOf over) (sym fault) r.turn.fault;
+              many = many ∙ r.turn.many;
+              outcome = outcome ∙ r.turn.outcome;
+            });
+        met = ap is_some fault ∙ r.met ∙ ap (met_after (flow_at own) []) prior_journal;
+        room = room_back (deque_len t.ready) (deque_len after.ready) prior log j r.room len takes;
+        back = omega (arith, r.back, len, wide, takes.out_len);
+        course = subst (λ b. IsOnCourse s b prior.journal.items) (sym many) (subst (IsOnCourse s t.many) prior_journal r.course);
+      }
+
+-- What a job is given back to is what it was taken from.
+pub state_back : (s : Course) (log prior : Log) (j : TakenJob) (c d : CoreState) → Takes prior j log → state s log ≡ d → core.Takes c j d → state s prior ≡ c
+state_back s log prior j c d takes is t =
+    let took = step.Took j.request.place in
+    let e : state s log ≡ record c { taken = c.taken ++ j ∷ []; out = c.out ++ j ∷ []; steps = c.steps ++ took ∷ [] } = is ∙ t.after in
+    same_state (plan_of s) (ap (λ (x : CoreState). x.origin) e) (sym (ap (λ (v : _). v.items) takes.journal) ∙ ap (λ (x : CoreState). x.journal) e)
+    (same_from_push prior.taken.items c.taken j j (sym takes.taken ∙ ap (λ (x : CoreState). x.taken) e)).0
+    (same_from_push prior.out.items c.out j j (sym takes.out ∙ ap (λ (x : CoreState). x.out) e)).0
+    (same_from_push prior.steps.items c.steps took took (sym takes.steps ∙ ap (λ (x : CoreState). x.steps) e)).0
+    ∙ ap (λ (p : Option Plan). stated p c.origin c.journal c.taken c.out c.steps) (ap (λ (x : CoreState). x.plan) e)
 
 -- ---- what is out
 
@@ -283,8 +388,10 @@ none_through jobs at r x is differs none = by_place (nat_lt at (length jobs)) re
     one (suc k) d h = absurd (omega (arith, h))
 
     by_place : (b : Bool) → nat_lt at (length jobs) ≡ b → All P (take (at + 1) jobs)
-    by_place true e = subst (All P) (sym (take_more jobs at x (ltb-true at (length jobs) e))) (All-append P (take at jobs) (slice_index_or jobs at x ∷ []) none one)
-    by_place false e = subst (All P) (take_all at jobs (ltb-false at (length jobs) e) ∙ sym (take_all (at + 1) jobs (omega (arith, ltb-false at (length jobs) e)))) none
+    by_place true e = subst (All P) (sym (take_more jobs at x (ltb-true at (length jobs) e)))
+        (All-append P (take at jobs) (slice_index_or jobs at x ∷ []) none one)
+    by_place false e = subst (All P) (take_all at jobs (ltb-false at (length jobs) e) ∙ sym
+        (take_all (at + 1) jobs (omega (arith, ltb-false at (length jobs) e)))) none
 
 pub moved_place : (jobs out : List TakenJob) (q r : Request) (at : Option ℕ) → jobs ≡ out → q ≡ r → IsPlaceOf jobs q at → IsPlaceOf out r at
 moved_place jobs out q r at e f h = subst (λ (x : Request). IsPlaceOf out x at) f (subst (λ (x : List TakenJob). IsPlaceOf x q at) e h)
@@ -331,7 +438,7 @@ fault_none f None h = h
 pub run_stopped : (s : Course) (log next : Log) (t : Turn) → IsRun s log t → Stops log next → IsRun s next t
 run_stopped s log next t r h =
     subst (λ (l : Log). HasRoom (deque_len t.ready) (deque_len t.ready) l → IsRun s l t) (sym h.same)
-    (λ room. record { main = r.main; stands = r.stands; turn = r.turn; met = r.met; room = room; course = r.course })
+    (λ room. record { main = r.main; stands = r.stands; turn = r.turn; met = r.met; room = room; back = r.back; course = r.course })
     (room_stopped (deque_len t.ready) log next r.room h)
 
 pub state_stopped : (s : Course) (log next : Log) → Stops log next → state s next ≡ core.stopped (state s log)
@@ -445,6 +552,7 @@ module _ (s : Course) (log next : Log) (t fresh after : Turn) (at : ℕ) (e : En
           turn = moved_then.2;
           met = moved_then.3;
           room = room_settled (deque_len t.ready + deque_len fresh.ready) (deque_len after.ready) at e log next room.jobs followed.length settles;
+          back = omega (arith, room.ready, followed.length, followed.capacity, settles.out_len);
           course =
               subst (IsOnCourse (kept s) after.many) (sym settles.journal)
               (subst (λ b. IsOnCourse (kept s) b (log.journal.items ++ e ∷ [])) (sym followed.many) on);
@@ -460,7 +568,8 @@ module _ (s : Course) (log next : Log) (t fresh after : Turn) (at : ℕ) (e : En
         fed = ap (λ (o : Origin). core.fed_at o next.journal.items) (kept_origin s) ∙ ap (core.fed_at p) settles.journal ∙ stands_then.fed;
         out = omega (arith, x.counted, stands_then.counted, ap length settles.out, length-append log.journal.items (e ∷ []));
         left = without log.out.items next.out.items at e.request is_out settles.out;
-        gone = λ c. settled_gone p log.journal.items log.taken.items (remove log.out.items at) e stands_then (subst (λ (x : List TakenJob). Contains (requests x) e.request) settles.out c);
+        gone = λ c. settled_gone p log.journal.items log.taken.items (remove log.out.items at) e stands_then
+            (subst (λ (x : List TakenJob). Contains (requests x) e.request) settles.out c);
         origin = kept_origin s;
         after =
             same_state (plan_of (kept s)) (kept_origin s) settles.journal taken_next refl

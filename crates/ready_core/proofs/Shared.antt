@@ -100,6 +100,11 @@ module _ (f : Flowing) (journal : List Entry) (out taken ready : List TakenJob) 
   unfolding AreShared
   shared_taken is = omega (arith, shared is, count_cons is j ready, count_push is out j)
 
+-- The job that was taken last may be taken again.
+pub shared_back : (f : Flowing) (journal : List Entry) (out ready : List TakenJob) (j : TakenJob) → AreShared f journal (out ++ j ∷ []) ready → AreShared f journal out (j ∷ ready)
+unfolding AreShared
+shared_back f journal out ready j shared is = omega (arith, shared is, count_cons is j ready, count_push is out j)
+
 -- Where no job may be taken, all were taken.
 module _ (f : Flowing) (journal : List Entry) (out taken : List TakenJob) (even : length f.codes ≡ length f.jobs) (shared : AreShared f journal out []) (balances : Balances out journal taken) where
   was_taken : (r : Request) → Contains f.jobs r → is_taken taken r ≡ true

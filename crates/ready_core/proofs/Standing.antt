@@ -2,7 +2,7 @@
 use Rattle.std.proofs.Common.{◌≡◌, ℕ, ◌<◌, ◌≤◌, Bool, true, false, cond, ◌⊎◌, inl, inr, List, [], ◌∷◌, ◌++◌, Contains, IsSome, count_by, length, length-append, nat_lt, remove, slice_index_or, arith, sym, ap, ◌∙◌, subst, refl}
 use Rattle.std.proofs.lemmas.Bool.{false≢true, false_from_ne_true, ltb-false, or_parts, or_cases}
 use Rattle.std.proofs.lemmas.List.Edits.{length-remove}
-use Rattle.std.proofs.lemmas.List.Elements.{Contains-append_cases, Contains-append_right}
+use Rattle.std.proofs.lemmas.List.Elements.{Contains-append_cases, Contains-append_left, Contains-append_right}
 use Rattle.wdl_base.specs.declared.entry.Entry.{Entry}
 use Rattle.wdl_base.specs.declared.request.Request.{Request}
 use Rattle.wdl_base.specs.Same.{same_place, same_request}
@@ -97,6 +97,33 @@ taken_stands o j taken out t s few may =
       few = all_few (flow_at o j) (taken ++ t ∷ []) few once jobs;
     }
 
+-- ---- a job less
+
+jobs_less : (f : Flowing) (taken : List TakenJob) (t : TakenJob) → AreJobs f (taken ++ t ∷ []) → AreJobs f taken
+unfolding AreJobs
+jobs_less f taken t h j c = h j (Contains-append_left taken (t ∷ []) j c)
+
+once_less : (taken : List TakenJob) (t : TakenJob) → AreTakenOnce (taken ++ t ∷ []) → AreTakenOnce taken
+unfolding AreTakenOnce
+once_less taken t h r = omega (arith, h r, count_push (is_taking r) taken t)
+
+balance_less : (out : List TakenJob) (es : List Entry) (taken : List TakenJob) (t : TakenJob) → Balances (out ++ t ∷ []) es (taken ++ t ∷ []) → Balances out es taken
+unfolding Balances
+balance_less out es taken t h is =
+    let p : TakenJob → Bool = λ j. is j.request in
+    omega (arith, h is, count_push p out t, count_push p taken t)
+
+pub untaken_stands : (o : Origin) (j : List Entry) (taken out : List TakenJob) (t : TakenJob) → Stands o j (taken ++ t ∷ []) (out ++ t ∷ []) → Stands o j taken out
+untaken_stands o j taken out t s =
+    record {
+      fed = s.fed;
+      jobs = jobs_less (flow_at o j) taken t s.jobs;
+      once = once_less taken t s.once;
+      balances = balance_less out j taken t s.balances;
+      counted = omega (arith, s.counted, length-append out (t ∷ []), length-append taken (t ∷ []));
+      few = omega (arith, s.few, length-append taken (t ∷ []));
+    }
+
 -- ---- an answer
 
 -- One of the jobs that are out has that request.
@@ -176,7 +203,8 @@ unfolding AreWithout
 without out rest at r w e = (at, w.job, w.within, w.is, w.same, e)
 
 -- what has an entry is out no longer
-pub settled_gone : (o : Origin) (es : List Entry) (taken out : List TakenJob) (e : Entry) → Stands o (es ++ e ∷ []) taken out → Contains (requests out) e.request → ⊥
+pub settled_gone : (o : Origin) (es : List Entry) (taken out : List TakenJob) (e : Entry) → Stands o (es ++ e ∷ []) taken out
+    → Contains (requests out) e.request → ⊥
 settled_gone o es taken out e s c =
     let r = e.request in
     let q = requested out r c in
@@ -184,7 +212,8 @@ settled_gone o es taken out e s c =
     omega (
       arith,
       none_counted (es ++ e ∷ []) r (out_fresh out (es ++ e ∷ []) taken q.1.0 r s.once s.balances w),
-      counts (λ (x : Entry). is_job_at r.place r.attempt x.request) (es ++ e ∷ []) e (Contains-append_right es (e ∷ []) e (contains_first e [])) (job_at r r.place r.attempt refl refl),
+      counts (λ (x : Entry). is_job_at r.place r.attempt x.request) (es ++ e ∷ []) e (Contains-append_right es (e ∷ []) e (contains_first e []))
+          (job_at r r.place r.attempt refl refl),
     )
 
 balance_settled : (out : List TakenJob) (es : List Entry) (taken : List TakenJob) (at : ℕ) (e : Entry) → Balances out es taken → IsOut out at e.request → Balances (remove out at) (es ++ e ∷ []) taken

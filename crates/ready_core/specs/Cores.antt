@@ -156,6 +156,10 @@ pub record Takes (s : CoreState) (j : TakenJob) (t : CoreState) : Type 0 where
   pub origin : t.origin ≡ s.origin
   pub after : t ≡ record s { taken = s.taken ++ j ∷ []; out = s.out ++ j ∷ []; steps = s.steps ++ Took j.request.place ∷ [] }
 
+-- the job was taken last, and since then no step was done
+abbrev pub WasTaken : TakenJob → CoreState → Type 0
+WasTaken j t = (s : CoreState) × Takes s j t
+
 -- the jobs without one of that request
 unfoldable pub AreWithout : List TakenJob → Request → List TakenJob → Type 0
 AreWithout out r rest = (at : ℕ) × (j : TakenJob) × (at < length out) × (slice_index_or out at j ≡ j) × (j.request ≡ r) × (rest ≡ remove out at)

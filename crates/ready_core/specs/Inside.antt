@@ -50,13 +50,14 @@ pub record IsRun (s : Course) (l : Log) (t : Turn) : Type 0 where
   pub turn : IsTurn (origin_of s).checked (flow_at (origin_of s) l.journal.items) l.journal.items l.out.items t
   pub met : is_some t.fault ≡ met_after (flow_at (origin_of s)) [] l.journal.items
   pub room : HasRoom (deque_len t.ready) (deque_len t.ready) l
+  pub back : deque_len t.ready + vec_len l.out ≤ deque_capacity t.ready
   pub course : IsOnCourse s t.many l.journal.items
 
 abbrev pub IsCore : Inside → Type 0
 IsCore c = IsRun c.course c.log c.turn
 
--- room for the jobs of a next turn, and for an answer
+-- room for the jobs of a next turn, for those that may be given back, and for an answer
 pub record HasRoomFor (t : Turn) (l : Log) (next : Turn) : Type 0 where
-  pub ready : deque_len t.ready + deque_len next.ready ≤ deque_capacity t.ready
+  pub ready : deque_len t.ready + deque_len next.ready + vec_len l.out ≤ deque_capacity t.ready
   pub jobs : HasRoom (deque_len t.ready + deque_len next.ready) (deque_len t.ready + deque_len next.ready + 1) l
   pub entry : vec_len l.journal < vec_capacity l.journal

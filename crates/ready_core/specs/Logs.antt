@@ -59,6 +59,18 @@ pub record Takes (a : Log) (j : TakenJob) (b : Log) : Type 0 where
   pub out_room : vec_capacity b.out ≡ vec_capacity a.out
   pub steps_room : vec_capacity b.steps ≡ vec_capacity a.steps
 
+-- the job was taken last
+pub record IsLast (l : Log) (j : TakenJob) : Type 0 where
+  pub taken : List TakenJob
+  pub out : List TakenJob
+  pub steps : List Step
+  pub is_taken : l.taken.items ≡ taken ++ j ∷ []
+  pub is_out : l.out.items ≡ out ++ j ∷ []
+  pub is_step : l.steps.items ≡ steps ++ step.Took j.request.place ∷ []
+  pub some_taken : 0 < vec_len l.taken
+  pub some_out : 0 < vec_len l.out
+  pub some_steps : 0 < vec_len l.steps
+
 -- a stop noted, for which there was room
 pub record Stops (a b : Log) : Type 0 where
   pub same : b ≡ record a { steps = b.steps }

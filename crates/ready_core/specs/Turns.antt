@@ -1,6 +1,6 @@
 -- What a flow comes to for a core.
 use Rattle.std.specs.Prelude.{◌≡◌, ◌⊎◌, ℕ, ◌+◌, ◌≤◌, Bool, true, false, not, ◌&&◌, ◌||◌, List, [], ◌∷◌, ◌++◌, Contains, Option, Some, None, cond, count_by, drop, if◌then◌else◌, is_some, length, map, slice_get}
-use Rattle.std.specs.VecDeque.{deque_len}
+use Rattle.std.specs.VecDeque.{deque_capacity, deque_len}
 use Rattle.wdl_base.specs.declared.entry.Entry.{Entry}
 use Rattle.wdl_base.specs.declared.fault.Fault.{Fault}
 use Rattle.wdl_value.specs.Tables.{has_row, table}
@@ -111,6 +111,7 @@ gathered t ready = if is_some t.fault || t.many then [] else ready ++ t.ready.it
 pub record IsRoomier (a b : Turn) : Type 0 where
   pub ready : b.ready.items ≡ a.ready.items
   pub length : deque_len b.ready ≡ deque_len a.ready
+  pub capacity : deque_capacity a.ready ≤ deque_capacity b.ready
   pub fault : b.fault ≡ a.fault
   pub many : b.many ≡ a.many
   pub outcome : b.outcome ≡ a.outcome
@@ -119,6 +120,7 @@ pub record IsRoomier (a b : Turn) : Type 0 where
 pub record IsFollowed (a next b : Turn) : Type 0 where
   pub ready : b.ready.items ≡ gathered next a.ready.items
   pub length : deque_len b.ready ≤ deque_len a.ready + deque_len next.ready
+  pub capacity : deque_capacity a.ready ≤ deque_capacity b.ready
   pub fault : b.fault ≡ earlier a.fault next.fault
   pub many : b.many ≡ next.many
   pub outcome : b.outcome ≡ next.outcome
@@ -126,6 +128,7 @@ pub record IsFollowed (a next b : Turn) : Type 0 where
 -- with these jobs behind the others
 pub record IsAppended (a : Turn) (more : List TakenJob) (b : Turn) : Type 0 where
   pub ready : b.ready.items ≡ a.ready.items ++ more
+  pub capacity : deque_capacity a.ready ≤ deque_capacity b.ready
   pub fault : b.fault ≡ a.fault
   pub many : b.many ≡ a.many
   pub outcome : b.outcome ≡ a.outcome

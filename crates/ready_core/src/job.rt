@@ -47,13 +47,6 @@ pub struct Unlaunched {
     pub fault: LaunchFault,
 }
 
-/// A job, and a row that is no answer of it.
-#[derive(Debug, Drop)]
-pub struct NotKept {
-    pub job: Job,
-    pub row: Entry,
-}
-
 impl Job {
     pub(crate) fn new(request: Request, terms: Terms) -> Job
         ensures job { result ≡ record { request = request; codes = successes_of terms } }
@@ -114,23 +107,23 @@ impl Job {
         }
     }
 
-    /// Takes the answer of a row of an earlier run. The row is refused where its request is another
-    /// one or its status is no success. It takes no memory.
-    pub fn kept(self, row: Entry) -> Result<Answered, NotKept>
+    /// The answer of a row of an earlier run, as one of the job. The row is handed back where its
+    /// request is another one or its status is no success. It takes no memory.
+    pub fn kept(&self, row: Entry) -> Result<Answered, Entry>
         ensures answered { MatchResult result
-            (λ a. (a ≡ kept_as self.request row.answer) × (is_usable self row ≡ true))
-            (λ n. (n.job ≡ self) × (n.row ≡ row) × (is_usable self row ≡ false)) }
+            (λ a. (a ≡ kept_as self.now.request row.answer) × (is_usable self.now row ≡ true))
+            (λ r. (r ≡ row) × (is_usable self.now row ≡ false)) }
     {
-        if is_usable_for(&row, &self) {
+        if is_usable_for(&row, self) {
             Ok(Answered {
                 entry: Entry {
-                    request: self.request,
+                    request: row.request,
                     answer: row.answer,
                     source: Source::Kept,
                 },
             })
         } else {
-            Err(NotKept { job: self, row })
+            Err(row)
         }
     }
 }

@@ -1,11 +1,11 @@
-ghost use Rattle.std.specs.Prelude.{◌≡◌, ◌<◌, ◌≤◌, ◌+◌, OnOk, vec_capacity, vec_len};
+ghost use Rattle.std.specs.Prelude.{◌≡◌, ◌<◌, ◌≤◌, ◌+◌, ◌∷◌, ◌++◌, [], OnOk, vec_capacity, vec_len};
 ghost use Rattle.std.specs.VecDeque.{deque_len};
 ghost use Rattle.ready_core.specs.Cores as spec;
 ghost use Rattle.ready_core.specs.Logs as logs;
 
 use crate::history::History;
 use crate::job::{Answered, Job};
-use crate::pending::Pending;
+use crate::pending::{Pending, Taking};
 use std::alloc::Global;
 use std::collections::VecDeque;
 use wdl_value::{Entry, Items, NoMemory, Request, Step, same_request};
@@ -31,6 +31,19 @@ pub fn place_of(jobs: &[Job], request: &Request) -> Option<usize>
         }
     }
     None
+}
+
+/// Takes the last element off a list that is not empty.
+fn take_last<T: Drop>(list: &mut Vec<T>) -> T
+    requires some { 0 < vec_len list.old }
+    ensures items { list.old.items ≡ list.new.items ++ result ∷ [] }
+    ensures len { vec_len list.old ≡ vec_len list.new + 1 }
+    ensures capacity { vec_capacity list.old ≡ vec_capacity list.new }
+{
+    let Some(last) = list.pop() else {
+        unreachable!();
+    };
+    last
 }
 
 /// Whether the run stopped.
@@ -88,6 +101,24 @@ impl Log {
         self.out.push_reserved(taking.out);
         self.steps.push_reserved(taking.step);
         taking.job
+    }
+
+    /// Takes back the job that was taken last, with all that taking it needs. It takes no memory.
+    pub fn give_back(&mut self, job: Job) -> Pending
+        requires last { logs.IsLast self.old job }
+        ensures job { result ≡ job }
+        ensures back { logs.Takes self.new job self.old }
+    {
+        let taken = take_last(&mut self.taken);
+        let out = take_last(&mut self.out);
+        let step = take_last(&mut self.steps);
+        let taking = Taking {
+            job,
+            out,
+            taken,
+            step,
+        };
+        taking.into_pending()
     }
 
     /// Settles the answer of the job of that number among those that are out. There is room for the

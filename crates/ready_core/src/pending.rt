@@ -76,3 +76,26 @@ impl Pending {
         }
     }
 }
+
+impl Taking {
+    /// The job as it was before it was taken. It takes no memory.
+    pub fn into_pending(self) -> Pending
+        requires out { self.out ≡ self.job }
+        requires taken { self.taken ≡ self.job }
+        requires step { self.step ≡ Took self.job.request.place }
+        ensures job { result ≡ self.job }
+    {
+        let Taking {
+            job,
+            out,
+            taken,
+            step,
+        } = self;
+        Pending {
+            job,
+            out,
+            taken,
+            step,
+        }
+    }
+}

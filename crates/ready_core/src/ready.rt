@@ -27,7 +27,7 @@ ghost use Rattle.wdl_typed.specs.declared.flow.FlowDef.{FlowDef};
 ghost use Rattle.wdl_typed.specs.Flow as flow;
 ghost use Rattle.wdl_typed.specs.Journal.{inputs_fit};
 ghost use Rattle.ready_core.specs.Cores as spec;
-ghost use Rattle.ready_core.specs.Cores.{Settles, Takes};
+ghost use Rattle.ready_core.specs.Cores.{CoreState, Settles, Takes, WasTaken};
 ghost use Rattle.ready_core.specs.Courses.{IsOnCourse, IsPaid, kept, origin_of};
 ghost use Rattle.ready_core.specs.Flows.{outcome_of};
 ghost use Rattle.ready_core.specs.HandsBack.{HandsBack, IsUnsettled};
@@ -97,7 +97,7 @@ fn next_turn<S: Ledger>(
     ensures paid { IfOk result (λ t. IsPaid steps.old steps.new course.old turn.old.many log.old.journal.items (kept course.new) t.many (log.old.journal.items ++ entry.now ∷ [])) }
 {
     let next = course.tell(alloc, turn.many, log.journal.as_slice(), entry, steps)?;
-    turn.make_room(&next)?;
+    turn.make_room(&next, &log.out)?;
     log.make_room(&turn.ready, &next.ready)?;
     Ok(next)
 }
@@ -135,6 +135,16 @@ impl Core {
             return None;
         };
         Some(self.log.take(pending))
+    }
+
+    /// Gives back the job that was taken last: the core is again what it was before, and the job is
+    /// the first of those that may be taken. It takes no memory.
+    pub fn give_back(&mut self, job: Job)
+        requires taken { WasTaken job self.old }
+        ensures back { (c : CoreState) → Takes c job self.old → self.new ≡ c }
+    {
+        let pending = self.log.give_back(job);
+        self.turn.ready.push_front_reserved(pending);
     }
 
     /// Settles the answer of a job that is out, whatever its status: the journal gains its entry,

@@ -1,7 +1,8 @@
-ghost use Rattle.std.specs.Prelude.{◌≡◌, ◌+◌, ◌≤◌, OnOk};
+ghost use Rattle.std.specs.Prelude.{◌≡◌, ◌+◌, ◌≤◌, OnOk, vec_len};
 ghost use Rattle.std.specs.VecDeque.{deque_capacity, deque_len};
 ghost use Rattle.ready_core.specs.Turns as turns;
 
+use crate::job::Job;
 use crate::pending::Pending;
 use std::alloc::Global;
 use std::collections::VecDeque;
@@ -31,12 +32,14 @@ impl Turn {
         }
     }
 
-    /// Makes room for the jobs of the next turn.
-    pub fn make_room(&mut self, next: &Turn) -> Result<(), NoMemory>
+    /// Makes room for the jobs of the next turn, and for those that are out, each of which may be
+    /// given back.
+    pub fn make_room(&mut self, next: &Turn, out: &Vec<Job>) -> Result<(), NoMemory>
         ensures same { turns.IsRoomier self.old self.new }
-        ensures room { OnOk result (deque_len self.new.ready + deque_len next.now.ready ≤ deque_capacity self.new.ready) }
+        ensures room { OnOk result (deque_len self.new.ready + deque_len next.now.ready + vec_len out.now ≤ deque_capacity self.new.ready) }
     {
-        self.ready.try_reserve(next.ready.len())?;
+        let jobs = next.ready.len() + out.len();
+        self.ready.try_reserve(jobs)?;
         Ok(())
     }
 

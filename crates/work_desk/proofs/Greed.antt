@@ -81,7 +81,11 @@ settled_from o n entries rest taken coming [] x g was w = (
   x,
   [],
   ap (λ (l : List Entry). l ++ x ∷ []) g.0,
-  (refl, subst (λ (es : List Entry). WasOut es taken x.request) (ended entries rest g.0) (subst (λ (ts : List TakenJob). WasOut (entries ++ rest) ts x.request) (ended taken coming g.1) was)),
+  (
+    refl,
+    subst (λ (es : List Entry). WasOut es taken x.request) (ended entries rest g.0)
+        (subst (λ (ts : List TakenJob). WasOut (entries ++ rest) ts x.request) (ended taken coming g.1) was),
+  ),
   λ l. subst (λ (es : List Entry). Busy o n es taken) (ended entries rest g.0)
       (subst (λ (ts : List TakenJob). Busy o n (entries ++ rest) ts) (ended taken coming g.1) (w l refl)),
   (refl, g.1),
@@ -151,7 +155,8 @@ stop_from : (o : Origin) (n : ℕ) (entries rest : List Entry) (taken coming : L
 stop_from o n entries rest taken coming [] goes g = sym g.0
 stop_from o n entries rest taken coming (Took p ∷ ss) goes (j, more, is, well, g) = stop_from o n entries rest (taken ++ j ∷ []) more ss goes g
 stop_from o n entries rest taken coming (Settled p ∷ ss) goes (e, later, is, well, busy, g) =
-    ap (before_stop (Settled p ∷ ss ++ Stopped ∷ [])) is ∙ ap (λ (l : List Entry). e ∷ l) (stop_from o n (entries ++ e ∷ []) later taken coming ss goes g) ∙ sym is
+    ap (before_stop (Settled p ∷ ss ++ Stopped ∷ [])) is ∙ ap (λ (l : List Entry). e ∷ l)
+    (stop_from o n (entries ++ e ∷ []) later taken coming ss goes g) ∙ sym is
 stop_from o n entries rest taken coming (Stopped ∷ ss) goes g = absurd (false≢true (sym goes))
 
 pub all_before_stop : (o : Origin) (n : ℕ) (journal : List Entry) (taken : List TakenJob) (ss : List Step)

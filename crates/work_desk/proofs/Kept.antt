@@ -1,5 +1,5 @@
 -- A keeper through a run.
-use Rattle.std.proofs.Common.{◌≡◌, ℕ, ◌+◌, ◌-◌, ◌^◌, ◌≤◌, List, [], ◌∷◌, ◌++◌, Bool, true, false, ◌&&◌, ◌==◌, Contains, Option, Some, None, is_some, true≢false, ap, sym, refl, subst, inl, inr, arith, ◌∙◌, ◌⊎◌, min}
+use Rattle.std.proofs.Common.{◌≡◌, ℕ, ◌+◌, ◌-◌, ◌^◌, ◌≤◌, List, [], ◌∷◌, ◌++◌, Bool, true, false, ◌&&◌, ◌==◌, Contains, length, Option, Some, None, is_some, true≢false, ap, sym, refl, subst, inl, inr, arith, ◌∙◌, ◌⊎◌, min}
 use Rattle.std.specs.Prelude.{Result, Err, is_none}
 use Rattle.std.specs.Ordering.{is_lt, nat_cmp, ordering_then}
 use Rattle.std.specs.Cmp.Lexicographic.{slice_cmp}
@@ -30,7 +30,7 @@ use Rattle.wdl_port.specs.Rows.{are_kept, is_kept, kept_row, placed, put_row, re
 use Rattle.flow_laws.proofs.Elements.{contains_first, contains_later, first_or_later, none_within, only_one}
 use Rattle.flow_laws.proofs.SameRequests.{place_itself, request_same}
 use Rattle.scatter_plan.specs.declared.plan.Plan.{Plan}
-use Rattle.ready_core.specs.Cores.{AreHeld, CoreState, Origin, Settles, Takes, is_taken, requests, started}
+use Rattle.ready_core.specs.Cores.{AreHeld, CoreState, Origin, Settles, Takes, is_taken, requests, started, stopped}
 use Rattle.ready_core.specs.declared.history.SettleFault.{SettleFault}
 use Rattle.ready_core.specs.declared.history.SettleFault.TheVariants as settling
 use Rattle.ready_core.specs.HandsBack.{HandsBack, IsUnsettled}
@@ -54,10 +54,6 @@ halted_keeps None = record { keep = λ e. cc; stays = λ e. refl }
 halted_keeps (Some s) = record { keep = λ e. e; stays = λ e. e }
 
 -- ---- the core that notes a stop
-
-pub noted_itself : (s : Option Stop) (c : CoreState) → c ≡ noted s s c
-noted_itself None c = refl
-noted_itself (Some s) c = refl
 
 pub noted_origin : (s t : Option Stop) (c : CoreState) → (noted s t c).origin ≡ c.origin
 noted_origin None None c = refl
@@ -86,7 +82,8 @@ went_noted g c s None (Some b) k l w =
     }
 went_noted g c s (Some a) b k l w = w
 
-pub hold_noted : (g : Request → Answer → Type 0) (rows : List Entry) (k : KeeperView) (c : CoreState) (s a b : Option Stop) (l : KeeperView) → Holding g rows k c s l → Holding g rows k (noted a b c) s l
+pub hold_noted : (g : Request → Answer → Type 0) (rows : List Entry) (k : KeeperView) (c : CoreState) (s a b : Option Stop) (l : KeeperView)
+    → Holding g rows k c s l → Holding g rows k (noted a b c) s l
 hold_noted g rows k c s None None l h = h
 hold_noted g rows k c s None (Some b) l h = record { ready = h.ready; placed = h.placed; settled = h.settled; went = went_noted g c s None (Some b) k l h.went }
 hold_noted g rows k c s (Some a) b l h = h
@@ -155,11 +152,22 @@ launched_kept e = cc
 pub taken_itself : (c d : CoreState) (j : TakenJob) → Takes c j d → Contains d.taken j
 taken_itself c d j t = subst (λ (x : CoreState). Contains x.taken j) (sym t.after) (Contains-append_right c.taken (j ∷ []) j (contains_first j []))
 
+-- of the plan a take asks nothing
+pub taken_bare : (c d e : CoreState) (j : TakenJob) (plan : Option Plan) → Takes c j d → e ≡ record d { plan = plan } → Takes (record c { plan = plan }) j e
+taken_bare c d e j plan t same = record {
+  busy = t.busy;
+  may = t.may;
+  few = subst (λ (x : CoreState). length x.taken ≤ 20000) (sym same) t.few;
+  origin = ap (λ (x : CoreState). x.origin) same ∙ t.origin;
+  after = same ∙ ap (λ (x : CoreState). record x { plan = plan }) t.after;
+}
+
 pub usable_asks : (row : Entry) (j : TakenJob) → is_usable j row ≡ true → row.request ≡ j.request
 usable_asks row j usable = request_same row.request j.request (and_parts (same_request row.request j.request) (is_success j.codes row.answer.status) usable).0
 
 -- the row of an entry that was made of a usable row
-pub kept_row_is : (rows : List Entry) (row : Entry) (j : TakenJob) (e : Entry) → Contains rows row → are_kept rows ≡ true → is_usable j row ≡ true → e ≡ kept_as j.request row.answer → row ≡ kept_row e
+pub kept_row_is : (rows : List Entry) (row : Entry) (j : TakenJob) (e : Entry) → Contains rows row → are_kept rows ≡ true → is_usable j row ≡ true
+    → e ≡ kept_as j.request row.answer → row ≡ kept_row e
 kept_row_is rows row j e at kept usable is = row_is (source_kept row.source (kept_source rows row kept at)) (usable_asks row j usable) ∙ sym (ap kept_row is)
   where
     source_kept : (s : Source) → is_kept s ≡ true → s ≡ Kept
@@ -267,7 +275,8 @@ taken_at (x ∷ xs) r s c p a = by_case (λ d. taken_at xs r s d p a) (first_or_
     by_case rest (inr d) = or_right (test x.request) (is_taken xs s) (rest d)
 
 -- what has the place and attempt of an entry has a row in its journal
-pub row_at : (journal : List Entry) (e : Entry) (r : Request) → Contains journal e → e.request.place ≡ r.place → e.request.attempt ≡ r.attempt → has_row (table journal) r.place r.attempt ≡ true
+pub row_at : (journal : List Entry) (e : Entry) (r : Request) → Contains journal e → e.request.place ≡ r.place → e.request.attempt ≡ r.attempt
+    → has_row (table journal) r.place r.attempt ≡ true
 row_at [] e r c p a = absurd (none_within e c)
 row_at (x ∷ xs) e r c p a = by_case (λ d. row_at xs e r d p a) (first_or_later x xs e c)
   where
@@ -377,7 +386,8 @@ module _ (gives : Request → Answer → Type 0) (rows : List Entry) (k : Keeper
   }
 
   -- the row of a job that was not taken stands there still
-  pub there_still : (c : CoreState) (s : Option Stop) (l : KeeperView) (j : TakenJob) (row : Entry) → Holding gives rows k c s l → Contains rows row → row.request ≡ j.request
+  pub there_still : (c : CoreState) (s : Option Stop) (l : KeeperView) (j : TakenJob) (row : Entry) → Holding gives rows k c s l → Contains rows row
+      → row.request ≡ j.request
       → is_taken c.taken j.request ≡ false → IsThere row l
   unfolding AreLeft
   there_still c s l j row h at asked untaken told q =
@@ -385,11 +395,13 @@ module _ (gives : Request → Answer → Type 0) (rows : List Entry) (k : Keeper
       (h.went.rows o.0 told o.1 q).left row (subst (λ (xs : List Entry). Contains xs row) (h.ready.told o.0 o.1) at) (ap (is_taken c.taken) asked ∙ untaken)
 
   -- a job is settled by its row
-  pub hold_kept : (c d : CoreState) (s t : Option Stop) (l : KeeperView) (row e : Entry) → Holding gives rows k c s l → Contains rows row → IsThere row l → row ≡ kept_row e
+  pub hold_kept : (c d : CoreState) (s t : Option Stop) (l : KeeperView) (row e : Entry) → Holding gives rows k c s l → Contains rows row → IsThere row l
+      → row ≡ kept_row e
       → Settling e c s d t → Holding gives rows k d t l
   unfolding ArePlaced
   hold_kept c d s t l row e h at there same g =
-      hold_grown c d s t l e h g (subst (λ (x : Entry). IsPlace x.request.place) same (h.placed row at)) (λ before after p q whole. subst (Contains after) same (there after q))
+      hold_grown c d s t l e h g (subst (λ (x : Entry). IsPlace x.request.place) same (h.placed row at))
+      (λ before after p q whole. subst (Contains after) same (there after q))
 
   -- an answer is put into the keeper
   hold_put : (c : CoreState) (s : Option Stop) (l m : KeeperView) (e : Entry) → Holding gives rows k c s l → m.path ≡ l.path → l.faults ≤ m.faults → m.kept ≡ with_entry l.kept e
@@ -449,20 +461,37 @@ module _ (gives : Request → Answer → Type 0) (rows : List Entry) (k : Keeper
   }
 
   -- a job is taken, and the keeper is asked for its row
-  pub hold_asked : (c d : CoreState) (s : Option Stop) (l m : KeeperView) (j : TakenJob) → Holding gives rows k c s l → Takes c j d → m.path ≡ l.path → l.faults ≤ m.faults → m.kept ≡ l.kept
+  pub hold_asked : (c d : CoreState) (s : Option Stop) (l m : KeeperView) (j : TakenJob) → Holding gives rows k c s l → Takes c j d → m.path ≡ l.path
+      → l.faults ≤ m.faults → m.kept ≡ l.kept
       → Holding gives rows k d s m
   hold_asked c d s l m j h t path later same = hold_left d s s l m (hold_taken c d s l j h t) path later same (λ e. inl e) (λ none. none)
 
-  -- and does not answer
-  pub hold_unasked : (c d : CoreState) (s : Option Stop) (why : Stop) (l m : KeeperView) (j : TakenJob) → Holding gives rows k c s l → Takes c j d → m.path ≡ l.path → l.faults ≤ m.faults → m.kept ≡ l.kept
-      → (why ≡ Keep → Rose l.faults m.faults) → Holding gives rows k (noted s (halted s why) d) (halted s why) m
-  hold_unasked c d s why l m j h t path later same rose =
-      hold_noted gives rows k d (halted s why) s (halted s why) m
-      (hold_left d s (halted s why) l m (hold_taken c d s l j h t) path later same (by_stop s) (λ none. absurd (halted_none s why none)))
-    where
-      by_stop : (x : Option Stop) → halted x why ≡ Some Keep → (x ≡ Some Keep) ⊎ Rose l.faults m.faults
-      by_stop None e = inr (rose (same_Some _ _ e))
-      by_stop (Some x) e = inl e
+  -- the keeper is asked for a row, and does not answer
+  pub hold_unasked : (c : CoreState) (why : Stop) (l m : KeeperView) → Holding gives rows k c None l → m.path ≡ l.path → l.faults ≤ m.faults → m.kept ≡ l.kept
+      → (why ≡ Keep → Rose l.faults m.faults) → Holding gives rows k (stopped c) (Some why) m
+  hold_unasked c why l m h path later same rose =
+      hold_noted gives rows k c (Some why) None (Some why) m
+      (hold_left c None (Some why) l m h path later same (λ e. inr (rose (same_Some _ _ e))) (λ none. absurd (halted_none None why none)))
+
+  -- memory is wanting
+  pub hold_wanting : (c : CoreState) (l : KeeperView) → Holding gives rows k c None l → Holding gives rows k (stopped c) (Some NoMemory) l
+  hold_wanting c l h =
+      hold_noted gives rows k c (Some NoMemory) None (Some NoMemory) l (hold_stopped c None (Some NoMemory) l h (halted_keeps None))
+
+  -- of the plan nothing is asked
+  pub hold_bare : (c : CoreState) (s : Option Stop) (l : KeeperView) (plan : Option Plan) → Holding gives rows k c s l → Holding gives rows k (record c { plan = plan }) s l
+  hold_bare c s l plan h = record {
+    ready = h.ready;
+    placed = h.placed;
+    settled = h.settled;
+    went = record {
+      path = h.went.path;
+      faults = h.went.faults;
+      keep = h.went.keep;
+      told = h.went.told;
+      rows = λ before after p q. let w = h.went.rows before after p q in record { from = w.from; left = w.left; journal = w.journal };
+    };
+  }
 
   -- the keeper failed, and the answer is settled all the same
   pub hold_failed : (c d : CoreState) (s t : Option Stop) (l m : KeeperView) (e : Entry) → Holding gives rows k c s l → m.path ≡ l.path → l.faults ≤ m.faults → m.kept ≡ l.kept → Rose l.faults m.faults
@@ -525,15 +554,4 @@ went_tells g f h l c s k m t w =
         left = r.left;
         journal = r.journal;
       };
-    }
-
--- the rows of a keeper say nothing of the plan
-pub went_bare : (g : Request → Answer → Type 0) (c : CoreState) (s : Option Stop) (k l : KeeperView) (plan : Option Plan) → Went g c s k l → Went g (record c { plan = plan }) s k l
-went_bare g c s k l plan w =
-    record {
-      path = w.path;
-      faults = w.faults;
-      keep = w.keep;
-      told = w.told;
-      rows = λ before after p q. let r = w.rows before after p q in record { from = r.from; left = r.left; journal = r.journal };
     }

@@ -81,7 +81,8 @@ no_usable (x ∷ xs) j row h c u = by_case (no_usable xs j row p.1) (first_or_la
     by_case rest (inl same) = false≢true (sym p.0 ∙ ap (is_usable j) same ∙ u)
     by_case rest (inr d) = rest d u
 
-pub one_usable : (rows : List Entry) (j : TakenJob) (x y : Entry) → rises rows ≡ true → Contains rows x → is_usable j x ≡ true → Contains rows y → is_usable j y ≡ true → y ≡ x
+pub one_usable : (rows : List Entry) (j : TakenJob) (x y : Entry) → rises rows ≡ true → Contains rows x → is_usable j x ≡ true → Contains rows y
+    → is_usable j y ≡ true → y ≡ x
 one_usable [] j x y h c u d v = absurd (none_within x c)
 one_usable (z ∷ zs) j x y h c u d v = by_case (λ a b. one_usable zs j x y p.1 a u b v) (first_or_later z zs x c) (first_or_later z zs y d)
   where

@@ -25,6 +25,10 @@ pub paid_halted : (c d : CoreState) (s : Option Stop) (why : Stop) (old new : �
 unfolding StaysPaid
 paid_halted c d s why old new = λ start was none. absurd (halted_none s why none)
 
+pub paid_stopped : (c d : CoreState) (s : Option Stop) (why : Stop) (old new : ℕ) → StaysPaid c s old d (Some why) new
+unfolding StaysPaid
+paid_stopped c d s why old new = λ start was none. absurd (halted_none None why none)
+
 -- a stop that is noted was evaluated by nothing
 pub paid_noted : (c d : CoreState) (s t : Option Stop) (old new : ℕ) → StaysPaid c s old d t new → StaysPaid c s old (noted s t d) t new
 unfolding StaysPaid

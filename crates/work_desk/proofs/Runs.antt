@@ -1,23 +1,24 @@
 -- The steps of a run, over plain values.
-use Rattle.std.proofs.Common.{◌≡◌, ℕ, ◌+◌, ◌<◌, ◌≤◌, ◌⊎◌, List, [], ◌∷◌, ◌++◌, length, Bool, true, false, refl, sym, ap, ◌∙◌, subst, arith, length-append, zero, suc, inl, inr}
+use Rattle.std.proofs.Common.{◌≡◌, ℕ, ◌+◌, ◌<◌, ◌≤◌, ◌⊎◌, List, [], ◌∷◌, ◌++◌, Contains, length, Bool, true, false, refl, sym, ap, ◌∙◌, subst, arith, length-append, zero, suc, inl, inr}
 use Rattle.std.specs.Prelude.{All, Option, Some, None, IfNone, is_some, cond}
 use Rattle.std.proofs.lemmas.Bool.{false≢true}
 use Rattle.std.proofs.lemmas.List.Elements.{Contains-append_left, All-append, All-weaker, All-nil}
 use Rattle.std.proofs.lemmas.List.{nil_from_length}
-use Rattle.std.proofs.lemmas.List.Sums.{sum_by-append, count_by-le-length}
+use Rattle.std.proofs.lemmas.List.Sums.{sum_by-append}
 use Rattle.wdl_base.specs.declared.answer.Answer.{Answer}
 use Rattle.wdl_base.specs.declared.entry.Entry.{Entry}
 use Rattle.wdl_base.specs.declared.entry.Source.{Source}
 use Rattle.wdl_base.specs.declared.entry.Source.TheVariants.{Launched, Kept}
 use Rattle.wdl_base.specs.declared.request.Request.{Request}
+use Rattle.wdl_value.specs.Tables.{has_row, table}
 use Rattle.wdl_base.specs.declared.step.Counts.{Counts}
 use Rattle.wdl_base.specs.declared.step.Step.{Step}
 use Rattle.wdl_base.specs.declared.step.Step.TheVariants.{Settled, Stopped, Took}
 use Rattle.wdl_port.specs.declared.fault.KeepFault.{KeepFault}
 use Rattle.wdl_port.specs.declared.fault.KeepFault.TheVariants as keeping
 use Rattle.scatter_plan.specs.declared.plan.Plan.{Plan}
-use Rattle.flow_laws.proofs.Elements.{contains_first, none_within}
-use Rattle.ready_core.specs.Cores.{CoreState, Origin, Settles, Takes, fed_at, has_stopped, idle_at, started, stopped}
+use Rattle.flow_laws.proofs.Elements.{none_within}
+use Rattle.ready_core.specs.Cores.{AreWithout, CoreState, Origin, Settles, Takes, fed_at, has_stopped, idle_at, requests, started, stopped}
 use Rattle.ready_core.specs.Rows.{TakenJob}
 use Rattle.ready_core.proofs.Stops.{other_step, stop_new, stop_step}
 use Rattle.work_desk.specs.declared.stop.Stop.{Stop}
@@ -25,12 +26,13 @@ use Rattle.work_desk.specs.declared.stop.Stop.TheVariants.{Failed, NoMemory, Lau
 use Rattle.work_desk.specs.Greedy.{at_stop, before_stop, greedy, Busy}
 use Rattle.work_desk.specs.Held.{Held, held}
 use Rattle.work_desk.specs.Ran.{HasRun, IsDone}
-use Rattle.work_desk.specs.Run.{AreDue, GivenBy, IsDue, IsDueOr, IsGiven, IsRun, Tells, WereDue, answer_in_hand, is_launched, job_in_hand, launched}
-use Rattle.work_desk.specs.Stops.{Caused, Judges, halted, most_aside, noted, stop_of}
+use Rattle.work_desk.specs.Run.{AreDue, GivenBy, IsDue, IsGiven, IsRun, Tells, WereDue, is_launched, launched}
+use Rattle.work_desk.specs.Stops.{Caused, Judges, halted, noted, stop_of}
 use Rattle.work_desk.specs.Views.{AllEqual}
-use Rattle.work_desk.proofs.Due.{due_after, due_taken, due_wider, were_after, were_taken, were_wider}
+use Rattle.work_desk.proofs.Due.{due_kept, due_less, due_taken, were_kept, were_settled, were_taken}
 use Rattle.work_desk.proofs.Flows.{fault_stays, job_stays, too_many_stays, all_settled}
 use Rattle.work_desk.proofs.Greed as greed
+use Rattle.work_desk.proofs.Kept.{launched_kept}
 
 one_more : {A : Type 0} (P : A → Type 0) (x : A) → P x → All P (x ∷ [])
 one_more P x p zero d h = p
@@ -38,15 +40,12 @@ one_more P x p (suc k) d h = absurd (omega (arith, h))
 
 -- ---- how many were launched
 
+-- whether an answer was collected
+abbrev answer_in_hand : Source → ℕ
+answer_in_hand s = cond (is_launched s) 1 0
+
 launched_more : (es : List Entry) (e : Entry) → launched (es ++ e ∷ []) ≡ launched es + answer_in_hand e.source
 launched_more es e = omega (arith, sum_by-append (λ (x : Entry). cond (is_launched x.source) 1 0) es (e ∷ []))
-
-launched_few : (es : List Entry) → launched es ≤ length es
-launched_few es = count_by-le-length (λ (e : Entry). is_launched e.source) es
-
-one_in_hand : (s : Source) (r : Request) → length (job_in_hand s r) + answer_in_hand s ≡ 1
-one_in_hand Launched r = refl
-one_in_hand Kept r = refl
 
 -- ---- what was given
 
@@ -76,7 +75,8 @@ module _ (refuses : Request → Type 0) where
   abbrev after_entries : CoreState → List Entry → CoreState
   after_entries c es = record c { journal = es }
 
-  pub caused_later : (c : CoreState) (es more : List Entry) (s : Stop) → Caused refuses (after_entries c es) (Some s) → Caused refuses (after_entries c (es ++ more)) (Some s)
+  pub caused_later : (c : CoreState) (es more : List Entry) (s : Stop) → Caused refuses (after_entries c es) (Some s)
+      → Caused refuses (after_entries c (es ++ more)) (Some s)
   caused_later c es more Failed h = fault_stays c.origin es more h
   caused_later c es more TooMany h = too_many_stays c.origin es more h
   caused_later c es more (Launch p) (j, taken, at, refused, job) = (j, taken, at, refused, job_stays c.origin es more j.request job)
@@ -95,6 +95,23 @@ module _ (refuses : Request → Type 0) where
 stopped_is : (c : CoreState) → has_stopped c.steps ≡ false → stopped c ≡ record c { steps = c.steps ++ Stopped ∷ [] }
 stopped_is c goes = ap (λ (ss : List Step). record c { steps = ss }) (stop_new c.steps goes)
 
+-- What is asked of a run that settles an answer, behind which these jobs are out: the answer is that of the job that was taken last
+-- and not put on the desk, or it was collected.
+record InHand (n : ℕ) (gives : Request → Answer → Type 0) (refuses : Request → Type 0) (lapses : Entry → Bool) (rows : List Entry) (e : Entry) (c : CoreState)
+    (rest : List TakenJob) (h : Held) (stop : Option Stop) : Type 0 where
+  pub greedy : greedy c.origin n c.journal c.taken c.steps
+  pub stopped : has_stopped c.steps ≡ is_some stop
+  pub caused : Caused refuses (at_stop c) stop
+  pub given : All (IsGiven gives rows c.taken) c.journal
+  pub within : length c.out + length c.journal ≡ length c.taken
+  pub few : length c.taken ≤ 20000
+  pub most : length c.out ≤ n
+  pub put : h.put + 1 ≡ launched c.journal + length c.out + answer_in_hand e.source
+  pub collected : launched c.journal + answer_in_hand e.source ≤ h.collected
+  pub even : IfNone stop (launched c.journal + answer_in_hand e.source ≡ h.collected)
+  pub waits : AreDue lapses rows c.taken rest
+  pub fresh : WereDue lapses rows c.taken (c.journal ++ e ∷ [])
+
 module _ (n : ℕ) (gives : Request → Answer → Type 0) (refuses : Request → Type 0) (lapses : Entry → Bool) (rows : List Entry) where
   -- ---- a job is taken
 
@@ -102,60 +119,89 @@ module _ (n : ℕ) (gives : Request → Answer → Type 0) (refuses : Request �
   abbrev taking : CoreState → TakenJob → CoreState
   taking c j = record c { taken = c.taken ++ j ∷ []; out = c.out ++ j ∷ []; steps = c.steps ++ Took j.request.place ∷ [] }
 
-  taking_goes : (c : CoreState) (j : TakenJob) → has_stopped c.steps ≡ false → has_stopped (taking c j).steps ≡ false
-  taking_goes c j goes = other_step c.steps (Took j.request.place) refl ∙ goes
+  module _ (c d : CoreState) (h : Held) (j : TakenJob) (run : IsRun n gives refuses lapses rows 0 c h None) (t : Takes c j d) (free : length c.out < n) where
+    taking_goes : has_stopped (taking c j).steps ≡ false
+    taking_goes = other_step c.steps (Took j.request.place) refl ∙ run.stopped
 
-  -- a job that was taken, with so many put on the desk
-  taken_to : (c d : CoreState) (h : Held) (j : TakenJob) (put : ℕ) (hand : List Request) (run : IsRun n gives refuses lapses rows [] 0 c h None) → Takes c j d → length c.out < n
-      → put + length hand ≡ h.put + 1
-      → AreDue lapses rows (hand ++ run.aside) (c.taken ++ j ∷ []) (c.out ++ j ∷ []) → WereDue lapses rows (hand ++ run.aside) (c.taken ++ j ∷ []) c.journal
-      → IsRun n gives refuses lapses rows hand 0 (taking c j) (held put h.collected) None
-  taken_to c d h j put hand run t free count waits fresh = record {
-    fed = run.fed;
-    greedy = greed.took c.origin n c.journal c.taken c.steps j run.stopped run.greedy (refl, t.busy, t.may, omega (arith, run.within, free));
-    stopped = taking_goes c j run.stopped;
-    caused =
-        subst (λ (es : List Entry). Caused refuses (after_entries refuses c es) None) (sym (greed.all_before (taking c j).steps c.journal (taking_goes c j run.stopped)))
-        (caused_still refuses c None run.stopped run.caused);
-    given = all_given_more gives rows c.taken j c.journal run.given;
-    within = omega (arith, run.within, length-append c.out (j ∷ []), length-append c.taken (j ∷ []));
-    few = subst (λ (x : CoreState). length x.taken ≤ 20000) t.after t.few;
-    most = omega (arith, free, length-append c.out (j ∷ []));
-    aside = run.aside;
-    few_aside = run.few_aside;
-    put = omega (arith, run.put, count, length-append c.out (j ∷ []));
-    collected = run.collected;
-    even = run.even;
-    waits = waits;
-    fresh = fresh;
-  }
+    taking_greedy : greedy c.origin n c.journal (c.taken ++ j ∷ []) (taking c j).steps
+    taking_greedy = greed.took c.origin n c.journal c.taken c.steps j run.stopped run.greedy (refl, t.busy, t.may, omega (arith, run.within, free))
 
-  -- a job that is put on the desk
-  pub run_put : (c d : CoreState) (h : Held) (j : TakenJob) → IsRun n gives refuses lapses rows [] 0 c h None → Takes c j d → length c.out < n → IsDue lapses rows j
-      → IsRun n gives refuses lapses rows [] 0 d (held (h.put + 1) h.collected) None
-  run_put c d h j run t free due =
-      subst (λ (x : CoreState). IsRun n gives refuses lapses rows [] 0 x (held (h.put + 1) h.collected) None) (sym t.after)
-      (taken_to c d h j (h.put + 1) [] run t free (omega arith) (due_taken lapses rows run.aside c.taken c.out j run.waits t.may.1 (inr due))
-      (were_taken lapses rows run.aside c.taken c.journal j run.fresh (inr due)))
+    taking_caused : Caused refuses (at_stop (taking c j)) None
+    taking_caused =
+        subst (λ (es : List Entry). Caused refuses (after_entries refuses c es) None)
+        (sym (greed.all_before (taking c j).steps c.journal taking_goes)) (caused_still refuses c None run.stopped run.caused)
 
-  -- a job whose row is looked at
-  pub run_held : (c d : CoreState) (h : Held) (j : TakenJob) → IsRun n gives refuses lapses rows [] 0 c h None → Takes c j d → length c.out < n
-      → IsRun n gives refuses lapses rows (j.request ∷ []) 0 d h None
-  run_held c d h j run t free =
-      let others = run.aside in
-      let mine : IsDueOr lapses rows (j.request ∷ others) j = inl (contains_first j.request others) in
-      subst (λ (x : CoreState). IsRun n gives refuses lapses rows (j.request ∷ []) 0 x h None) (sym t.after)
-      (taken_to c d h j h.put (j.request ∷ []) run t free (omega arith)
-      (due_taken lapses rows (j.request ∷ others) c.taken c.out j (due_wider lapses rows others j.request c.taken c.out run.waits) t.may.1 mine)
-      (were_taken lapses rows (j.request ∷ others) c.taken c.journal j (were_wider lapses rows others j.request c.taken c.journal run.fresh) mine))
+    taking_within : length (c.out ++ j ∷ []) + length c.journal ≡ length (c.taken ++ j ∷ [])
+    taking_within = omega (arith, run.within, length-append c.out (j ∷ []), length-append c.taken (j ∷ []))
 
-  -- there is room on the desk
-  pub put_room : (c : CoreState) (h : Held) → IsRun n gives refuses lapses rows [] 0 c h None → length c.out < n → h.put < h.collected + n
-  put_room c h run free = omega (arith, run.put, run.few_aside, run.even, free)
+    taking_few : length (c.taken ++ j ∷ []) ≤ 20000
+    taking_few = subst (λ (x : CoreState). length x.taken ≤ 20000) t.after t.few
 
-  pub put_few : (c d : CoreState) (h : Held) (j : TakenJob) → IsRun n gives refuses lapses rows [] 0 c h None → Takes c j d → h.put < 20000
-  put_few c d h j run t =
-      omega (arith, run.put, run.few_aside, launched_few c.journal, run.within, subst (λ (x : CoreState). length x.taken ≤ 20000) t.after t.few, length-append c.taken (j ∷ []))
+    taking_most : length (c.out ++ j ∷ []) ≤ n
+    taking_most = omega (arith, free, length-append c.out (j ∷ []))
+
+    -- a job that is put on the desk
+    pub run_put : IsDue lapses rows j → IsRun n gives refuses lapses rows 0 d (held (h.put + 1) h.collected) None
+    run_put due =
+        subst (λ (x : CoreState). IsRun n gives refuses lapses rows 0 x (held (h.put + 1) h.collected) None) (sym t.after) (record {
+          fed = run.fed;
+          greedy = taking_greedy;
+          stopped = taking_goes;
+          caused = taking_caused;
+          given = all_given_more gives rows c.taken j c.journal run.given;
+          within = taking_within;
+          few = taking_few;
+          most = taking_most;
+          put = omega (arith, run.put, length-append c.out (j ∷ []));
+          collected = run.collected;
+          even = run.even;
+          waits = due_taken lapses rows c.taken c.out j run.waits t.may.1 due;
+          fresh = were_taken lapses rows c.taken c.journal j run.fresh due;
+        })
+
+    -- a job that is settled by its row
+    kept_in_hand : (f : CoreState) (e : Entry) → Settles (taking c j) e f → e.source ≡ Kept → e.request ≡ j.request
+        → InHand n gives refuses lapses rows e (taking c j) f.out h None
+    kept_in_hand f e s kept asked =
+        let none : answer_in_hand e.source ≡ 0 = ap answer_in_hand kept in
+        let left = subst (λ (r : Request). AreWithout (c.out ++ j ∷ []) r f.out) asked s.left in
+        let gone = subst (λ (r : Request). ¬ (Contains (requests f.out) r)) asked s.gone in
+        let new = subst (λ (r : Request). has_row (table c.journal) r.place r.attempt ≡ false) asked s.fresh in
+        record {
+          greedy = taking_greedy;
+          stopped = taking_goes;
+          caused = taking_caused;
+          given = all_given_more gives rows c.taken j c.journal run.given;
+          within = taking_within;
+          few = taking_few;
+          most = taking_most;
+          put = omega (arith, run.put, none, length-append c.out (j ∷ []));
+          collected = omega (arith, run.collected, none);
+          even = subst (λ (k : ℕ). launched c.journal + k ≡ h.collected) (sym none) run.even;
+          waits = due_kept lapses rows c.taken c.out f.out j run.waits left gone;
+          fresh = were_kept lapses rows c.taken c.journal j e run.fresh kept new;
+        }
+
+  -- ---- an answer is collected
+
+  collected_in_hand : (c d : CoreState) (h : Held) (e : Entry) (stop : Option Stop) → IsRun n gives refuses lapses rows 1 c h stop → Settles c e d
+      → e.source ≡ Launched → InHand n gives refuses lapses rows e c d.out h stop
+  collected_in_hand c d h e stop run t is =
+      let one : answer_in_hand e.source ≡ 1 = ap answer_in_hand is in
+      record {
+        greedy = run.greedy;
+        stopped = run.stopped;
+        caused = run.caused;
+        given = run.given;
+        within = run.within;
+        few = run.few;
+        most = run.most;
+        put = omega (arith, run.put, one);
+        collected = omega (arith, run.collected, one);
+        even = subst (λ (k : ℕ). IfNone stop (launched c.journal + k ≡ h.collected)) (sym one) run.even;
+        waits = due_less lapses rows c.taken c.out d.out e.request run.waits t.left;
+        fresh = were_settled lapses rows c.taken c.out c.journal e run.fresh run.waits t.held;
+      }
 
   -- ---- an answer is settled
 
@@ -165,11 +211,11 @@ module _ (n : ℕ) (gives : Request → Answer → Type 0) (refuses : Request �
 
   -- with these steps and this stop
   settled_to : (c d : CoreState) (h : Held) (e : Entry) (stop next : Option Stop) (ss : List Step)
-      → IsRun n gives refuses lapses rows (job_in_hand e.source e.request) (answer_in_hand e.source) c h stop → Settles c e d → IsGiven gives rows c.taken e
+      → InHand n gives refuses lapses rows e c d.out h stop → Settles c e d → IsGiven gives rows c.taken e
       → greedy c.origin n (c.journal ++ e ∷ []) c.taken ss → has_stopped ss ≡ is_some next → Caused refuses (at_stop (record (then c e d) { steps = ss })) next
-      → most_aside next ≡ most_aside stop → IfNone next (launched (c.journal ++ e ∷ []) + 0 ≡ h.collected)
-      → IsRun n gives refuses lapses rows [] 0 (record (then c e d) { steps = ss }) h next
-  settled_to c d h e stop next ss run t given well was caused same even = record {
+      → IfNone next (launched (c.journal ++ e ∷ []) + 0 ≡ h.collected)
+      → IsRun n gives refuses lapses rows 0 (record (then c e d) { steps = ss }) h next
+  settled_to c d h e stop next ss run t given well was caused even = record {
     fed = subst (λ (x : CoreState). fed_at x.origin x.journal ≡ true) t.after t.fed;
     greedy = well;
     stopped = was;
@@ -178,42 +224,46 @@ module _ (n : ℕ) (gives : Request → Answer → Type 0) (refuses : Request �
     within = omega (arith, run.within, t.out, length-append c.journal (e ∷ []));
     few = run.few;
     most = omega (arith, run.most, t.out);
-    aside = run.aside;
-    few_aside = omega (arith, run.few_aside, same);
-    put = omega (arith, run.put, t.out, launched_more c.journal e, one_in_hand e.source e.request);
+    put = omega (arith, run.put, t.out, launched_more c.journal e);
     collected = omega (arith, run.collected, launched_more c.journal e);
     even = even;
-    waits = due_after lapses rows run.aside c d e e.source run.waits t;
-    fresh = were_after lapses rows run.aside c d e e.source refl run.fresh run.waits t;
+    waits = run.waits;
+    fresh = run.fresh;
   }
 
   module _ (c d : CoreState) (h : Held) (e : Entry) (t : Settles c e d) (given : IsGiven gives rows c.taken e) where
     -- the run goes on
-    goes_to : IsRun n gives refuses lapses rows (job_in_hand e.source e.request) (answer_in_hand e.source) c h None → (e.source ≡ Launched → Busy c.origin n c.journal c.taken)
-        → (has_stopped (then c e d).steps ≡ false) × greedy c.origin n (c.journal ++ e ∷ []) c.taken (then c e d).steps × (launched (c.journal ++ e ∷ []) + 0 ≡ h.collected)
+    goes_to : InHand n gives refuses lapses rows e c d.out h None
+        → (e.source ≡ Launched → Busy c.origin n c.journal c.taken)
+        → (has_stopped (then c e d).steps ≡ false) × greedy c.origin n (c.journal ++ e ∷ []) c.taken (then c e d).steps ×
+        (launched (c.journal ++ e ∷ []) + 0 ≡ h.collected)
     goes_to run eager = (
       other_step c.steps (Settled e.request.place) refl ∙ run.stopped,
       greed.settled c.origin n c.journal c.taken c.steps e run.greedy t.was_out (λ l goes. eager l),
       omega (arith, run.even, launched_more c.journal e),
     )
 
-    on_to : IsRun n gives refuses lapses rows (job_in_hand e.source e.request) (answer_in_hand e.source) c h None → (e.source ≡ Launched → Busy c.origin n c.journal c.taken)
-        → Caused refuses (then c e d) None → IsRun n gives refuses lapses rows [] 0 (then c e d) h None
+    on_to : InHand n gives refuses lapses rows e c d.out h None
+        → (e.source ≡ Launched → Busy c.origin n c.journal c.taken)
+        → Caused refuses (then c e d) None → IsRun n gives refuses lapses rows 0 (then c e d) h None
     on_to run eager caused =
         let g = goes_to run eager in
         settled_to c d h e None None (then c e d).steps run t given g.1 g.0
-        (subst (λ (es : List Entry). Caused refuses (after_entries refuses (then c e d) es) None) (sym (greed.all_before (then c e d).steps (then c e d).journal g.0)) caused) refl g.2
+        (subst (λ (es : List Entry). Caused refuses (after_entries refuses (then c e d) es) None)
+        (sym (greed.all_before (then c e d).steps (then c e d).journal g.0)) caused) g.2
 
     -- the flow stops it
-    stop_to : (s : Stop) → IsRun n gives refuses lapses rows (job_in_hand e.source e.request) (answer_in_hand e.source) c h None → (e.source ≡ Launched → Busy c.origin n c.journal c.taken)
-        → Caused refuses (then c e d) (Some s) → most_aside (Some s) ≡ 0 → IsRun n gives refuses lapses rows [] 0 (stopped (then c e d)) h (Some s)
-    stop_to s run eager caused same =
+    stop_to : (s : Stop) → InHand n gives refuses lapses rows e c d.out h None
+        → (e.source ≡ Launched → Busy c.origin n c.journal c.taken)
+        → Caused refuses (then c e d) (Some s) → IsRun n gives refuses lapses rows 0 (stopped (then c e d)) h (Some s)
+    stop_to s run eager caused =
         let g = goes_to run eager in
         let x = then c e d in
         let ss = x.steps ++ Stopped ∷ [] in
-        subst (λ (y : CoreState). IsRun n gives refuses lapses rows [] 0 y h (Some s)) (sym (stopped_is x g.0))
+        subst (λ (y : CoreState). IsRun n gives refuses lapses rows 0 y h (Some s)) (sym (stopped_is x g.0))
         (settled_to c d h e None (Some s) ss run t given (greed.stopped c.origin n x.journal c.taken x.steps g.0 g.1) (stop_step x.steps)
-        (subst (λ (es : List Entry). Caused refuses (after_entries refuses (record x { steps = ss }) es) (Some s)) (sym (greed.all_before_stop c.origin n x.journal c.taken x.steps g.0 g.1)) (moved x ss s caused)) same tt)
+        (subst (λ (es : List Entry). Caused refuses (after_entries refuses (record x { steps = ss }) es) (Some s))
+        (sym (greed.all_before_stop c.origin n x.journal c.taken x.steps g.0 g.1)) (moved x ss s caused)) tt)
       where
         moved : (y : CoreState) (steps : List Step) (why : Stop) → Caused refuses y (Some why) → Caused refuses (record y { steps = steps }) (Some why)
         moved y steps Failed k = k
@@ -223,46 +273,64 @@ module _ (n : ℕ) (gives : Request → Answer → Type 0) (refuses : Request �
         moved y steps Keep k = tt
 
     -- it had stopped before
-    after_to : (s : Stop) → IsRun n gives refuses lapses rows (job_in_hand e.source e.request) (answer_in_hand e.source) c h (Some s) → IsRun n gives refuses lapses rows [] 0 (then c e d) h (Some s)
+    after_to : (s : Stop) → InHand n gives refuses lapses rows e c d.out h (Some s)
+        → IsRun n gives refuses lapses rows 0 (then c e d) h (Some s)
     after_to s run =
         let x = then c e d in
         settled_to c d h e (Some s) (Some s) x.steps run t given
         (greed.settled c.origin n c.journal c.taken c.steps e run.greedy t.was_out (λ l goes. absurd (false≢true (sym goes ∙ run.stopped))))
         (other_step c.steps (Settled e.request.place) refl ∙ run.stopped)
         (subst (λ (es : List Entry). Caused refuses (after_entries refuses x es) (Some s))
-        (sym (greed.before_as_was c.origin n c.journal c.taken c.steps e e.request.place run.stopped run.greedy)) (moved s run.caused)) refl tt
+        (sym (greed.before_as_was c.origin n c.journal c.taken c.steps e e.request.place run.stopped run.greedy)) (moved s run.caused)) tt
       where
-        moved : (why : Stop) → Caused refuses (at_stop c) (Some why) → Caused refuses (after_entries refuses (then c e d) (before_stop c.steps c.journal)) (Some why)
+        moved : (why : Stop) → Caused refuses (at_stop c) (Some why)
+            → Caused refuses (after_entries refuses (then c e d) (before_stop c.steps c.journal)) (Some why)
         moved Failed k = k
         moved TooMany k = k
         moved (Launch p) k = k
         moved NoMemory k = tt
         moved Keep k = tt
 
-    judged_to : (stop next : Option Stop) → IsRun n gives refuses lapses rows (job_in_hand e.source e.request) (answer_in_hand e.source) c h stop
+    judged_to : (stop next : Option Stop) → InHand n gives refuses lapses rows e c d.out h stop
         → (e.source ≡ Launched → stop ≡ None → Busy c.origin n c.journal c.taken)
-        → Judges (then c e d) stop next → IsRun n gives refuses lapses rows [] 0 (noted stop next (then c e d)) h next
+        → Judges (then c e d) stop next → IsRun n gives refuses lapses rows 0 (noted stop next (then c e d)) h next
     judged_to None None run eager m = on_to run (λ l. eager l refl) m
-    judged_to None (Some Failed) run eager m = stop_to Failed run (λ l. eager l refl) m refl
-    judged_to None (Some TooMany) run eager m = stop_to TooMany run (λ l. eager l refl) m refl
+    judged_to None (Some Failed) run eager m = stop_to Failed run (λ l. eager l refl) m
+    judged_to None (Some TooMany) run eager m = stop_to TooMany run (λ l. eager l refl) m
     judged_to None (Some NoMemory) run eager m = absurd m
     judged_to None (Some Keep) run eager m = absurd m
     judged_to None (Some (Launch p)) run eager m = absurd m
-    judged_to (Some s) next run eager m = subst (λ (x : Option Stop). IsRun n gives refuses lapses rows [] 0 (then c e d) h x) (sym m) (after_to s run)
+    judged_to (Some s) next run eager m = subst (λ (x : Option Stop). IsRun n gives refuses lapses rows 0 (then c e d) h x) (sym m) (after_to s run)
 
-  -- an answer that is settled
-  pub run_settled : (c d : CoreState) (h : Held) (e : Entry) (stop next : Option Stop) → IsRun n gives refuses lapses rows (job_in_hand e.source e.request) (answer_in_hand e.source) c h stop
+  settled_then : (c d : CoreState) (h : Held) (e : Entry) (stop next : Option Stop) → InHand n gives refuses lapses rows e c d.out h stop
       → Settles c e d → IsGiven gives rows c.taken e → (e.source ≡ Launched → stop ≡ None → Busy c.origin n c.journal c.taken)
-      → Judges d stop next → IsRun n gives refuses lapses rows [] 0 (noted stop next d) h next
-  run_settled c d h e stop next run t given eager m =
-      subst (λ (x : CoreState). IsRun n gives refuses lapses rows [] 0 (noted stop next x) h next) (sym t.after)
+      → Judges d stop next → IsRun n gives refuses lapses rows 0 (noted stop next d) h next
+  settled_then c d h e stop next run t given eager m =
+      subst (λ (x : CoreState). IsRun n gives refuses lapses rows 0 (noted stop next x) h next) (sym t.after)
       (judged_to c d h e t given stop next run eager (subst (λ (x : CoreState). Judges x stop next) t.after m))
+
+  -- an answer that was collected is settled
+  pub run_settled : (c d : CoreState) (h : Held) (e : Entry) (stop next : Option Stop) → IsRun n gives refuses lapses rows 1 c h stop
+      → Settles c e d → e.source ≡ Launched → gives e.request e.answer → (stop ≡ None → Busy c.origin n c.journal c.taken)
+      → Judges d stop next → IsRun n gives refuses lapses rows 0 (noted stop next d) h next
+  run_settled c d h e stop next run t launched given eager m =
+      settled_then c d h e stop next (collected_in_hand c d h e stop run t launched) t
+      (subst (GivenBy gives rows c.taken e.request e.answer) (sym launched) given) (λ l. eager) m
+
+  -- a job is settled by its row
+  pub run_reused : (c d f : CoreState) (h : Held) (j : TakenJob) (e : Entry) (next : Option Stop) → IsRun n gives refuses lapses rows 0 c h None
+      → Takes c j d → length c.out < n → Settles d e f → IsGiven gives rows d.taken e → e.source ≡ Kept → e.request ≡ j.request
+      → Judges f None next → IsRun n gives refuses lapses rows 0 (noted None next f) h next
+  run_reused c d f h j e next run t free s given kept asked m =
+      let settles : Settles (taking c j) e f = subst (λ (x : CoreState). Settles x e f) t.after s in
+      settled_then (taking c j) f h e None next (kept_in_hand c d h j run t free f e settles kept asked) settles
+      (subst (λ (x : CoreState). IsGiven gives rows x.taken e) t.after given) (λ launched goes. absurd (launched_kept (sym launched ∙ kept))) m
 
   -- ---- the run stops
 
   -- after a stop nothing is asked of the answer in hand
-  pub run_stays : (answers next : ℕ) (c : CoreState) (h : Held) (s : Stop) → IsRun n gives refuses lapses rows [] answers c h (Some s) → next ≤ answers
-      → IsRun n gives refuses lapses rows [] next c h (Some s)
+  run_stays : (answers next : ℕ) (c : CoreState) (h : Held) (s : Stop) → IsRun n gives refuses lapses rows answers c h (Some s) → next ≤ answers
+      → IsRun n gives refuses lapses rows next c h (Some s)
   run_stays answers next c h s run less = record {
     fed = run.fed;
     greedy = run.greedy;
@@ -272,8 +340,6 @@ module _ (n : ℕ) (gives : Request → Answer → Type 0) (refuses : Request �
     within = run.within;
     few = run.few;
     most = run.most;
-    aside = run.aside;
-    few_aside = run.few_aside;
     put = run.put;
     collected = omega (arith, run.collected, less);
     even = tt;
@@ -281,11 +347,11 @@ module _ (n : ℕ) (gives : Request → Answer → Type 0) (refuses : Request �
     fresh = run.fresh;
   }
 
-  -- it stops now, and sets aside the job in hand
-  stops_now : (hand : List Request) (answers next : ℕ) (c : CoreState) (h : Held) (why : Stop) → IsRun n gives refuses lapses rows hand answers c h None → next ≤ answers
-      → length hand ≤ most_aside (Some why) → Caused refuses c (Some why) → IsRun n gives refuses lapses rows [] next (stopped c) h (Some why)
-  stops_now hand answers next c h why run less few caused =
-      subst (λ (x : CoreState). IsRun n gives refuses lapses rows [] next x h (Some why)) (sym (stopped_is c run.stopped)) (record {
+  -- it stops now
+  stops_now : (answers next : ℕ) (c : CoreState) (h : Held) (why : Stop) → IsRun n gives refuses lapses rows answers c h None → next ≤ answers
+      → Caused refuses c (Some why) → IsRun n gives refuses lapses rows next (stopped c) h (Some why)
+  stops_now answers next c h why run less caused =
+      subst (λ (x : CoreState). IsRun n gives refuses lapses rows next x h (Some why)) (sym (stopped_is c run.stopped)) (record {
         fed = run.fed;
         greedy = greed.stopped c.origin n c.journal c.taken c.steps run.stopped run.greedy;
         stopped = stop_step c.steps;
@@ -296,9 +362,7 @@ module _ (n : ℕ) (gives : Request → Answer → Type 0) (refuses : Request �
         within = run.within;
         few = run.few;
         most = run.most;
-        aside = hand ++ run.aside;
-        few_aside = omega (arith, few, run.few_aside, length-append hand run.aside);
-        put = omega (arith, run.put, length-append hand run.aside);
+        put = run.put;
         collected = omega (arith, run.collected, less);
         even = tt;
         waits = run.waits;
@@ -313,57 +377,27 @@ module _ (n : ℕ) (gives : Request → Answer → Type 0) (refuses : Request �
       moved Keep k = tt
 
   -- a stop that is no fault of the flow
-  pub run_halted : (hand : List Request) (answers next : ℕ) (c : CoreState) (h : Held) (why : Stop) (stop : Option Stop) → IsRun n gives refuses lapses rows hand answers c h stop → next ≤ answers
-      → length hand ≤ most_aside (Some why) → (stop ≡ None) ⊎ (hand ≡ []) → Caused refuses c (Some why) → IsRun n gives refuses lapses rows [] next (noted stop (halted stop why) c) h (halted stop why)
-  run_halted hand answers next c h why None run less few alone caused = stops_now hand answers next c h why run less few caused
-  run_halted hand answers next c h why (Some s) run less few (inl goes) caused = cc
-  run_halted hand answers next c h why (Some s) run less few (inr none) caused =
-      run_stays answers next c h s (subst (λ (rs : List Request). IsRun n gives refuses lapses rows rs answers c h (Some s)) none run) less
+  pub run_halted : (answers next : ℕ) (c : CoreState) (h : Held) (why : Stop) (stop : Option Stop)
+      → IsRun n gives refuses lapses rows answers c h stop → next ≤ answers → Caused refuses c (Some why)
+      → IsRun n gives refuses lapses rows next (noted stop (halted stop why) c) h (halted stop why)
+  run_halted answers next c h why None run less caused = stops_now answers next c h why run less caused
+  run_halted answers next c h why (Some s) run less caused = run_stays answers next c h s run less
 
-  -- an answer that wants memory to be settled
-  pub run_wanting : (c : CoreState) (h : Held) (e : Entry) (stop : Option Stop) → IsRun n gives refuses lapses rows (job_in_hand e.source e.request) (answer_in_hand e.source) c h stop
-      → (e.source ≡ Kept → stop ≡ None) → IsRun n gives refuses lapses rows [] 0 (noted stop (halted stop NoMemory) c) h (halted stop NoMemory)
-  run_wanting c h e stop run goes =
-      run_halted (job_in_hand e.source e.request) (answer_in_hand e.source) 0 c h NoMemory stop run (omega arith) (omega (arith, one_in_hand e.source e.request)) (alone e.source goes) tt
-    where
-      alone : (s : Source) → (s ≡ Kept → stop ≡ None) → (stop ≡ None) ⊎ (job_in_hand s e.request ≡ [])
-      alone Launched f = inr refl
-      alone Kept f = inl (f refl)
+  -- a job is given back, since memory was wanting
+  pub run_wanting : (c : CoreState) (h : Held) → IsRun n gives refuses lapses rows 0 c h None → IsRun n gives refuses lapses rows 0 (stopped c) h (Some NoMemory)
+  run_wanting c h run = stops_now 0 0 c h NoMemory run (omega arith) tt
 
-  -- a job whose row the keeper could not look at
-  pub run_unasked : (c : CoreState) (h : Held) (r : Request) (fault : KeepFault) → IsRun n gives refuses lapses rows (r ∷ []) 0 c h None
-      → IsRun n gives refuses lapses rows [] 0 (noted None (Some (stop_of fault)) c) h (Some (stop_of fault))
-  run_unasked c h r keeping.Failed run = run_halted (r ∷ []) 0 0 c h Keep None run (omega arith) (omega arith) (inl refl) tt
-  run_unasked c h r keeping.NoMemory run = run_halted (r ∷ []) 0 0 c h NoMemory None run (omega arith) (omega arith) (inl refl) tt
-
-  -- ---- an answer is collected
-
-  pub run_collected : (c : CoreState) (h : Held) (stop : Option Stop) → IsRun n gives refuses lapses rows [] 0 c h stop → IsRun n gives refuses lapses rows [] 1 c (held h.put (h.collected + 1)) stop
-  run_collected c h stop run = record {
-    fed = run.fed;
-    greedy = run.greedy;
-    stopped = run.stopped;
-    caused = run.caused;
-    given = run.given;
-    within = run.within;
-    few = run.few;
-    most = run.most;
-    aside = run.aside;
-    few_aside = run.few_aside;
-    put = run.put;
-    collected = omega (arith, run.collected);
-    even = more stop run.even;
-    waits = run.waits;
-    fresh = run.fresh;
-  } where
-    more : (s : Option Stop) → IfNone s (launched c.journal + 0 ≡ h.collected) → IfNone s (launched c.journal + 1 ≡ h.collected + 1)
-    more None e = omega (arith, e)
-    more (Some s) e = tt
+  -- or since the keeper could not look at its row
+  pub run_unasked : (c : CoreState) (h : Held) (fault : KeepFault) → IsRun n gives refuses lapses rows 0 c h None
+      → IsRun n gives refuses lapses rows 0 (stopped c) h (Some (stop_of fault))
+  run_unasked c h keeping.Failed run = stops_now 0 0 c h Keep run (omega arith) tt
+  run_unasked c h keeping.NoMemory run = run_wanting c h run
 
   -- without a stop, with nothing out and nothing more to take, the flow is clean
-  pub run_clean : (c : CoreState) (h : Held) → IsRun n gives refuses lapses rows [] 0 c h None → Busy c.origin n c.journal c.taken → h.put ≡ h.collected → 0 < n → IsDone c
+  pub run_clean : (c : CoreState) (h : Held) → IsRun n gives refuses lapses rows 0 c h None → Busy c.origin n c.journal c.taken → h.put ≡ h.collected
+      → 0 < n → IsDone c
   run_clean c h run busy even some =
-      let none : length c.out ≡ 0 = omega (arith, run.put, run.few_aside, run.even, even) in
+      let none : length c.out ≡ 0 = omega (arith, run.put, run.even, even) in
       let caused = caused_still refuses c None run.stopped run.caused in
       record {
         out = nil_from_length c.out none;
@@ -385,9 +419,9 @@ caused_bare f c plan (Some NoMemory) h = tt
 caused_bare f c plan (Some Keep) h = tt
 caused_bare f c plan (Some (Launch p)) h = h
 
-pub run_bare : (n : ℕ) (g : Request → Answer → Type 0) (f : Request → Type 0) (lapses : Entry → Bool) (rows : List Entry) (hand : List Request) (answers : ℕ) (c : CoreState) (h : Held) (stop : Option Stop) (plan : Option Plan)
-    → IsRun n g f lapses rows hand answers c h stop → IsRun n g f lapses rows hand answers (record c { plan = plan }) h stop
-run_bare n g f lapses rows hand answers c h stop plan run = record {
+pub run_bare : (n : ℕ) (g : Request → Answer → Type 0) (f : Request → Type 0) (lapses : Entry → Bool) (rows : List Entry) (answers : ℕ) (c : CoreState)
+    (h : Held) (stop : Option Stop) (plan : Option Plan) → IsRun n g f lapses rows answers c h stop → IsRun n g f lapses rows answers (record c { plan = plan }) h stop
+run_bare n g f lapses rows answers c h stop plan run = record {
   fed = run.fed;
   greedy = run.greedy;
   stopped = run.stopped;
@@ -396,36 +430,11 @@ run_bare n g f lapses rows hand answers c h stop plan run = record {
   within = run.within;
   few = run.few;
   most = run.most;
-  aside = run.aside;
-  few_aside = run.few_aside;
   put = run.put;
   collected = run.collected;
   even = run.even;
   waits = run.waits;
   fresh = run.fresh;
-}
-
-done_bare : (c : CoreState) (plan : Option Plan) → IsDone c → IsDone (record c { plan = plan })
-done_bare c plan h = record { out = h.out; few = h.few; clean = h.clean }
-
--- what a run leaves says nothing of the plan
-pub ran_bare : (n : ℕ) (g : Request → Answer → Type 0) (f : Request → Type 0) (lapses : Entry → Bool) (rows : List Entry) (c : CoreState) (stop : Option Stop) (four : Counts) (plan : Option Plan)
-    → HasRun n g f lapses rows c stop four → HasRun n g f lapses rows (record c { plan = plan }) stop four
-ran_bare n g f lapses rows c stop four plan run = record {
-  fed = run.fed;
-  greedy = run.greedy;
-  stopped = run.stopped;
-  moment = caused_bare f (at_stop c) plan stop run.moment;
-  caused = caused_bare f c plan stop run.caused;
-  given = run.given;
-  aside = run.aside;
-  few_aside = run.few_aside;
-  counts = run.counts;
-  put = run.put;
-  least = run.least;
-  waits = run.waits;
-  fresh = run.fresh;
-  clean = λ none. done_bare c plan (run.clean none);
 }
 
 -- ---- from the beginning to the end
@@ -445,40 +454,41 @@ caused_tells g f k l c t (Some Keep) h = h
 caused_tells g f k l c t (Some (Launch p)) (j, taken, at, refused, job) = (j, taken, at, t.refuses j.request refused, job)
 
 -- what the launcher's relations say of a whole run
-pub run_ended : (n : ℕ) (g : Request → Answer → Type 0) (f : Request → Type 0) (k : Request → Answer → Type 0) (l : Request → Type 0) (lapses other : Entry → Bool) (rows : List Entry) (c : CoreState) (h : Held) (stop : Option Stop) (four : Counts)
-    → IsRun n g f lapses rows [] 0 c h stop → Tells g f k l → other ≡ lapses → AllEqual four h.put → h.put ≡ h.collected → (stop ≡ None → IsDone c) → HasRun n k l other rows c stop four
-run_ended n g f k l lapses other rows c h stop four run t same all even done = record {
+pub run_ended : (n : ℕ) (g : Request → Answer → Type 0) (f : Request → Type 0) (k : Request → Answer → Type 0) (l : Request → Type 0)
+    (lapses other : Entry → Bool) (rows : List Entry) (c : CoreState) (h : Held) (stop : Option Stop) (four : Counts)
+    → IsRun n g f lapses rows 0 c h stop → Tells g f k l → other ≡ lapses → AllEqual four h.put → (stop ≡ None → IsDone c)
+    → HasRun n k l other rows c stop four
+run_ended n g f k l lapses other rows c h stop four run t same all done = record {
   fed = run.fed;
   greedy = run.greedy;
   stopped = run.stopped;
   moment = caused_tells g f k l (at_stop c) t stop run.caused;
   caused = caused_tells g f k l c t stop (caused_still f c stop run.stopped run.caused);
   given = All-weaker (IsGiven g rows c.taken) (IsGiven k rows c.taken) (λ e. given_tells g f k l rows c.taken t e.request e.answer e.source) c.journal run.given;
-  aside = run.aside;
-  few_aside = run.few_aside;
   counts = (refl, all.1 ∙ sym all.0, all.2 ∙ sym all.0, all.3 ∙ sym all.0);
-  put = omega (arith, all.0, run.put);
-  least = omega (arith, all.0, run.collected, even);
-  waits = subst (λ (x : Entry → Bool). AreDue x rows run.aside c.taken c.out) (sym same) run.waits;
-  fresh = subst (λ (x : Entry → Bool). WereDue x rows run.aside c.taken c.journal) (sym same) run.fresh;
+  put = all.0 ∙ run.put;
+  waits = subst (λ (x : Entry → Bool). AreDue x rows c.taken c.out) (sym same) run.waits;
+  fresh = subst (λ (x : Entry → Bool). WereDue x rows c.taken c.journal) (sym same) run.fresh;
   clean = done;
 }
 
-none_due : (lapses : Entry → Bool) (rows : List Entry) (others : List Request) (out : List TakenJob) → AreDue lapses rows others [] out
+none_due : (lapses : Entry → Bool) (rows : List Entry) (out : List TakenJob) → AreDue lapses rows [] out
 unfolding AreDue
-none_due lapses rows others out j at is_out = absurd (none_within j at)
+none_due lapses rows out j at is_out = absurd (none_within j at)
 
-none_were : (lapses : Entry → Bool) (rows : List Entry) (others : List Request) (taken : List TakenJob) → WereDue lapses rows others taken []
+none_were : (lapses : Entry → Bool) (rows : List Entry) (taken : List TakenJob) → WereDue lapses rows taken []
 unfolding WereDue
-none_were lapses rows others taken e j at launched was same = absurd (none_within e at)
+none_were lapses rows taken e j at launched was same = absurd (none_within e at)
 
 -- a run begins, with a look at the flow over the empty journal
-pub run_started : (n : ℕ) (g : Request → Answer → Type 0) (f : Request → Type 0) (lapses : Entry → Bool) (rows : List Entry) (o : Origin) (plan : Option Plan) (stop : Option Stop) → Judges (started o plan) None stop
-    → IsRun n g f lapses rows [] 0 (noted None stop (started o plan)) (held 0 0) stop
+pub run_started : (n : ℕ) (g : Request → Answer → Type 0) (f : Request → Type 0) (lapses : Entry → Bool) (rows : List Entry) (o : Origin)
+    (plan : Option Plan) (stop : Option Stop) → Judges (started o plan) None stop
+    → IsRun n g f lapses rows 0 (noted None stop (started o plan)) (held 0 0) stop
 run_started n g f lapses rows o plan stop m = by_stop stop m
   where
-    begun : (ss : List Step) (s : Option Stop) → greedy o n [] [] ss → has_stopped ss ≡ is_some s → Caused f (at_stop (record (started o plan) { steps = ss })) s
-        → IfNone s (launched [] + 0 ≡ (held 0 0).collected) → IsRun n g f lapses rows [] 0 (record (started o plan) { steps = ss }) (held 0 0) s
+    begun : (ss : List Step) (s : Option Stop) → greedy o n [] [] ss → has_stopped ss ≡ is_some s
+        → Caused f (at_stop (record (started o plan) { steps = ss })) s
+        → IfNone s (launched [] + 0 ≡ (held 0 0).collected) → IsRun n g f lapses rows 0 (record (started o plan) { steps = ss }) (held 0 0) s
     begun ss s well was caused even = record {
       fed = refl;
       greedy = well;
@@ -488,16 +498,14 @@ run_started n g f lapses rows o plan stop m = by_stop stop m
       within = refl;
       few = omega arith;
       most = omega arith;
-      aside = [];
-      few_aside = omega arith;
       put = refl;
       collected = omega arith;
       even = even;
-      waits = none_due lapses rows [] [];
-      fresh = none_were lapses rows [] [];
+      waits = none_due lapses rows [];
+      fresh = none_were lapses rows [];
     }
 
-    by_stop : (s : Option Stop) → Judges (started o plan) None s → IsRun n g f lapses rows [] 0 (noted None s (started o plan)) (held 0 0) s
+    by_stop : (s : Option Stop) → Judges (started o plan) None s → IsRun n g f lapses rows 0 (noted None s (started o plan)) (held 0 0) s
     by_stop None h = begun [] None (refl, refl) refl h refl
     by_stop (Some Failed) h = begun (Stopped ∷ []) (Some Failed) (refl, refl) refl h tt
     by_stop (Some TooMany) h = begun (Stopped ∷ []) (Some TooMany) (refl, refl) refl h tt
@@ -506,7 +514,8 @@ run_started n g f lapses rows o plan stop m = by_stop stop m
     by_stop (Some (Launch p)) h = absurd h
 
 -- a run for which there was no memory
-pub run_unstarted : (n : ℕ) (g : Request → Answer → Type 0) (f : Request → Type 0) (lapses : Entry → Bool) (rows : List Entry) (o : Origin) (plan : Option Plan) (four : Counts) → AllEqual four 0
+pub run_unstarted : (n : ℕ) (g : Request → Answer → Type 0) (f : Request → Type 0) (lapses : Entry → Bool) (rows : List Entry) (o : Origin)
+    (plan : Option Plan) (four : Counts) → AllEqual four 0
     → HasRun n g f lapses rows (stopped (started o plan)) (Some NoMemory) four
 run_unstarted n g f lapses rows o plan four zeros = record {
   fed = refl;
@@ -515,12 +524,9 @@ run_unstarted n g f lapses rows o plan four zeros = record {
   moment = tt;
   caused = tt;
   given = All-nil (IsGiven g rows []);
-  aside = [];
-  few_aside = omega arith;
   counts = (refl, zeros.1 ∙ sym zeros.0, zeros.2 ∙ sym zeros.0, zeros.3 ∙ sym zeros.0);
   put = omega (arith, zeros.0);
-  least = omega (arith, zeros.0);
-  waits = none_due lapses rows [] [];
-  fresh = none_were lapses rows [] [];
+  waits = none_due lapses rows [];
+  fresh = none_were lapses rows [];
   clean = λ e. cc;
 }

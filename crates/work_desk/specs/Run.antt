@@ -1,5 +1,5 @@
 -- What holds all along a run.
-use Rattle.std.specs.Prelude.{◌≡◌, ℕ, ◌+◌, ◌≤◌, ◌⊎◌, Bool, true, false, List, [], ◌∷◌, ◌++◌, length, All, Contains, cond, count_by, Option, Some, None, IfNone, if◌then◌else◌, is_some}
+use Rattle.std.specs.Prelude.{◌≡◌, ℕ, ◌+◌, ◌<◌, ◌≤◌, Bool, true, false, List, [], ◌∷◌, length, All, Contains, count_by, Option, Some, None, IfNone, if◌then◌else◌, is_some}
 use Rattle.std.specs.List.{list_any}
 use Rattle.wdl_base.specs.declared.answer.Answer.{Answer}
 use Rattle.wdl_base.specs.declared.entry.Entry.{Entry}
@@ -8,11 +8,11 @@ use Rattle.wdl_base.specs.declared.entry.Source.TheVariants.{Launched, Kept}
 use Rattle.wdl_base.specs.declared.place.Segment.{Segment}
 use Rattle.wdl_base.specs.declared.request.Request.{Request}
 use Rattle.wdl_value.specs.Tables.{is_at, row_of}
-use Rattle.ready_core.specs.Cores.{CoreState, fed_at, has_stopped, requests}
+use Rattle.ready_core.specs.Cores.{CoreState, Takes, fed_at, has_stopped, requests}
 use Rattle.ready_core.specs.Rows.{TakenJob, is_usable}
 use Rattle.work_desk.specs.Held.{Held}
 use Rattle.work_desk.specs.Greedy.{at_stop, greedy}
-use Rattle.work_desk.specs.Stops.{Caused, most_aside}
+use Rattle.work_desk.specs.Stops.{Caused}
 use Rattle.work_desk.specs.declared.stop.Stop.{Stop}
 
 -- some row has the job's place, attempt and request, and a status that is a success of it
@@ -62,33 +62,20 @@ launched = count_by (λ (e : Entry). is_launched e.source)
 abbrev pub IsDue : (Entry → Bool) → List Entry → TakenJob → Type 0
 IsDue lapses rows j = (row : Entry) → Contains rows row → is_usable j row ≡ true → lapses row ≡ true
 
--- the job is one of these, or each row that is usable for it lapses
-abbrev pub IsDueOr : (Entry → Bool) → List Entry → List Request → TakenJob → Type 0
-IsDueOr lapses rows others j = Contains others j.request ⊎ IsDue lapses rows j
-
 -- the taken jobs that are out
-unfoldable pub AreDue : (Entry → Bool) → List Entry → List Request → List TakenJob → List TakenJob → Type 0
-AreDue lapses rows others taken out = (j : TakenJob) → Contains taken j → Contains (requests out) j.request → IsDueOr lapses rows others j
+unfoldable pub AreDue : (Entry → Bool) → List Entry → List TakenJob → List TakenJob → Type 0
+AreDue lapses rows taken out = (j : TakenJob) → Contains taken j → Contains (requests out) j.request → IsDue lapses rows j
 
 -- the taken jobs whose answer was launched
-unfoldable pub WereDue : (Entry → Bool) → List Entry → List Request → List TakenJob → List Entry → Type 0
-WereDue lapses rows others taken journal =
-    (e : Entry) (j : TakenJob) → Contains journal e → e.source ≡ Launched → Contains taken j → j.request ≡ e.request → IsDueOr lapses rows others j
+unfoldable pub WereDue : (Entry → Bool) → List Entry → List TakenJob → List Entry → Type 0
+WereDue lapses rows taken journal =
+    (e : Entry) (j : TakenJob) → Contains journal e → e.source ≡ Launched → Contains taken j → j.request ≡ e.request → IsDue lapses rows j
 
--- ---- what the caller has in hand
+-- ---- the run
 
--- the request of a job that is settled by its row
-abbrev pub job_in_hand : Source → Request → List Request
-job_in_hand Launched r = []
-job_in_hand Kept r = r ∷ []
-
--- an answer that was collected
-abbrev pub answer_in_hand : Source → ℕ
-answer_in_hand s = cond (is_launched s) 1 0
-
--- With these jobs and so many collected answers in the caller's hand. Those set aside were taken and are neither put on the desk
--- nor settled, nor will be.
-pub record IsRun (n : ℕ) (gives : Request → Answer → Type 0) (refuses : Request → Type 0) (lapses : Entry → Bool) (rows : List Entry) (hand : List Request) (answers : ℕ) (c : CoreState) (h : Held) (stop : Option Stop) : Type 0 where
+-- With so many collected answers in the caller's hand.
+pub record IsRun (n : ℕ) (gives : Request → Answer → Type 0) (refuses : Request → Type 0) (lapses : Entry → Bool) (rows : List Entry) (answers : ℕ)
+    (c : CoreState) (h : Held) (stop : Option Stop) : Type 0 where
   pub fed : fed_at c.origin c.journal ≡ true
   pub greedy : greedy c.origin n c.journal c.taken c.steps
   pub stopped : has_stopped c.steps ≡ is_some stop
@@ -97,13 +84,19 @@ pub record IsRun (n : ℕ) (gives : Request → Answer → Type 0) (refuses : Re
   pub within : length c.out + length c.journal ≡ length c.taken
   pub few : length c.taken ≤ 20000
   pub most : length c.out ≤ n
-  pub aside : List Request
-  pub few_aside : length aside ≤ most_aside stop
-  pub put : h.put + length hand + length aside ≡ launched c.journal + length c.out
+  pub put : h.put ≡ launched c.journal + length c.out
   pub collected : launched c.journal + answers ≤ h.collected
   pub even : IfNone stop (launched c.journal + answers ≡ h.collected)
-  pub waits : AreDue lapses rows (hand ++ aside) c.taken c.out
-  pub fresh : WereDue lapses rows (hand ++ aside) c.taken c.journal
+  pub waits : AreDue lapses rows c.taken c.out
+  pub fresh : WereDue lapses rows c.taken c.journal
+
+-- The job was taken last, by a run that had not stopped and had a worker free.
+pub record HasTaken (n : ℕ) (gives : Request → Answer → Type 0) (refuses : Request → Type 0) (lapses : Entry → Bool) (rows : List Entry) (j : TakenJob)
+    (c : CoreState) (h : Held) : Type 0 where
+  pub before : CoreState
+  pub run : IsRun n gives refuses lapses rows 0 before h None
+  pub takes : Takes before j c
+  pub free : length before.out < n
 
 -- what one launcher says, the other says
 pub record Tells (g : Request → Answer → Type 0) (f : Request → Type 0) (k : Request → Answer → Type 0) (l : Request → Type 0) : Type 0 where

@@ -1,5 +1,5 @@
 -- Why a run stops.
-use Rattle.std.specs.Prelude.{◌≡◌, ℕ, true, false, Option, Some, None, Contains, ⊤}
+use Rattle.std.specs.Prelude.{◌≡◌, true, false, Option, Some, None, Contains, ⊤}
 use Rattle.wdl_base.specs.declared.request.Request.{Request}
 use Rattle.wdl_port.specs.declared.fault.KeepFault.{KeepFault}
 use Rattle.wdl_port.specs.declared.fault.KeepFault.TheVariants as fault
@@ -24,16 +24,6 @@ abbrev pub noted : Option Stop → Option Stop → CoreState → CoreState
 noted None None c = c
 noted None (Some why) c = stopped c
 noted (Some s) t c = c
-
--- How many jobs may have been taken and neither put on the desk nor settled: the one whose row was looked at where the keeper
--- failed or memory was wanting.
-abbrev pub most_aside : Option Stop → ℕ
-most_aside None = 0
-most_aside (Some Failed) = 0
-most_aside (Some TooMany) = 0
-most_aside (Some (Launch p)) = 0
-most_aside (Some Keep) = 1
-most_aside (Some NoMemory) = 1
 
 -- The stop after a look at the flow over the journal: the first one stays, and without one there is none in the flow.
 abbrev pub Judges : CoreState → Option Stop → Option Stop → Type 0

@@ -1,8 +1,9 @@
-ghost use Rattle.std.specs.Prelude.{◌≡◌, ◌<◌, ◌+◌, ◌∷◌, [], true, None, Some, IsSome, Contains, length};
+ghost use Rattle.std.specs.Prelude.{◌≡◌, ◌<◌, ◌+◌, true, None, Some, IsSome, Contains, length};
 ghost use Rattle.std.specs.Bool.{OnFalse};
+ghost use Rattle.wdl_base.specs.declared.entry.Entry.{Entry};
 ghost use Rattle.wdl_base.specs.declared.entry.Source.TheVariants.{Kept, Launched};
-ghost use Rattle.wdl_port.specs.Rows.{are_kept};
-ghost use Rattle.ready_core.specs.Cores.{AreHeld, idle_at, started};
+ghost use Rattle.wdl_port.specs.Rows.{are_kept, kept_row};
+ghost use Rattle.ready_core.specs.Cores.{AreHeld, CoreState, Takes, WasTaken, idle_at, stopped};
 ghost use Rattle.ready_core.specs.Launches.{Refusal};
 ghost use Rattle.ready_core.specs.Rows.{is_usable};
 ghost use Rattle.work_desk.specs.Greedy.{Busy};
@@ -10,7 +11,7 @@ ghost use Rattle.work_desk.specs.Held.{held};
 ghost use Rattle.work_desk.specs.Keeping.{Holds, HoldsBeside, keeper_view};
 ghost use Rattle.work_desk.specs.Paying.{StaysPaid};
 ghost use Rattle.work_desk.specs.Ran.{IsDone};
-ghost use Rattle.work_desk.specs.Run.{IsGiven, IsRun, Tells, answer_in_hand, job_in_hand};
+ghost use Rattle.work_desk.specs.Run.{HasTaken, IsGiven, IsRun, Tells};
 ghost use Rattle.work_desk.specs.Settling.{Settling};
 ghost use Rattle.work_desk.specs.Stops.{NotKeep, noted};
 ghost use Rattle.work_desk.specs.Views.{Good};
@@ -40,21 +41,32 @@ pub(crate) struct Caller<P: Pact> {
 }
 
 impl<P: Pact> Caller<P> {
-    // Settles an answer, and looks at the flow.
-    fn settle<O: Progress, S: Ledger, R: Wait>(
+    // Gives back the job that was taken last, and stops.
+    fn give_back(&mut self, job: Job, why: Stop)
+        requires taken { WasTaken job self.old.core }
+        requires goes_on { self.old.stop ≡ None }
+        ensures core { (c : CoreState) → Takes c job self.old.core → self.new.core ≡ stopped c }
+        ensures shares { self.new.shares ≡ self.old.shares }
+        ensures stop { self.new.stop ≡ Some why }
+    {
+        self.core.give_back(job);
+        halt(&mut self.core, &mut self.stop, why);
+    }
+
+    // Settles an answer that was launched, and looks at the flow.
+    fn settle<S: Ledger, R: Wait>(
         &mut self,
         rt: &R,
         alloc: Global,
         rows: &Rows,
         answered: Answered,
-        progress: &mut O,
         steps: &mut Steps<S>,
     )
-        requires run { IsRun P.workers P.gives P.refuses P.lapses rows.now (job_in_hand answered.source answered.request) (answer_in_hand answered.source) self.old.core self.old.shares self.old.stop }
-        requires goes_on { answered.source ≡ Kept → self.old.stop ≡ None }
-        requires given { IsGiven P.gives rows.now self.old.core.taken answered }
-        requires eager { answered.source ≡ Launched → self.old.stop ≡ None → Busy self.old.core.origin P.workers self.old.core.journal self.old.core.taken }
-        ensures run { IsRun P.workers P.gives P.refuses P.lapses rows.now [] 0 self.new.core self.new.shares self.new.stop }
+        requires run { IsRun P.workers P.gives P.refuses P.lapses rows.now 1 self.old.core self.old.shares self.old.stop }
+        requires launched { answered.source ≡ Launched }
+        requires given { P.gives answered.request answered.answer }
+        requires eager { self.old.stop ≡ None → Busy self.old.core.origin P.workers self.old.core.journal self.old.core.taken }
+        ensures run { IsRun P.workers P.gives P.refuses P.lapses rows.now 0 self.new.core self.new.shares self.new.stop }
         ensures shares { self.new.shares ≡ self.old.shares }
         ensures settling { Settling answered self.old.core self.old.stop self.new.core self.new.stop }
         ensures paid { StaysPaid self.old.core self.old.stop steps.old self.new.core self.new.stop steps.new }
@@ -62,6 +74,34 @@ impl<P: Pact> Caller<P> {
         match self.core.settle(alloc, answered, steps) {
             Ok(()) => judge(&mut self.core, &mut self.stop),
             Err(SettleFault::NoMemory(_)) => halt(&mut self.core, &mut self.stop, Stop::NoMemory),
+            Err(SettleFault::Stranger(_)) => wait_for_good(rt),
+        }
+    }
+
+    // Settles the job that was taken last by the answer of its row, and looks at the flow. Where
+    // memory is wanting, the job is given back.
+    fn settle_kept<S: Ledger, R: Wait>(
+        &mut self,
+        rt: &R,
+        alloc: Global,
+        rows: &Rows,
+        job: Job,
+        answered: Answered,
+        steps: &mut Steps<S>,
+    )
+        requires taken { HasTaken P.workers P.gives P.refuses P.lapses rows.now job self.old.core self.old.shares }
+        requires goes_on { self.old.stop ≡ None }
+        requires kept { answered.source ≡ Kept }
+        requires asked { answered.request ≡ job.request }
+        requires given { IsGiven P.gives rows.now self.old.core.taken answered }
+        ensures run { IsRun P.workers P.gives P.refuses P.lapses rows.now 0 self.new.core self.new.shares self.new.stop }
+        ensures origin { self.new.core.origin ≡ self.old.core.origin }
+        ensures holds { (c : CoreState) (row : Entry) → Takes c job self.old.core → Contains rows.now row → row ≡ kept_row answered → HoldsBeside P.gives rows.now row c self.old.stop self.new.core self.new.stop }
+        ensures paid { StaysPaid self.old.core self.old.stop steps.old self.new.core self.new.stop steps.new }
+    {
+        match self.core.settle(alloc, answered, steps) {
+            Ok(()) => judge(&mut self.core, &mut self.stop),
+            Err(SettleFault::NoMemory(_)) => self.give_back(job, Stop::NoMemory),
             Err(SettleFault::Stranger(_)) => wait_for_good(rt),
         }
     }
@@ -78,7 +118,8 @@ impl<P: Pact> Caller<P> {
         desk.put(rt, job, &mut self.shares);
     }
 
-    // Settles a job that was taken by the row that stands for it.
+    // Settles the job that was taken last by the row that stands for it. Where memory is wanting, the
+    // job is given back.
     fn reuse<O: Progress, S: Ledger, R: Wait>(
         &mut self,
         rt: &R,
@@ -89,30 +130,29 @@ impl<P: Pact> Caller<P> {
         progress: &mut O,
         steps: &mut Steps<S>,
     )
-        requires run { IsRun P.workers P.gives P.refuses P.lapses rows.now (job.request ∷ []) 0 self.old.core self.old.shares self.old.stop }
+        requires taken { HasTaken P.workers P.gives P.refuses P.lapses rows.now job self.old.core self.old.shares }
         requires goes_on { self.old.stop ≡ None }
-        requires taken { Contains self.old.core.taken job }
         requires row { Contains rows.now row.now }
         requires usable { is_usable job row.now ≡ true }
         requires kept { are_kept rows.now ≡ true }
-        ensures run { IsRun P.workers P.gives P.refuses P.lapses rows.now [] 0 self.new.core self.new.shares self.new.stop }
+        ensures run { IsRun P.workers P.gives P.refuses P.lapses rows.now 0 self.new.core self.new.shares self.new.stop }
         ensures origin { self.new.core.origin ≡ self.old.core.origin }
-        ensures holds { HoldsBeside P.gives rows.now row.now self.old.core self.old.stop self.new.core self.new.stop }
+        ensures holds { (c : CoreState) → Takes c job self.old.core → HoldsBeside P.gives rows.now row.now c self.old.stop self.new.core self.new.stop }
         ensures paid { StaysPaid self.old.core self.old.stop steps.old self.new.core self.new.stop steps.new }
     {
         let Ok(row) = row.copy(alloc) else {
-            halt(&mut self.core, &mut self.stop, Stop::NoMemory);
+            self.give_back(job, Stop::NoMemory);
             return;
         };
         let Ok(answered) = job.kept(row) else {
             unreachable!();
         };
         progress.kept(answered.entry());
-        self.settle(rt, alloc, rows, answered, progress, steps);
+        self.settle_kept(rt, alloc, rows, job, answered, steps);
     }
 
     // Takes a job, if one is to be taken, and settles it by its row, if that stands, or puts it on
-    // the desk. False where there was none.
+    // the desk. Where its row cannot be looked at, it is given back. False where there was none.
     fn take_one<K: Keeper, O: Progress, S: Ledger, R: Wait>(
         &mut self,
         rt: &R,
@@ -123,12 +163,12 @@ impl<P: Pact> Caller<P> {
         progress: &mut O,
         steps: &mut Steps<S>,
     ) -> bool
-        requires run { IsRun P.workers P.gives P.refuses P.lapses rows.now [] 0 self.old.core self.old.shares self.old.stop }
+        requires run { IsRun P.workers P.gives P.refuses P.lapses rows.now 0 self.old.core self.old.shares self.old.stop }
         requires goes_on { self.old.stop ≡ None }
         requires free { length self.old.core.out < P.workers }
         requires started { IsSome (K.path keeper.old) }
         requires lapses { K.lapses keeper.old ≡ P.lapses }
-        ensures run { IsRun P.workers P.gives P.refuses P.lapses rows.now [] 0 self.new.core self.new.shares self.new.stop }
+        ensures run { IsRun P.workers P.gives P.refuses P.lapses rows.now 0 self.new.core self.new.shares self.new.stop }
         ensures origin { self.new.core.origin ≡ self.old.core.origin }
         ensures path { K.path keeper.new ≡ K.path keeper.old }
         ensures lapses { K.lapses keeper.new ≡ K.lapses keeper.old }
@@ -149,7 +189,7 @@ impl<P: Pact> Caller<P> {
                 progress.lapsed(job.request());
                 self.begin(rt, desk, job, progress);
             }
-            Err(fault) => halt(&mut self.core, &mut self.stop, stop_of(fault)),
+            Err(fault) => self.give_back(job, stop_of(fault)),
         }
         true
     }
@@ -167,11 +207,11 @@ impl<P: Pact> Caller<P> {
         progress: &mut O,
         steps: &mut Steps<S>,
     )
-        requires run { IsRun P.workers P.gives P.refuses P.lapses rows.now [] 0 self.old.core self.old.shares self.old.stop }
+        requires run { IsRun P.workers P.gives P.refuses P.lapses rows.now 0 self.old.core self.old.shares self.old.stop }
         requires workers { workers ≡ P.workers }
         requires started { IsSome (K.path keeper.old) }
         requires lapses { K.lapses keeper.old ≡ P.lapses }
-        ensures run { IsRun P.workers P.gives P.refuses P.lapses rows.now [] 0 self.new.core self.new.shares self.new.stop }
+        ensures run { IsRun P.workers P.gives P.refuses P.lapses rows.now 0 self.new.core self.new.shares self.new.stop }
         ensures origin { self.new.core.origin ≡ self.old.core.origin }
         ensures path { K.path keeper.new ≡ K.path keeper.old }
         ensures lapses { K.lapses keeper.new ≡ K.lapses keeper.old }
@@ -206,13 +246,13 @@ impl<P: Pact> Caller<P> {
         progress: &mut O,
         steps: &mut Steps<S>,
     )
-        requires run { IsRun P.workers P.gives P.refuses P.lapses rows.now [] 1 self.old.core self.old.shares self.old.stop }
+        requires run { IsRun P.workers P.gives P.refuses P.lapses rows.now 1 self.old.core self.old.shares self.old.stop }
         requires launched { answered.source ≡ Launched }
         requires given { P.gives answered.request answered.answer }
         requires busy { self.old.stop ≡ None → Busy self.old.core.origin P.workers self.old.core.journal self.old.core.taken }
         requires held { AreHeld self.old.core }
         requires started { IsSome (K.path keeper.old) }
-        ensures run { IsRun P.workers P.gives P.refuses P.lapses rows.now [] 0 self.new.core self.new.shares self.new.stop }
+        ensures run { IsRun P.workers P.gives P.refuses P.lapses rows.now 0 self.new.core self.new.shares self.new.stop }
         ensures shares { self.new.shares ≡ self.old.shares }
         ensures origin { self.new.core.origin ≡ self.old.core.origin }
         ensures path { K.path keeper.new ≡ K.path keeper.old }
@@ -222,10 +262,10 @@ impl<P: Pact> Caller<P> {
     {
         see_place(&answered.entry().request.place);
         match keeper.put(alloc, answered.entry()) {
-            Ok(()) => self.settle(rt, alloc, rows, answered, progress, steps),
+            Ok(()) => self.settle(rt, alloc, rows, answered, steps),
             Err(KeepFault::Failed) => {
                 halt(&mut self.core, &mut self.stop, Stop::Keep);
-                self.settle(rt, alloc, rows, answered, progress, steps);
+                self.settle(rt, alloc, rows, answered, steps);
             }
             Err(KeepFault::NoMemory) => halt(&mut self.core, &mut self.stop, Stop::NoMemory),
         }
@@ -233,10 +273,10 @@ impl<P: Pact> Caller<P> {
 
     // Stops at a job that the launcher refused.
     fn refuse<R: Wait>(&mut self, rt: &R, alloc: Global, rows: &Rows, job: Job)
-        requires run { IsRun P.workers P.gives P.refuses P.lapses rows.now [] 1 self.old.core self.old.shares self.old.stop }
+        requires run { IsRun P.workers P.gives P.refuses P.lapses rows.now 1 self.old.core self.old.shares self.old.stop }
         requires refused { P.refuses job.request }
         requires held { AreHeld self.old.core }
-        ensures run { IsRun P.workers P.gives P.refuses P.lapses rows.now [] 0 self.new.core self.new.shares self.new.stop }
+        ensures run { IsRun P.workers P.gives P.refuses P.lapses rows.now 0 self.new.core self.new.shares self.new.stop }
         ensures shares { self.new.shares ≡ self.old.shares }
         ensures core { self.new.core ≡ noted self.old.stop self.new.stop self.old.core }
         ensures stop { NotKeep self.old.stop self.new.stop }
@@ -256,10 +296,10 @@ impl<P: Pact> Caller<P> {
 
     // Stops at a job that was not launched.
     fn give_up<R: Wait>(&mut self, rt: &R, alloc: Global, rows: &Rows, unlaunched: Unlaunched)
-        requires run { IsRun P.workers P.gives P.refuses P.lapses rows.now [] 1 self.old.core self.old.shares self.old.stop }
+        requires run { IsRun P.workers P.gives P.refuses P.lapses rows.now 1 self.old.core self.old.shares self.old.stop }
         requires good { Refusal unlaunched.fault (P.refuses unlaunched.job.request) }
         requires held { AreHeld self.old.core }
-        ensures run { IsRun P.workers P.gives P.refuses P.lapses rows.now [] 0 self.new.core self.new.shares self.new.stop }
+        ensures run { IsRun P.workers P.gives P.refuses P.lapses rows.now 0 self.new.core self.new.shares self.new.stop }
         ensures shares { self.new.shares ≡ self.old.shares }
         ensures core { self.new.core ≡ noted self.old.stop self.new.stop self.old.core }
         ensures stop { NotKeep self.old.stop self.new.stop }
@@ -282,12 +322,12 @@ impl<P: Pact> Caller<P> {
         progress: &mut O,
         steps: &mut Steps<S>,
     )
-        requires run { IsRun P.workers P.gives P.refuses P.lapses rows.now [] 1 self.old.core self.old.shares self.old.stop }
+        requires run { IsRun P.workers P.gives P.refuses P.lapses rows.now 1 self.old.core self.old.shares self.old.stop }
         requires good { Good P.gives P.refuses finished }
         requires busy { self.old.stop ≡ None → Busy self.old.core.origin P.workers self.old.core.journal self.old.core.taken }
         requires held { AreHeld self.old.core }
         requires started { IsSome (K.path keeper.old) }
-        ensures run { IsRun P.workers P.gives P.refuses P.lapses rows.now [] 0 self.new.core self.new.shares self.new.stop }
+        ensures run { IsRun P.workers P.gives P.refuses P.lapses rows.now 0 self.new.core self.new.shares self.new.stop }
         ensures shares { self.new.shares ≡ self.old.shares }
         ensures origin { self.new.core.origin ≡ self.old.core.origin }
         ensures path { K.path keeper.new ≡ K.path keeper.old }
@@ -323,12 +363,12 @@ impl<P: Pact> Caller<P> {
         progress: &mut O,
         steps: &mut Steps<S>,
     )
-        requires run { IsRun P.workers P.gives P.refuses P.lapses rows.now [] 0 self.old.core self.old.shares self.old.stop }
+        requires run { IsRun P.workers P.gives P.refuses P.lapses rows.now 0 self.old.core self.old.shares self.old.stop }
         requires workers { (workers ≡ P.workers) × (0 < workers) }
         requires tells { Tells (L.gives launcher.now) (L.refuses launcher.now) P.gives P.refuses }
         requires started { IsSome (K.path keeper.old) }
         requires lapses { K.lapses keeper.old ≡ P.lapses }
-        ensures run { IsRun P.workers P.gives P.refuses P.lapses rows.now [] 0 self.new.core self.new.shares self.new.stop }
+        ensures run { IsRun P.workers P.gives P.refuses P.lapses rows.now 0 self.new.core self.new.shares self.new.stop }
         ensures origin { self.new.core.origin ≡ self.old.core.origin }
         ensures lapses { K.lapses keeper.new ≡ K.lapses keeper.old }
         ensures even { self.new.shares.put ≡ self.new.shares.collected }

@@ -11,7 +11,8 @@ pub loop-at-preserved : goal.loop-at-preserved
 loop-at-preserved c =
     let r = c.args.request.now in
     let job = c.index-jobs-at.result in
-    none_through c.args.jobs.now c.loop-at.at r job c.index-jobs-at.is (ap (λ (q : Request). same_request q r) (sym c.request.ensures.request) ∙ sym c.same_request.ensures ∙ c.if-same_request.false) c.loop-at.invariant
+    none_through c.args.jobs.now c.loop-at.at r job c.index-jobs-at.is
+    (ap (λ (q : Request). same_request q r) (sym c.request.ensures.request) ∙ sym c.same_request.ensures ∙ c.if-same_request.false) c.loop-at.invariant
 
 pub returns : goal.returns
 returns c =

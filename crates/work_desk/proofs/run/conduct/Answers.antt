@@ -1,4 +1,4 @@
-use Rattle.std.proofs.Common.{[], ℕ, sym, subst}
+use Rattle.std.proofs.Common.{ℕ, sym, subst}
 use Rattle.std.specs.Prelude.{None}
 use Rattle.ready_core.specs.Cores.{CoreState}
 use Rattle.work_desk.specs.Held.{held}
@@ -18,8 +18,9 @@ drive-requires-clause-run g c =
     let stop = c.judge.new.stop in
     let core = c.args.core in
     rw (c.judge.ensures.noted, c.requires.shares)
-    (subst (λ (x : CoreState). IsRun p.workers p.gives p.refuses p.lapses c.args.rows.now [] 0 (noted None stop x) (held 0 0) stop) (sym c.requires.core)
-    (run_started p.workers p.gives p.refuses p.lapses c.args.rows.now core.origin core.plan stop (subst (λ (x : CoreState). Judges x None stop) c.requires.core c.judge.ensures.judged)))
+    (subst (λ (x : CoreState). IsRun p.workers p.gives p.refuses p.lapses c.args.rows.now 0 (noted None stop x) (held 0 0) stop) (sym c.requires.core)
+    (run_started p.workers p.gives p.refuses p.lapses c.args.rows.now core.origin core.plan stop
+    (subst (λ (x : CoreState). Judges x None stop) c.requires.core c.judge.ensures.judged)))
 
 pub returns-clause-run : goal.returns-clause-run
 returns-clause-run g c =
@@ -29,8 +30,12 @@ returns-clause-run g c =
     let gives = l.gives c.args.launcher.now in
     let refuses = l.refuses c.args.launcher.now in
     let lapses = g.K.Keeper.lapses c.args.keeper.now in
-    subst (λ (n : ℕ). HasRun n gives refuses lapses c.args.rows.now self.core self.stop c.counts-counts.result) (sym c.requires.workers.0)
-    (run_ended p.workers p.gives p.refuses gives refuses p.lapses lapses c.args.rows.now self.core self.shares self.stop c.counts-counts.result c.drive.ensures.run c.requires.back c.requires.lapses c.counts-counts.ensures c.drive.ensures.even c.drive.ensures.done)
+    let rows = c.args.rows.now in
+    let drive = c.drive.ensures in
+    let four = c.counts-counts in
+    subst (λ (n : ℕ). HasRun n gives refuses lapses rows self.core self.stop four.result) (sym c.requires.workers.0)
+    (run_ended p.workers p.gives p.refuses gives refuses p.lapses lapses rows self.core self.shares self.stop four.result drive.run c.requires.back
+    c.requires.lapses four.ensures drive.done)
 
 pub returns-clause-keeper : goal.returns-clause-keeper
 returns-clause-keeper g c =

@@ -12,7 +12,8 @@ returns-in_default-clause-run g c =
     let l = g.L.Launcher in
     let core = c.args.core in
     rw (c.unstarted.ensures.stop, c.unstarted.ensures.core, ap stopped c.requires.core)
-    (run_unstarted c.args.workers (l.gives c.args.launcher.now) (l.refuses c.args.launcher.now) (g.K.Keeper.lapses c.args.keeper.now) c.args.rows core.origin core.plan c.unstarted.result.counts c.unstarted.ensures.counts)
+    (run_unstarted c.args.workers (l.gives c.args.launcher.now) (l.refuses c.args.launcher.now)
+    (g.K.Keeper.lapses c.args.keeper.now) c.args.rows core.origin core.plan c.unstarted.result.counts c.unstarted.ensures.counts)
 
 pub returns-in_default-clause-keeper : goal.returns-in_default-clause-keeper
 returns-in_default-clause-keeper g c =

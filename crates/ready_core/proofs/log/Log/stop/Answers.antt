@@ -16,5 +16,11 @@ returns c =
     let push = c.push_reserved.ensures in
     let room = spare_new steps c.push_reserved.new.self.items goes push.items in
     record {
-      stops = record { same = refl; steps = push.items ∙ sym (stop_new steps goes); steps_len = omega (arith, room.0, room.1, push.len); steps_room = push.capacity };
+      stops = record {
+        same = refl;
+        steps = push.items ∙ sym (stop_new steps goes);
+        steps_len = omega
+            (arith, room.0, room.1, push.len);
+        steps_room = push.capacity;
+      };
     }

@@ -1,4 +1,4 @@
-use Rattle.std.proofs.Common.{[], ◌∷◌, ◌++◌, List, Contains, None, Some, ap, refl, subst, sym, ◌∙◌}
+use Rattle.std.proofs.Common.{[], ◌∷◌, ◌++◌, List, Contains, None, Some, ap, arith, refl, subst, sym, ◌∙◌}
 use Rattle.wdl_base.specs.declared.entry.Entry.{Entry}
 use Rattle.ready_core.specs.declared.course.Course.{Course}
 use Rattle.ready_core.specs.Cores.{CoreState, IsPaidFor, Settles, flow_at, requests}
@@ -30,6 +30,9 @@ returns-in_default-next_turn-clause-fault g c =
     let r = c.args.a.request in
     let place = moved_place c.as_slice.result.now out c.entry.result.now.request r (Some c.in-Some.at) c.as_slice.ensures.value (ap (λ (e : Entry). e.request) c.entry.ensures.entry) c.in-Some.ensures.place in
     (refl, subst (λ (s : CoreState). Contains (requests s.out) r) c.self.view_is (place_held out c.in-Some.at r place))
+
+pub follow-requires : goal.follow-requires
+follow-requires g c = record { room = omega (arith, c.in-Ok.ensures.room.ready) }
 
 pub invariant_of-self-2 : goal.invariant_of-self-2
 invariant_of-self-2 g c =

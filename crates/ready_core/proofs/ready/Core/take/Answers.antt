@@ -8,7 +8,7 @@ use Rattle.ready_core.proofs.ready.Core.take.Goals as goal
 
 pub invariant_of-self-2 : goal.invariant_of-self-2
 invariant_of-self-2 c =
-    run_taken c.self.inside.course c.self.inside.log c.take.new.self c.self.inside.turn _ c.in-Some.pending c.self.invariant c.take.ensures.takes c.in-Some.ensures.items refl refl refl c.in-Some.ensures.cases
+    run_taken c.self.inside.course c.self.inside.log c.take.new.self c.self.inside.turn _ c.in-Some.pending c.self.invariant c.take.ensures.takes c.in-Some.ensures.items refl refl refl c.in-Some.ensures.cases c.in-Some.ensures.capacity
 
 pub returns : goal.returns
 returns c =

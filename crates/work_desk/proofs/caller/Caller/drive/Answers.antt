@@ -1,4 +1,4 @@
-use Rattle.std.proofs.Common.{◌≡◌, ◌<◌, ℕ, [], refl, ◌∙◌, subst, arith}
+use Rattle.std.proofs.Common.{◌≡◌, ◌<◌, ℕ, refl, ◌∙◌, subst, arith}
 use Rattle.std.specs.Prelude.{Option}
 use Rattle.std.proofs.lemmas.Bool.Decides.{nat_tests}
 use Rattle.work_desk.specs.declared.stop.Stop.{Stop}
@@ -36,4 +36,5 @@ returns-then-out-eq0-clause-done g c =
     let even : self.shares.put ≡ self.shares.collected = grind (arith, nat_tests, c.out.ensures.out, c.if-out-eq0.true) in
     let some : 0 < p.workers = subst (λ (n : ℕ). 0 < n) c.requires.workers.0 c.requires.workers.1 in
     λ none. run_clean p.workers p.gives p.refuses p.lapses c.args.rows.now self.core self.shares
-    (subst (λ (s : Option Stop). IsRun p.workers p.gives p.refuses p.lapses c.args.rows.now [] 0 self.core self.shares s) none c.fill.ensures.run) (c.fill.ensures.busy none) even some
+    (subst (λ (s : Option Stop). IsRun p.workers p.gives p.refuses p.lapses c.args.rows.now 0 self.core self.shares s) none c.fill.ensures.run)
+    (c.fill.ensures.busy none) even some

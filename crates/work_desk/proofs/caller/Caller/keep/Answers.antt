@@ -1,45 +1,27 @@
-use Rattle.std.proofs.Common.{[], refl, sym, ap, arith, subst, ◌∙◌, inl, inr}
+use Rattle.std.proofs.Common.{sym, ap, arith, subst, ◌∙◌, inl}
 use Rattle.std.specs.Prelude.{Option, Err}
 use Rattle.wdl_base.specs.declared.entry.Entry.{Entry}
-use Rattle.wdl_base.specs.declared.entry.Source.{Source}
 use Rattle.wdl_base.specs.PlaceReading.{IsPlace}
 use Rattle.wdl_port.specs.Rows.{with_entry}
 use Rattle.work_desk.specs.declared.stop.Stop.{Stop}
 use Rattle.work_desk.specs.declared.stop.Stop.TheVariants.{Keep, NoMemory}
 use Rattle.work_desk.specs.Keeping.{keeper_view}
-use Rattle.work_desk.specs.Run.{IsRun, answer_in_hand, job_in_hand}
 use Rattle.work_desk.specs.Settling.{Settling}
 use Rattle.work_desk.specs.Stops.{halted, noted}
-use Rattle.work_desk.proofs.Kept.{halted_keeps, halted_none, held_parts, hold_answered, hold_failed, hold_left, hold_noted, launched_kept, noted_origin, settling_before}
+use Rattle.work_desk.proofs.Kept.{halted_keeps, halted_none, held_parts, hold_answered, hold_failed, hold_left, hold_noted, noted_origin, settling_before}
 use Rattle.work_desk.proofs.Paying.{paid_halted, paid_through}
 use Rattle.work_desk.proofs.Runs.{run_halted}
 use Rattle.work_desk.proofs.caller.Caller.keep.Goals as goal
-
-pub settle-requires-clause-run : goal.settle-requires-clause-run
-settle-requires-clause-run g c =
-    let p = g.P.Pact in
-    let self = c.args.self.now in
-    let e = c.args.answered in
-    subst (λ (s : Source). IsRun p.workers p.gives p.refuses p.lapses c.args.rows.now (job_in_hand s e.request) (answer_in_hand s) self.core self.shares self.stop) (sym c.requires.launched) c.requires.run
 
 pub settle-requires-in-Err-Failed-clause-run : goal.settle-requires-in-Err-Failed-clause-run
 settle-requires-in-Err-Failed-clause-run g c =
     let p = g.P.Pact in
     let self = c.args.self.now in
-    let e = c.args.answered in
-    let last = halted self.stop Keep in
     rw (c.halt.ensures.noted, c.halt.ensures.halted)
-    (subst (λ (s : Source). IsRun p.workers p.gives p.refuses p.lapses c.args.rows.now (job_in_hand s e.request) (answer_in_hand s) (noted self.stop last self.core) self.shares last) (sym c.requires.launched)
-    (run_halted p.workers p.gives p.refuses p.lapses c.args.rows.now [] 1 1 self.core self.shares Keep self.stop c.requires.run (omega arith) (omega arith) (inr refl) tt))
-
-pub settle-requires-clause-goes_on : goal.settle-requires-clause-goes_on
-settle-requires-clause-goes_on g c = λ kept. absurd (launched_kept (sym c.requires.launched ∙ kept))
-
-pub settle-requires-in-Err-Failed-clause-goes_on : goal.settle-requires-in-Err-Failed-clause-goes_on
-settle-requires-in-Err-Failed-clause-goes_on g c = λ kept. absurd (launched_kept (sym c.requires.launched ∙ kept))
+    (run_halted p.workers p.gives p.refuses p.lapses c.args.rows.now 1 1 self.core self.shares Keep self.stop c.requires.run (omega arith) tt)
 
 pub settle-requires-in-Err-Failed-clause-eager : goal.settle-requires-in-Err-Failed-clause-eager
-settle-requires-in-Err-Failed-clause-eager g c = λ l none. absurd (halted_none c.args.self.now.stop Keep (sym c.halt.ensures.halted ∙ none))
+settle-requires-in-Err-Failed-clause-eager g c = λ none. absurd (halted_none c.args.self.now.stop Keep (sym c.halt.ensures.halted ∙ none))
 
 pub returns-in-Ok-clause-holds : goal.returns-in-Ok-clause-holds
 returns-in-Ok-clause-holds g c =
@@ -70,17 +52,19 @@ returns-in-Err-Failed-clause-holds g c =
     let settled = subst (λ (s : Option Stop). Settling c.args.answered c.halt.new.core s last.core last.stop) c.halt.ensures.halted c.settle-in-Err-Failed.ensures.settling in
     λ begin h. hold_failed g.P.Pact.gives c.args.rows.now begin self.core last.core self.stop last.stop (keeper_view (k.kept old) (k.path old) (k.faults old)) (keeper_view (k.kept new) (k.path new) (k.faults new)) c.args.answered h c.put.ensures.path c.put.ensures.cause.later c.in-Err-Failed.ensures.left
     (c.put.ensures.cause.failed (c.in-Err-Failed.is ∙ ap Err c.in-Err-Failed.field-0-is)) (subst (λ (e : Entry). IsPlace e.request.place) c.entry.ensures.entry c.see_place.ensures.place)
-    (settling_before c.args.answered self.core last.core stop last.stop self.stop stop (subst (λ (x : _). Settling c.args.answered x stop last.core last.stop) c.halt.ensures.noted settled))
+    (settling_before c.args.answered self.core last.core stop last.stop self.stop stop
+    (subst (λ (x : _). Settling c.args.answered x stop last.core last.stop) c.halt.ensures.noted settled))
 
 pub returns-in-Err-NoMemory-clause-run : goal.returns-in-Err-NoMemory-clause-run
 returns-in-Err-NoMemory-clause-run g c =
     let p = g.P.Pact in
     let self = c.args.self.now in
     rw (c.halt-in-Err-NoMemory.ensures.noted, c.halt-in-Err-NoMemory.ensures.halted)
-    (run_halted p.workers p.gives p.refuses p.lapses c.args.rows.now [] 1 0 self.core self.shares NoMemory self.stop c.requires.run (omega arith) (omega arith) (inr refl) tt)
+    (run_halted p.workers p.gives p.refuses p.lapses c.args.rows.now 1 0 self.core self.shares NoMemory self.stop c.requires.run (omega arith) tt)
 
 pub returns-in-Err-NoMemory-clause-origin : goal.returns-in-Err-NoMemory-clause-origin
-returns-in-Err-NoMemory-clause-origin g c = let self = c.args.self.now in rw c.halt-in-Err-NoMemory.ensures.noted (noted_origin self.stop (halted self.stop NoMemory) self.core)
+returns-in-Err-NoMemory-clause-origin g c = let self = c.args.self.now in rw c.halt-in-Err-NoMemory.ensures.noted
+    (noted_origin self.stop (halted self.stop NoMemory) self.core)
 
 pub returns-in-Err-NoMemory-clause-holds : goal.returns-in-Err-NoMemory-clause-holds
 returns-in-Err-NoMemory-clause-holds g c =

@@ -1,11 +1,11 @@
-use Rattle.std.proofs.Common.{sym, subst}
+use Rattle.std.proofs.Common.{arith, sym, subst}
 use Rattle.ready_core.specs.Cores.{CoreState}
-use Rattle.work_desk.specs.Run.{IsRun, answer_in_hand, job_in_hand}
+use Rattle.work_desk.specs.Run.{IsRun}
 use Rattle.work_desk.specs.Stops.{halted, noted}
 use Rattle.work_desk.specs.declared.stop.Stop.TheVariants.{NoMemory}
 use Rattle.work_desk.proofs.Kept.{held_back, settles_well, settling_noted, unsettled, unsettled_well}
 use Rattle.work_desk.proofs.Paying.{paid_halted, paid_noted, paid_settled}
-use Rattle.work_desk.proofs.Runs.{run_bare, run_settled, run_wanting}
+use Rattle.work_desk.proofs.Runs.{run_bare, run_halted, run_settled}
 use Rattle.work_desk.proofs.caller.Caller.settle.Goals as goal
 
 pub returns-in-Ok-clause-run : goal.returns-in-Ok-clause-run
@@ -13,7 +13,8 @@ returns-in-Ok-clause-run g c =
     let p = g.P.Pact in
     let self = c.args.self.now in
     rw c.judge.ensures.noted
-    (run_settled p.workers p.gives p.refuses p.lapses c.args.rows.now self.core c.settle.new.self self.shares c.args.answered self.stop c.judge.new.stop c.requires.run c.in-Ok.ensures.ok c.requires.given c.requires.eager c.judge.ensures.judged)
+    (run_settled p.workers p.gives p.refuses p.lapses c.args.rows.now self.core c.settle.new.self self.shares c.args.answered self.stop c.judge.new.stop c.requires.run c.in-Ok.ensures.ok c.requires.launched c.requires.given c.requires.eager
+    c.judge.ensures.judged)
 
 pub returns-in-Ok-clause-settling : goal.returns-in-Ok-clause-settling
 returns-in-Ok-clause-settling g c =
@@ -35,12 +36,12 @@ returns-in-Err-NoMemory-clause-run g c =
     let p = g.P.Pact in
     let self = c.args.self.now in
     let core = c.settle.new.self in
-    let e = c.args.answered in
+    let fault = c.in-Err-NoMemory in
     rw (c.halt.ensures.noted, c.halt.ensures.halted)
-    (run_wanting p.workers p.gives p.refuses p.lapses c.args.rows.now core self.shares e self.stop
-    (subst (λ (x : CoreState). IsRun p.workers p.gives p.refuses p.lapses c.args.rows.now (job_in_hand e.source e.request) (answer_in_hand e.source) x self.shares self.stop)
-    (sym (unsettled c.in-Err-NoMemory.field-0 _ self.core core c.in-Err-NoMemory.field-0-is c.in-Err-NoMemory.ensures.err))
-    (run_bare p.workers p.gives p.refuses p.lapses c.args.rows.now (job_in_hand e.source e.request) (answer_in_hand e.source) self.core self.shares self.stop core.plan c.requires.run)) c.requires.goes_on)
+    (run_halted p.workers p.gives p.refuses p.lapses c.args.rows.now 1 0 core self.shares NoMemory self.stop
+    (subst (λ (x : CoreState). IsRun p.workers p.gives p.refuses p.lapses c.args.rows.now 1 x self.shares self.stop)
+    (sym (unsettled fault.field-0 _ self.core core fault.field-0-is fault.ensures.err))
+    (run_bare p.workers p.gives p.refuses p.lapses c.args.rows.now 1 self.core self.shares self.stop core.plan c.requires.run)) (omega arith) tt)
 
 pub returns-in-Err-NoMemory-clause-settling : goal.returns-in-Err-NoMemory-clause-settling
 returns-in-Err-NoMemory-clause-settling g c =
@@ -55,4 +56,5 @@ returns-in-Err-NoMemory-clause-settling g c =
 pub returns-in-Err-NoMemory-clause-paid : goal.returns-in-Err-NoMemory-clause-paid
 returns-in-Err-NoMemory-clause-paid g c =
     let self = c.args.self.now in
-    rw (c.halt.ensures.noted, c.halt.ensures.halted) (paid_halted self.core (noted self.stop (halted self.stop NoMemory) c.settle.new.self) self.stop NoMemory c.args.steps.now c.settle.new.steps)
+    rw (c.halt.ensures.noted, c.halt.ensures.halted)
+    (paid_halted self.core (noted self.stop (halted self.stop NoMemory) c.settle.new.self) self.stop NoMemory c.args.steps.now c.settle.new.steps)
