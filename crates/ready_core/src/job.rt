@@ -47,6 +47,13 @@ pub struct Unlaunched {
     pub fault: LaunchFault,
 }
 
+/// A job, and a row that is no answer of it.
+#[derive(Debug, Drop)]
+pub struct NotKept {
+    pub job: Job,
+    pub row: Entry,
+}
+
 impl Job {
     pub(crate) fn new(request: Request, terms: Terms) -> Job
         ensures job { result ≡ record { request = request; codes = successes_of terms } }
@@ -109,7 +116,7 @@ impl Job {
 
     /// The answer of a row of an earlier run, as one of the job. The row is handed back where its
     /// request is another one or its status is no success. It takes no memory.
-    pub fn kept(&self, row: Entry) -> Result<Answered, Entry>
+    pub fn answer_in(&self, row: Entry) -> Result<Answered, Entry>
         ensures answered { MatchResult result
             (λ a. (a ≡ kept_as self.now.request row.answer) × (is_usable self.now row ≡ true))
             (λ r. (r ≡ row) × (is_usable self.now row ≡ false)) }
@@ -124,6 +131,19 @@ impl Job {
             })
         } else {
             Err(row)
+        }
+    }
+
+    /// Takes the answer of a row of an earlier run. The job and the row are handed back where the
+    /// row's request is another one or its status is no success. It takes no memory.
+    pub fn kept(self, row: Entry) -> Result<Answered, NotKept>
+        ensures answered { MatchResult result
+            (λ a. (a ≡ kept_as self.request row.answer) × (is_usable self row ≡ true))
+            (λ n. (n.job ≡ self) × (n.row ≡ row) × (is_usable self row ≡ false)) }
+    {
+        match self.answer_in(row) {
+            Ok(answered) => Ok(answered),
+            Err(row) => Err(NotKept { job: self, row }),
         }
     }
 }

@@ -13,6 +13,6 @@ mod shown;
 mod turn;
 
 pub use history::{History, SettleFault};
-pub use job::{Answered, Job, Unlaunched, is_usable_for};
+pub use job::{Answered, Job, NotKept, Unlaunched, is_usable_for};
 pub use laws::faults_stay;
 pub use ready::Core;

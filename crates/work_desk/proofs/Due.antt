@@ -7,7 +7,7 @@ use Rattle.wdl_base.specs.declared.entry.Entry.{Entry}
 use Rattle.wdl_base.specs.declared.entry.Source.TheVariants.{Launched, Kept}
 use Rattle.wdl_base.specs.declared.request.Request.{Request}
 use Rattle.wdl_value.specs.Tables.{has_row, table}
-use Rattle.flow_laws.proofs.Elements.{contains_first, contains_later, first_or_later, none_within, only_one}
+use Rattle.flow_laws.proofs.Elements.{contains_first, contains_later, first_or_later, only_one}
 use Rattle.ready_core.specs.Cores.{AreWithout, is_taken, requests}
 use Rattle.ready_core.specs.Rows.{TakenJob}
 use Rattle.ready_core.proofs.Counted.{request_in}

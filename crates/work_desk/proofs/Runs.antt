@@ -1,5 +1,5 @@
 -- The steps of a run, over plain values.
-use Rattle.std.proofs.Common.{◌≡◌, ℕ, ◌+◌, ◌<◌, ◌≤◌, ◌⊎◌, List, [], ◌∷◌, ◌++◌, Contains, length, Bool, true, false, refl, sym, ap, ◌∙◌, subst, arith, length-append, zero, suc, inl, inr}
+use Rattle.std.proofs.Common.{◌≡◌, ℕ, ◌+◌, ◌<◌, ◌≤◌, List, [], ◌∷◌, ◌++◌, Contains, length, Bool, true, false, refl, sym, ap, ◌∙◌, subst, arith, length-append, zero, suc, inl, inr}
 use Rattle.std.specs.Prelude.{All, Option, Some, None, IfNone, is_some, cond}
 use Rattle.std.proofs.lemmas.Bool.{false≢true}
 use Rattle.std.proofs.lemmas.List.Elements.{Contains-append_left, All-append, All-weaker, All-nil}

@@ -144,7 +144,7 @@ impl<P: Pact> Caller<P> {
             self.give_back(job, Stop::NoMemory);
             return;
         };
-        let Ok(answered) = job.kept(row) else {
+        let Ok(answered) = job.answer_in(row) else {
             unreachable!();
         };
         progress.kept(answered.entry());

@@ -1,4 +1,4 @@
-use Rattle.std.proofs.Common.{◌∷◌, List, ap, arith, refl, ◌∙◌}
+use Rattle.std.proofs.Common.{◌∷◌, ap, arith, refl, ◌∙◌}
 use Rattle.ready_core.specs.Rows.{TakenJob}
 use Rattle.ready_core.proofs.Running.{is_last, run_back, state_back, still_open}
 use Rattle.ready_core.proofs.ready.Core.give_back.Goals as goal

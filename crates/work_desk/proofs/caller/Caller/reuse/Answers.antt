@@ -39,17 +39,17 @@ returns-in_default-clause-paid g c =
     rw c.give_back.ensures.stop (paid_stopped self.core c.give_back.new.self.core self.stop NoMemory c.args.steps.now c.args.steps.now)
 
 pub settle_kept-requires-clause-kept : goal.settle_kept-requires-clause-kept
-settle_kept-requires-clause-kept g c = ap (λ (e : Entry). e.source) c.in-Ok-kept.ensures.answered.0
+settle_kept-requires-clause-kept g c = ap (λ (e : Entry). e.source) c.in-Ok-answer_in.ensures.answered.0
 
 pub settle_kept-requires-clause-asked : goal.settle_kept-requires-clause-asked
-settle_kept-requires-clause-asked g c = ap (λ (e : Entry). e.request) c.in-Ok-kept.ensures.answered.0
+settle_kept-requires-clause-asked g c = ap (λ (e : Entry). e.request) c.in-Ok-answer_in.ensures.answered.0
 
 pub settle_kept-requires-clause-given : goal.settle_kept-requires-clause-given
 settle_kept-requires-clause-given g c =
     let rows = c.args.rows.now in
     let self = c.args.self.now in
     let taken = c.requires.taken in
-    let kept = c.in-Ok-kept.ensures.answered in
+    let kept = c.in-Ok-answer_in.ensures.answered in
     subst (λ (e : Entry). IsGiven g.P.Pact.gives rows self.core.taken e) (sym kept.0) (record {
       job = c.args.job;
       row = c.in-Ok.row;
@@ -63,7 +63,7 @@ settle_kept-requires-clause-given g c =
 pub returns-clause-holds : goal.returns-clause-holds
 returns-clause-holds g c =
     let rows = c.args.rows.now in
-    let kept = c.in-Ok-kept.ensures.answered in
-    let same = sym c.in-Ok.ensures ∙ kept_row_is rows c.in-Ok.row c.args.job c.in-Ok-kept.answered
+    let kept = c.in-Ok-answer_in.ensures.answered in
+    let same = sym c.in-Ok.ensures ∙ kept_row_is rows c.in-Ok.row c.args.job c.in-Ok-answer_in.answered
     (subst (Contains rows) (sym c.in-Ok.ensures) c.requires.row) c.requires.kept kept.1 kept.0 in
     λ before t. c.settle_kept.ensures.holds before c.args.row.now t c.requires.row same

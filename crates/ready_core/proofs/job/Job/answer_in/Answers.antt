@@ -5,7 +5,7 @@ use Rattle.wdl_base.specs.Same.{same_request}
 use Rattle.wdl_typed.specs.Requests.{is_success}
 use Rattle.flow_laws.proofs.SameRequests.{request_same}
 use Rattle.ready_core.specs.Rows.{kept_as}
-use Rattle.ready_core.proofs.job.Job.kept.Goals as goal
+use Rattle.ready_core.proofs.job.Job.answer_in.Goals as goal
 
 pub returns-then-is_usable_for : goal.returns-then-is_usable_for
 returns-then-is_usable_for c =
