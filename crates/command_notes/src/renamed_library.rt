@@ -20,11 +20,11 @@ fn renames_at(import: &Import, at: u32) -> bool {
 }
 
 /// The uri of the import that renames a struct whose name begins at a byte.
-fn uri_at(document: &Document, at: u32) -> Option<&str> {
+fn uri_at(document: &Document, at: u32) -> Option<&Text> {
     for section in document.sections.as_slice() {
         if let Section::Import(import) = section {
             if renames_at(import, at) {
-                return Some(import.uri.chars.as_ref()?.text.as_str());
+                return Some(&import.uri.chars.as_ref()?.text);
             }
         }
     }
@@ -44,6 +44,6 @@ pub fn renamed_library(
     let sources = read_all(alloc, &mut shelf, path.as_str()).ok()?;
     let source = sources.as_slice().first()?;
     let uri = uri_at(&source.document, span.start)?;
-    let path = resolve(alloc, path.as_str(), uri).ok()?;
+    let path = resolve(alloc, path.as_str(), uri.as_str()).ok()?;
     gather(alloc, &mut shelf, &path).ok()
 }

@@ -1,7 +1,6 @@
 //! Documents with hints.
 
-use crate::index::index_of;
-use crate::site::{Site, site_in};
+use crate::site::{Body, Site};
 use serde_json::{Map, Value as Json, put};
 use std::alloc::Global;
 use wdl_base::NoMemory;
@@ -63,17 +62,16 @@ fn step<'a>(
 fn steps<'a>(
     alloc: Global,
     source: &HintSource<'a>,
-    body: &'a [Statement],
+    site: Site<'a>,
     steps: &Json,
 ) -> Result<Json, NoMemory> {
     let Json::Array(items) = steps else {
         return Ok(steps.clone()?);
     };
-    let index = index_of(alloc, body)?;
+    let body = Body::new(alloc, source.checked, statements_of(site))?;
     let mut hinted = Vec::new(alloc);
     for item in items {
-        let site = site_in(source.checked, body, &index, item);
-        hinted.push(step(alloc, source, site, item)?)?;
+        hinted.push(step(alloc, source, body.site_of(item), item)?)?;
     }
     Ok(Json::Array(hinted))
 }
@@ -89,11 +87,10 @@ fn process<'a>(
     let Json::Object(members) = process else {
         return Ok(process.clone()?);
     };
-    let body = statements_of(site);
     let mut hinted = Map::new(alloc);
     for (name, member) in members.iter() {
         let member = if name.as_str() == "steps" {
-            steps(alloc, source, body, member)?
+            steps(alloc, source, site, member)?
         } else {
             member.clone()?
         };

@@ -1,7 +1,10 @@
 //! What the processes of a document stand for.
 
+use crate::index::index_of;
 use serde_json::Value as Json;
+use std::alloc::Global;
 use std::collections::BTreeMap;
+use wdl_base::NoMemory;
 use wdl_typed::{Checked, Statement, Target};
 
 /// What a process stands for.
@@ -46,25 +49,42 @@ fn id_of(step: &Json) -> Option<&str> {
     }
 }
 
-/// Returns what the process in a step of the workflow of a body stands for, by the id of the step.
-/// `index` has for the id of each statement's step the number of the statement.
-pub(crate) fn site_in<'a>(
+/// The body of a workflow, by the ids of its steps.
+#[derive(Drop)]
+pub(crate) struct Body<'a> {
     checked: &'a Checked,
-    body: &'a [Statement],
-    index: &BTreeMap<String, usize>,
-    step: &Json,
-) -> Site<'a> {
-    let Some(id) = id_of(step) else {
-        return Site::Unknown;
-    };
-    if id == BODY {
-        return Site::Body(body);
+    statements: &'a [Statement],
+    /// For the id of each statement's step the number of the statement.
+    index: BTreeMap<String, usize>,
+}
+
+impl<'a> Body<'a> {
+    pub(crate) fn new(
+        alloc: Global,
+        checked: &'a Checked,
+        statements: &'a [Statement],
+    ) -> Result<Body<'a>, NoMemory> {
+        Ok(Body {
+            checked,
+            statements,
+            index: index_of(alloc, statements)?,
+        })
     }
-    let Some(number) = index.get(id) else {
-        return Site::Unknown;
-    };
-    match body.get(*number) {
-        Some(statement) => statement_site(checked, statement),
-        None => Site::Unknown,
+
+    /// Returns what the process in a step of the workflow stands for, by the id of the step.
+    pub(crate) fn site_of(&self, step: &Json) -> Site<'a> {
+        let Some(id) = id_of(step) else {
+            return Site::Unknown;
+        };
+        if id == BODY {
+            return Site::Body(self.statements);
+        }
+        let Some(number) = self.index.get(id) else {
+            return Site::Unknown;
+        };
+        match self.statements.get(*number) {
+            Some(statement) => statement_site(self.checked, statement),
+            None => Site::Unknown,
+        }
     }
 }
