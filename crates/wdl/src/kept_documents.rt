@@ -29,6 +29,17 @@ fn push(kept: &mut MemoryShelf, file: Option<PathFile>) -> bool {
     }
 }
 
+/// Keeps a copy of a file. Without the memory for it nothing is kept any more.
+fn keep(alloc: Global, kept: &mut Option<MemoryShelf>, path: &str, bytes: &[u8]) {
+    let is_kept = match kept {
+        Some(files) => push(files, copy_of(alloc, path, bytes)),
+        None => true,
+    };
+    if !is_kept {
+        *kept = None;
+    }
+}
+
 impl<F> KeepingShelf<F> {
     /// A shelf over another one, which keeps nothing unless `keeps`. It takes no memory.
     pub(crate) fn new(alloc: Global, shelf: F, keeps: bool) -> KeepingShelf<F> {
@@ -38,17 +49,6 @@ impl<F> KeepingShelf<F> {
             None
         };
         KeepingShelf { shelf, kept }
-    }
-
-    /// Keeps a copy of a file.
-    fn keep(&mut self, alloc: Global, path: &str, bytes: &[u8]) {
-        let is_kept = match &mut self.kept {
-            Some(kept) => push(kept, copy_of(alloc, path, bytes)),
-            None => true,
-        };
-        if !is_kept {
-            self.kept = None;
-        }
     }
 
     /// The checked form of the documents that were kept, of which the first is the main one. None
@@ -77,7 +77,7 @@ impl<F: Shelf> Shelf for KeepingShelf<F> {
 
     fn read(&mut self, alloc: Global, path: &str) -> Result<Items<u8>, ReadFault> {
         let bytes = self.shelf.read(alloc, path)?;
-        self.keep(alloc, path, bytes.as_slice());
+        keep(alloc, &mut self.kept, path, bytes.as_slice());
         Ok(bytes)
     }
 }

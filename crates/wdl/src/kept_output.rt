@@ -27,16 +27,16 @@ impl<S> KeepingSink<S> {
             None => None,
         }
     }
+}
 
-    /// Keeps a piece behind the others.
-    fn keep(&mut self, piece: &[u8]) {
-        let is_kept = match &mut self.kept {
-            Some(kept) => kept.extend_from_slice(piece).is_ok(),
-            None => true,
-        };
-        if !is_kept {
-            self.kept = None;
-        }
+/// Keeps a piece behind the others. Without the memory for it nothing is kept any more.
+fn keep(kept: &mut Option<Vec<u8>>, piece: &[u8]) {
+    let is_kept = match kept {
+        Some(bytes) => bytes.extend_from_slice(piece).is_ok(),
+        None => true,
+    };
+    if !is_kept {
+        *kept = None;
     }
 }
 
@@ -47,7 +47,7 @@ impl<S: Sink> Sink for KeepingSink<S> {
 
     fn write(&mut self, piece: &[u8]) -> Result<usize, WriteFault> {
         let count = self.sink.write(piece)?;
-        self.keep(piece.get(..count).unwrap_or(piece));
+        keep(&mut self.kept, piece.get(..count).unwrap_or(piece));
         Ok(count)
     }
 }

@@ -140,9 +140,9 @@ fn main(rt: HostRuntime) -> ExitCode {
         &mut keeper,
         Blank::new(1),
     );
+    let kept = progress.into_kept();
     let number = match choice {
         Some(choice) if number == 0 => {
-            let kept = progress.into_kept();
             let mut out = StreamSink::new(rt.stdout());
             publish_outputs(
                 &rt,
