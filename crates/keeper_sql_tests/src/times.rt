@@ -35,7 +35,8 @@ fn lay_down(rt: &HostRuntime, second: u64) -> Result<(), Want> {
     let _ = fs::remove_dir_all(rt, "times/job");
     fs::create_dir_all(rt, "times/job")?;
     fs::write(rt, FIRST, "")?;
-    let time = UNIX_EPOCH + Duration::from_secs(second) + Duration::from_millis(500);
+    let since = Duration::from_millis(second.saturating_mul(1_000).saturating_add(500));
+    let time = UNIX_EPOCH.checked_add(since).ok_or(Want)?;
     let file = File::options().write(true).open(rt, FIRST)?;
     Ok(file.set_modified(time)?)
 }
